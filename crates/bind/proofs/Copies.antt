@@ -1,0 +1,100 @@
+-- The loops that write owners one by one: copies, fills, and the hulls' own numbers.
+use Prim.Native.Nat.{ℕ, zero, suc, _+_, _≤_, _<_}
+use mathlib.Core.Path.{_≡_, refl, sym, ap, _∙_}
+use mathlib.Core.Bool.{true, false}
+use mathlib.Core.List.{List, [], _∷_, _++_, append-nil}
+use native.Mathlib.Omega.{arith}
+use native.Mathlib.Numerals.{add-one}
+use native.Mathlib.Nat.{zero-add, not-suc-le-zero, le-of-suc-le-suc}
+use lib.ListN.{length, getD, set, take, drop, drop-of-length-le, length-set, replicate, length-replicate, getD-replicate}
+use lib.Seq.{paste, paste-zero, paste-suc, take-all, ext-getD}
+use lib.Dec.{eqb}
+use borrow.Author.Tests.{eq-eqb, ne-eqb}
+use Rattle.laws.specs.Test.{pick}
+use Rattle.table.specs.Table.{hulls, droppedOwner}
+use Rattle.table.specs.TableLaws.{hulls-more, no-hulls}
+use Rattle.nearest.proofs.Put.{put-below}
+use Rattle.bind.specs.Owners.{firstOwner, listOf, written}
+
+-- ---- `copy`: the first i numbers of `from` stand in front of the old tail
+pub record Copying (old new from : List ℕ) (i : ℕ) : Type 0 where
+  pub on : i ≤ length from
+  pub len : length new ≡ length old
+  pub is : new ≡ paste old 0 from i
+
+pub copy-start : (old from : List ℕ) → Copying old old from 0
+copy-start old from = record { on = omega arith; len = refl; is = paste-zero old 0 from }
+
+module _ (old new from : List ℕ) (i : ℕ) (c : Copying old new from i) where
+  pub copy-more : i < length old → i < length from → Copying old (set new i (getD from i 0)) from (i + 1)
+  copy-more h k = record {
+    on = omega arith;
+    len = length-set new i (getD from i 0) ∙ c .len;
+    is = let z : 0 + i ≡ i = omega arith in rw (c .is, add-one i) (ap (λ (j : ℕ). set (paste old 0 from i) j (getD from i 0)) (sym z) ∙ paste-suc old 0 from i 0 (rw z h) k);
+  }
+
+  pub copy-end : length from ≤ i → new ≡ written from old
+  copy-end h =
+      let q : i ≡ length from = omega (arith, c .on) in
+      c .is ∙ rw (q, zero-add (length from), take-all (length from) from (omega arith))
+
+-- a list that is as long as what is copied into it
+pub written-whole : (from to new : List ℕ) → length to ≡ length from → new ≡ written from to → new ≡ from
+written-whole from to new l e = let h : length to ≤ length from = omega arith in e ∙ rw (drop-of-length-le to h) (append-nil from)
+
+-- ---- `fill`: as a copy of n times one number
+pub fill-more : (old new : List ℕ) (n v i : ℕ) → Copying old new (replicate n v) i → i < length old → i < n → Copying old (set new i v) (replicate n v) (i + 1)
+fill-more old new n v i c h k = rw (getD-replicate n i v 0 k) at (copy-more old new (replicate n v) i c h (rw (length-replicate n v) k))
+
+-- ---- `number_hulls`
+pub list-length : (f : ℕ → ℕ) (n : ℕ) → length (listOf f n) ≡ n
+unfolding listOf
+list-length f zero = refl
+list-length f (suc n) = ap suc (list-length (λ k. f (suc k)) n)
+
+pub list-at : (f : ℕ → ℕ) (n i : ℕ) → i < n → getD (listOf f n) i 0 ≡ f i
+unfolding listOf
+list-at f zero i h = absurd (not-suc-le-zero h)
+list-at f (suc n) zero h = refl
+list-at f (suc n) (suc i) h = list-at (λ k. f (suc k)) n i (le-of-suc-le-suc h)
+
+pub record Numbering (kind old new : List ℕ) (shape c : ℕ) : Type 0 where
+  pub on : c ≤ length kind
+  pub len : length new ≡ length old
+  pub shapes : shape ≡ hulls (take c kind)
+  pub few : shape ≤ c
+  pub done : (i : ℕ) → i < c → getD new i 0 ≡ firstOwner kind i
+
+pub numbering-start : (kind old : List ℕ) → Numbering kind old old 0 0
+numbering-start kind old = record { on = omega arith; len = refl; shapes = sym (no-hulls kind); few = omega arith; done = λ i h. absurd (not-suc-le-zero h) }
+
+module _ (kind old new : List ℕ) (shape c : ℕ) (n : Numbering kind old new shape c) (h : c < length kind) (r : length kind ≤ length old) where
+  pub numbering-hull : getD kind c 0 ≡ 0 → Numbering kind old (set new c shape) (shape + 1) (c + 1)
+  numbering-hull e = record {
+    on = omega arith;
+    len = length-set new c shape ∙ n .len;
+    shapes = ap (λ (s : ℕ). s + 1) (n .shapes) ∙ sym (hulls-more kind c h ∙ rw (eq-eqb _ _ e));
+    few = omega (arith, n .few);
+    done = put-below 0 (firstOwner kind) new c shape (omega (arith, n .len)) (n .shapes ∙ rw (eq-eqb _ _ e)) (n .done);
+  }
+
+  pub numbering-hole : (getD kind c 0 ≡ 0 → ⊥) → Numbering kind old (set new c droppedOwner) shape (c + 1)
+  numbering-hole e = record {
+    on = omega arith;
+    len = length-set new c droppedOwner ∙ n .len;
+    shapes = n .shapes ∙ sym (hulls-more kind c h ∙ rw (ne-eqb _ _ e) (add-nothing (hulls (take c kind))));
+    few = omega (arith, n .few);
+    done = put-below 0 (firstOwner kind) new c droppedOwner (omega (arith, n .len)) (rw (ne-eqb _ _ e)) (n .done);
+  }
+    where
+      add-nothing : (k : ℕ) → k + 0 ≡ k
+      add-nothing k = omega arith
+
+pub numbering-end : (kind old new : List ℕ) (shape c : ℕ) → Numbering kind old new shape c → length kind ≤ c → length old ≡ length kind → new ≡ listOf (firstOwner kind) (length kind)
+numbering-end kind old new shape c n h r =
+    ext-getD 0 new (listOf (firstOwner kind) (length kind)) (n .len ∙ r ∙ sym (list-length (firstOwner kind) (length kind))) each
+  where
+    each : (i : ℕ) → i < length new → getD new i 0 ≡ getD (listOf (firstOwner kind) (length kind)) i 0
+    each i l =
+        let m : i < length kind = omega (arith, n .len) in
+        n .done i (omega arith) ∙ sym (list-at (firstOwner kind) (length kind) i m)

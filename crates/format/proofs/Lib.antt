@@ -1,0 +1,4 @@
+-- Laws that the proofs cite.
+pub mod Bits
+pub mod Fill
+pub mod Nodes

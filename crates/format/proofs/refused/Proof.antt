@@ -1,0 +1,14 @@
+use borrow.Author.Tests.{lt-ltb, le-ltb, le-leb, lt-leb, eq-eqb, ne-eqb}
+use Rattle.format.proofs.refused.Statement.{statement}
+use Rattle.format.proofs.refused.Tie as tie
+use Rattle.format.proofs.refused.Reads as reads
+use Rattle.format.proofs.refused.Lts as lts
+
+returns : tie.Need-returns
+returns c = simp (eq-eqb _ _ (c .if1 .taken))
+
+returns-2 : tie.Need-returns-2
+returns-2 c = simp (ne-eqb _ _ (c .if1 .left))
+
+pub refused-spec : {M : Type 1} → statement M
+refused-spec = tie.close (tie.spec returns returns-2)

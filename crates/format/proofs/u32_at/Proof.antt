@@ -1,0 +1,31 @@
+use mathlib.Core.Path.{refl}
+use Rattle.format.specs.Bytes.{u32At}
+use borrow.Author.Needs.{needs}
+use Rattle.format.proofs.u32_at.Statement.{statement}
+use Rattle.format.proofs.u32_at.Tie as tie
+use Rattle.format.proofs.u32_at.Reads as reads
+use Rattle.format.proofs.u32_at.Lts as lts
+use Rattle.format.proofs.u16_at.Reads as u16-at-reads
+
+u16-at-requires : tie.Need-u16-at-requires
+u16-at-requires c κs = search needs
+
+add-u16-at : tie.Need-add-u16-at
+add-u16-at c = search needs
+
+u16-at-requires-2 : tie.Need-u16-at-requires-2
+u16-at-requires-2 c κs = search needs
+
+mul-result : tie.Need-mul-result
+mul-result c = search needs
+
+add-result : tie.Need-add-result
+add-result c = search needs
+
+returns : tie.Need-returns
+unfolding u32At
+returns c = rw (← c .before .u16-at .ensures .0, ← c .u16-at2 .ensures .0)
+
+pub u32-at-spec : {M : Type 1} → statement M
+u32-at-spec =
+    tie.close (tie.spec u16-at-requires add-u16-at u16-at-requires-2 mul-result add-result returns)

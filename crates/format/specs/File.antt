@@ -1,0 +1,137 @@
+-- What a file says: the lists of a graph with its settings, or a refusal; and what reading it leaves in the lent buffers.
+use Prim.Native.Nat.{ℕ, zero, suc, _+_, _-_, _*_, _/_, _≤_}
+use mathlib.Core.Bool.{Bool}
+use mathlib.Core.List.{List, [], _∷_, _++_, map}
+use lib.Dec.{eqb}
+use lib.IntN.{ℤ}
+use lib.ListN.{length, getD}
+use Rattle.format.specs.Put.{over}
+use Rattle.format.specs.Bytes.{u16At, u64At, i32At}
+use Rattle.format.specs.Limits.{maxLinks, maxNodes, maxEntries}
+use Rattle.format.specs.Records.{Form, form, refused, formOf}
+use Rattle.format.specs.declared.Refusal.{Refusal}
+use Rattle.format.specs.declared.FileRead.{FileRead}
+use Rattle.format.specs.declared.FileRead.the-variants as answer
+
+-- n values of a reader of bytes, from index i on at every d-th
+unfoldable pub every : {A : Type 0} → (ℕ → A) → ℕ → ℕ → ℕ → List A
+every f d i zero = []
+every f d i (suc n) = f i ∷ every f d (i + d) n
+
+-- a node's body: "16-bit link numbers"
+abbrev pub entriesOf : List ℕ → List ℕ
+entriesOf body = every (u16At body) 2 0 (length body / 2)
+
+unfoldable pub listOf : List (List ℕ) → List ℕ
+listOf [] = []
+listOf (body ∷ rest) = entriesOf body ++ listOf rest
+
+-- "start positions (m + 1 of them) into one flat list", the first at e
+unfoldable pub startsOf : ℕ → List (List ℕ) → List ℕ
+startsOf e [] = e ∷ []
+startsOf e (body ∷ rest) = e ∷ startsOf (e + length body / 2) rest
+
+pub record Graph : Type 0 where
+  pub clockwise : Bool
+  pub minimum : ℕ
+  pub ax : List ℤ
+  pub ay : List ℤ
+  pub bx : List ℤ
+  pub by : List ℤ
+  pub aId : List ℕ
+  pub bId : List ℕ
+  pub top : List ℕ
+  pub state : List ℕ
+  pub start : List ℕ
+  pub list : List ℕ
+
+-- "direction byte, eight-byte minimum"; "ax, ay, bx, by as signed 32-bit, two 16-bit ids, top, state"
+abbrev pub graphOf : List ℕ → List (List ℕ) → List (List ℕ) → Graph
+graphOf s links nodes = record {
+  clockwise = eqb (getD s 6 0) 1;
+  minimum = u64At s 7;
+  ax = map (λ b. i32At b 0) links;
+  ay = map (λ b. i32At b 4) links;
+  bx = map (λ b. i32At b 8) links;
+  by = map (λ b. i32At b 12) links;
+  aId = map (λ b. u16At b 16) links;
+  bId = map (λ b. u16At b 18) links;
+  top = map (λ b. getD b 20 0) links;
+  state = map (λ b. getD b 21 0) links;
+  start = startsOf 0 nodes;
+  list = listOf nodes;
+}
+
+pub data File : Type 0 where
+  graph : Graph → File
+  refusedFile : Refusal → File
+
+abbrev pub fileFrom : List ℕ → Form → File
+fileFrom s (form links nodes) = graph (graphOf s links nodes)
+fileFrom s (refused e) = refusedFile e
+
+abbrev pub fileOf : List ℕ → File
+fileOf s = fileFrom s (formOf s)
+
+-- ---- the lent buffers
+
+pub record Buffers : Type 0 where
+  pub ax : List ℤ
+  pub ay : List ℤ
+  pub bx : List ℤ
+  pub by : List ℤ
+  pub aId : List ℕ
+  pub bId : List ℕ
+  pub top : List ℕ
+  pub state : List ℕ
+  pub start : List ℕ
+  pub list : List ℕ
+
+abbrev pub buffers : List ℤ → List ℤ → List ℤ → List ℤ → List ℕ → List ℕ → List ℕ → List ℕ → List ℕ → List ℕ → Buffers
+buffers ax ay bx by aId bId top state start list =
+    record { ax = ax; ay = ay; bx = bx; by = by; aId = aId; bId = bId; top = top; state = state; start = start; list = list }
+
+-- room for every file that is not refused
+pub record Room (b : Buffers) : Type 0 where
+  pub ax : maxLinks ≤ length (b .ax)
+  pub ay : maxLinks ≤ length (b .ay)
+  pub bx : maxLinks ≤ length (b .bx)
+  pub by : maxLinks ≤ length (b .by)
+  pub aId : maxLinks ≤ length (b .aId)
+  pub bId : maxLinks ≤ length (b .bId)
+  pub top : maxLinks ≤ length (b .top)
+  pub state : maxLinks ≤ length (b .state)
+  pub start : maxNodes + 1 ≤ length (b .start)
+  pub list : maxEntries ≤ length (b .list)
+
+-- a graph stands at the front of the buffers, whose tails stay
+abbrev pub filled : Graph → Buffers → Buffers
+filled g b =
+    buffers (over (g .ax) (b .ax)) (over (g .ay) (b .ay)) (over (g .bx) (b .bx)) (over (g .by) (b .by)) (over (g .aId) (b .aId))
+    (over (g .bId) (b .bId))
+    (over (g .top) (b .top))
+    (over (g .state) (b .state))
+    (over (g .start) (b .start))
+    (over (g .list) (b .list))
+
+-- the answer, and the buffers
+pub record Reading : Type 0 where
+  pub answer : FileRead
+  pub lent : Buffers
+
+abbrev pub reading : FileRead → Buffers → Reading
+reading r b = record { answer = r; lent = b }
+
+-- a refusal leaves the buffers alone
+abbrev pub readInto : File → Buffers → Reading
+readInto (graph g) b =
+    reading
+    (answer.Graph (record {
+      links = length (g .aId);
+      nodes = length (g .start) - 1;
+      entries = length (g .list);
+      clockwise = g .clockwise;
+      minimum = g .minimum;
+    }))
+    (filled g b)
+readInto (refusedFile e) b = reading (answer.Refused e) b

@@ -1,0 +1,131 @@
+-- What a file of right form holds: where its links and nodes stand, how many they are, and that the lists read there are those of the definition.
+use Prim.Native.Nat.{ℕ, zero, suc, _+_, _-_, _*_, _/_, _%_, _≤_, _<_}
+use mathlib.Core.Path.{_≡_, refl, sym, ap, ap₂, _∙_, subst}
+use mathlib.Core.Bool.{Bool, true, false}
+use mathlib.Core.List.{List, [], _∷_, _++_, map}
+use native.Mathlib.Nat.{add-assoc}
+use native.Mathlib.Omega.{arith}
+use borrow.Author.Tests.{eq-eqb, ne-eqb, eqb-true, leb-true}
+use lib.Dec.{eqb, leb}
+use lib.ListN.{length, getD, take, drop, length-take, length-drop, length-append, length-map}
+use lib.Seq.{getD-take, getD-drop}
+use Rattle.laws.specs.Test.{pick, pick-ind, and-true}
+use Rattle.format.specs.Bytes.{u16At, u32At, i32At, signed}
+use Rattle.format.specs.Limits.{maxLinks, maxNodes, maxEntries}
+use Rattle.format.specs.Records.{lengthAt, kindAt, bodyAt, endAt, refusal, run, past, Ran, ran, fault, runFrom, runAt, looks, Form, form, refused, onRan, nodesAfter, formOf, settingsRight}
+use Rattle.format.specs.File.{every, entriesOf, listOf, startsOf}
+use Rattle.format.specs.Shape.{endOf, shapeOf, entriesFrom, startsFrom, NodesStand}
+use Rattle.format.specs.Steps.{Told, link-zero, node-zero, count-below}
+use Rattle.format.specs.Runs.{Stands, stands}
+use Rattle.format.specs.declared.Run.{Run}
+use Rattle.format.specs.declared.Refusal.{Refusal}
+use Rattle.format.specs.declared.RunEnd.the-variants as end
+use Rattle.format.specs.declared.Shape.{Shape}
+use Rattle.format.specs.declared.Shape.the-variants as shape
+
+never : _≡_ {A = ℕ} 0 1 → ⊥
+never e = omega arith
+
+-- ---- a run's end with the bodies that were taken
+
+pub record Taken (t : Ran) (r : Run) : Type 0 where
+  pub bodies : List (List ℕ)
+  pub is : t ≡ ran r bodies
+
+pub taken : (t : Ran) (r : Run) → end.To r ≡ endOf t → Taken t r
+taken (ran x bs) r e = record { bodies = bs; is = (cc) }
+taken (fault f) r e = let z : _≡_ {A = ℕ} 0 1 = cc in absurd (never z)
+
+pub faulted : (t : Ran) (f : Refusal) → end.Fault f ≡ endOf t → t ≡ fault f
+faulted (fault g) f e = cc
+faulted (ran x bs) f e = let z : _≡_ {A = ℕ} 0 1 = cc in absurd (never z)
+
+-- ---- counts
+
+pub length-every : {A : Type 0} (f : ℕ → A) (d i n : ℕ) → length (every f d i n) ≡ n
+unfolding every
+length-every f d i zero = refl
+length-every f d i (suc n) = ap suc (length-every f d (i + d) n)
+
+pub length-body : (kind : ℕ) (s : List ℕ) (r : Run) → Told kind s r → length (bodyAt s (r .at)) ≡ lengthAt s (r .at)
+length-body kind s r t = simp (length-take, length-drop) (omega (arith, t .whole))
+
+module _ (kind : ℕ) (s : List ℕ) where
+  pub stands-count : (bs : List (List ℕ)) (r r′ : Run) → Stands kind s r bs r′ → r′ .count ≡ r .count + length bs
+  stands-count [] r r′ h = let e : r′ .count ≡ r .count = ap (λ (x : Run). x .count) (sym h) in omega arith
+  stands-count (b ∷ bs) r r′ h = let e = stands-count bs (past s r) r′ (h .2) in omega arith
+
+  pub stands-few : (bs : List (List ℕ)) (r r′ : Run) → r .count ≤ 4096 → Stands kind s r bs r′ → r′ .count ≤ 4096
+  stands-few [] r r′ few h = let e : r′ .count ≡ r .count = ap (λ (x : Run). x .count) (sym h) in omega arith
+  stands-few (b ∷ bs) r r′ few h =
+      stands-few bs (past s r) r′ (omega (arith, count-below kind (r .count) (r .size) (lengthAt s (r .at)) (h .0 .number))) (h .2)
+
+  pub stands-inside : (bs : List (List ℕ)) (r r′ : Run) → r .at ≤ length s → Stands kind s r bs r′ → r′ .at ≤ length s
+  stands-inside [] r r′ i h = let e : r′ .at ≡ r .at = ap (λ (x : Run). x .at) (sym h) in omega arith
+  stands-inside (b ∷ bs) r r′ i h = stands-inside bs (past s r) r′ (h .0 .whole) (h .2)
+
+-- 28 bytes a link
+pub stands-links : (s : List ℕ) (bs : List (List ℕ)) (r r′ : Run) → Stands 1 s r bs r′ → r′ .at ≡ r .at + 28 * length bs
+stands-links s [] r r′ h = let e : r′ .at ≡ r .at = ap (λ (x : Run). x .at) (sym h) in omega arith
+stands-links s (b ∷ bs) r r′ h =
+    let e = stands-links s bs (past s r) r′ (h .2) in
+    let l = link-zero (r .count) (lengthAt s (r .at)) (h .0 .number) .0 in
+    omega arith
+
+-- two bytes an entry
+pub stands-nodes : (s : List ℕ) (bs : List (List ℕ)) (r r′ : Run) → Stands 2 s r bs r′ → r′ .size ≡ r .size + 2 * length (listOf bs)
+unfolding listOf
+stands-nodes s [] r r′ h = let e : r′ .size ≡ r .size = ap (λ (x : Run). x .size) (sym h) in omega arith
+stands-nodes s (b ∷ bs) r r′ h =
+    let e = stands-nodes s bs (past s r) r′ (h .2) in
+    let z = node-zero (r .count) (r .size) (lengthAt s (r .at)) (h .0 .number) in
+    let l : length b ≡ lengthAt s (r .at) = ap length (h .1) ∙ length-body 2 s r (h .0) in
+    omega (arith, z .0, length-append (entriesOf b) (listOf bs), length-every (u16At b) 2 0 (length b / 2))
+
+-- ---- the form by its parts
+
+module _ (s : List ℕ) (at : ℕ) (r : Run) (links : List (List ℕ)) (n : ℕ) (count : length links ≡ n) where
+  whole : (bodies : List (List ℕ)) → runAt 2 s at ≡ ran r bodies → r .at ≡ length s → r .count ≡ length bodies → r .size / 2 ≡ length (listOf bodies)
+      → shape.Right n (r .count) (r .size / 2) ≡ shapeOf (nodesAfter s links at)
+  whole bodies is e c z = rw (is, eq-eqb (r .at) (length s) e, count) (ap₂ (shape.Right n) c z)
+
+  pub nodes-right : end.To r ≡ endOf (runAt 2 s at) → r .at ≡ length s → shape.Right n (r .count) (r .size / 2) ≡ shapeOf (nodesAfter s links at)
+  nodes-right h e =
+      let t = taken (runAt 2 s at) r h in
+      let st = stands 2 s looks (run at 0 0) r (t .bodies) (t .is) in
+      let c : r .count ≡ length (t .bodies) = stands-count 2 s (t .bodies) (run at 0 0) r st ∙ omega arith in
+      let z : r .size / 2 ≡ length (listOf (t .bodies)) = omega (arith, stands-nodes s (t .bodies) (run at 0 0) r st) in
+      whole (t .bodies) (t .is) e c z
+
+  pub nodes-wrong : end.To r ≡ endOf (runAt 2 s at) → (r .at ≡ length s → ⊥) → shape.Wrong (refusal 13 (r .at)) ≡ shapeOf (nodesAfter s links at)
+  nodes-wrong h e = let t = taken (runAt 2 s at) r h in rw (t .is, ne-eqb (r .at) (length s) e)
+
+pub nodes-fault : (s : List ℕ) (at : ℕ) (f : Refusal) (links : List (List ℕ)) → end.Fault f ≡ endOf (runAt 2 s at) → shape.Wrong f ≡ shapeOf (nodesAfter s links at)
+nodes-fault s at f links h = rw (faulted (runAt 2 s at) f h)
+
+module _ (s : List ℕ) where
+  pub settings-wrong : settingsRight s ≡ false → shape.Wrong (refusal 13 0) ≡ shapeOf (formOf s)
+  unfolding formOf
+  settings-wrong h = rw h
+
+  pub settings-long : settingsRight s ≡ true → 15 ≤ length s
+  unfolding settingsRight
+  settings-long h = leb-true 15 (length s) (and-true (leb 15 (length s)) _ h .0)
+
+  pub links-fault : settingsRight s ≡ true → (f : Refusal) → end.Fault f ≡ endOf (runAt 1 s 15) → shape.Wrong f ≡ shapeOf (formOf s)
+  unfolding formOf
+  links-fault h f e = rw (h, faulted (runAt 1 s 15) f e)
+
+  -- the end of the links lies within the file
+  pub links-inside : settingsRight s ≡ true → (r : Run) → end.To r ≡ endOf (runAt 1 s 15) → r .at ≤ length s
+  links-inside h r e =
+      let t = taken (runAt 1 s 15) r e in
+      stands-inside 1 s (t .bodies) (run 15 0 0) r (settings-long h) (stands 1 s looks (run 15 0 0) r (t .bodies) (t .is))
+
+  pub links-then : settingsRight s ≡ true → (r : Run) → end.To r ≡ endOf (runAt 1 s 15)
+      → (x : Shape) → ((bodies : List (List ℕ)) → length bodies ≡ r .count → x ≡ shapeOf (nodesAfter s bodies (r .at))) → x ≡ shapeOf (formOf s)
+  unfolding formOf
+  links-then h r e x f =
+      let t = taken (runAt 1 s 15) r e in
+      let st = stands 1 s looks (run 15 0 0) r (t .bodies) (t .is) in
+      rw (h, t .is) (f (t .bodies) (omega (arith, stands-count 1 s (t .bodies) (run 15 0 0) r st)))

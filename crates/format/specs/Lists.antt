@@ -1,0 +1,261 @@
+-- The lists that are read where the records of a file of right form stand are the definition's.
+use Prim.Native.Nat.{ℕ, zero, suc, _+_, _-_, _*_, _/_, _%_, _≤_, _<_}
+use mathlib.Core.Path.{_≡_, refl, sym, ap, ap₂, _∙_, subst}
+use mathlib.Core.Bool.{Bool, true, false}
+use mathlib.Core.List.{List, [], _∷_, _++_, map}
+use native.Mathlib.Nat.{add-assoc, add-zero}
+use native.Mathlib.Omega.{arith}
+use borrow.Author.Tests.{eqb-true}
+use lib.Dec.{eqb}
+use lib.IntN.{ℤ}
+use lib.ListN.{length, getD, take, drop, length-map}
+use lib.Seq.{getD-take, getD-drop}
+use Rattle.laws.specs.Test.{pick, pick-ind}
+use Rattle.format.specs.Put.{over}
+use Rattle.format.specs.Bytes.{u16At, u32At, u64At, i32At, signed}
+use Rattle.format.specs.Limits.{maxLinks, maxNodes, maxEntries}
+use Rattle.format.specs.Records.{lengthAt, bodyAt, endAt, refusal, run, past, Ran, ran, fault, runAt, looks, Form, form, refused, onRan, nodesAfter, formOf, settingsRight}
+use Rattle.format.specs.File.{every, entriesOf, listOf, startsOf, graphOf, fileFrom, fileOf, Buffers, buffers, filled, reading, readInto}
+use Rattle.format.specs.Shape.{shapeOf, Columns, columns, column, linksInto, entriesFrom, startsFrom, NodesStand}
+use Rattle.format.specs.Steps.{Told, link-zero, node-zero}
+use Rattle.format.specs.Runs.{Stands, stands}
+use Rattle.format.specs.Forms.{length-every, length-body, stands-count, stands-few, stands-inside, stands-links, stands-nodes, settings-long}
+use Rattle.format.specs.declared.Run.{Run}
+use Rattle.format.specs.declared.Refusal.{Refusal}
+use Rattle.format.specs.declared.FileRead.the-variants as answer
+use Rattle.format.specs.declared.Shape.the-variants as shape
+
+never : _≡_ {A = ℕ} 0 1 → ⊥
+never e = omega arith
+
+-- ---- the bytes of a body, where they stand in the file
+
+module _ (s : List ℕ) (at : ℕ) where
+  body-byte : (i : ℕ) → i < lengthAt s at → getD s (at + 6 + i) 0 ≡ getD (bodyAt s at) i 0
+  body-byte i h = sym (getD-take (lengthAt s at) (drop (at + 6) s) i 0 h ∙ getD-drop (at + 6) s i 0)
+
+  body-u16 : (i : ℕ) → i + 2 ≤ lengthAt s at → u16At s (at + 6 + i) ≡ u16At (bodyAt s at) i
+  unfolding u16At
+  body-u16 i h =
+      ap₂ (λ x y. x + 256 * y) (body-byte i (omega arith))
+      (ap (λ k. getD s k 0) (add-assoc (at + 6) i 1) ∙ body-byte (i + 1) (omega arith))
+
+  body-u32 : (i : ℕ) → i + 4 ≤ lengthAt s at → u32At s (at + 6 + i) ≡ u32At (bodyAt s at) i
+  unfolding u32At
+  body-u32 i h =
+      ap₂ (λ x y. x + 65536 * y) (body-u16 i (omega arith))
+      (ap (u16At s) (add-assoc (at + 6) i 2) ∙ body-u16 (i + 2) (omega arith))
+
+-- ---- a column of the links
+
+column-is : {A : Type 0} (s : List ℕ) (f : ℕ → A) (g : List ℕ → A) (j : ℕ) → ((at : ℕ) → lengthAt s at ≡ 22 → f (at + 6 + j) ≡ g (bodyAt s at))
+    → (bs : List (List ℕ)) (r r′ : Run) → Stands 1 s r bs r′ → every f 28 (r .at + 6 + j) (length bs) ≡ map g bs
+unfolding every
+column-is s f g j agree [] r r′ h = refl
+column-is s f g j agree (b ∷ bs) r r′ h =
+    let l = link-zero (r .count) (lengthAt s (r .at)) (h .0 .number) .0 in
+    let e : r .at + 6 + j + 28 ≡ endAt s (r .at) + 6 + j = omega arith in
+    ap₂ (λ (x : _) (xs : List _). x ∷ xs) (agree (r .at) l ∙ ap g (sym (h .1)))
+    (ap (λ i. every f 28 i (length bs)) e ∙ column-is s f g j agree bs (past s r) r′ (h .2))
+
+-- ---- the nodes
+
+every-moved : {A : Type 0} (f g : ℕ → A) (p top : ℕ) → ((i : ℕ) → i + 2 ≤ top → f (p + i) ≡ g i) → (n i : ℕ) → i + 2 * n ≤ top → every f 2 (p + i) n ≡ every g 2 i n
+unfolding every
+every-moved f g p top same zero i h = refl
+every-moved f g p top same (suc n) i h =
+    ap₂ (λ (x : _) (xs : List _). x ∷ xs) (same i (omega arith))
+    (ap (λ k. every f 2 k n) (add-assoc p i 2) ∙ every-moved f g p top same n (i + 2) (omega arith))
+
+entries-here : (s : List ℕ) (at : ℕ) → every (u16At s) 2 (at + 6) (lengthAt s at / 2) ≡ every (u16At (bodyAt s at)) 2 0 (lengthAt s at / 2)
+entries-here s at =
+    ap (λ k. every (u16At s) 2 k (lengthAt s at / 2)) (sym (add-zero (at + 6)))
+    ∙ every-moved (u16At s) (u16At (bodyAt s at)) (at + 6) (lengthAt s at) (body-u16 s at) (lengthAt s at / 2) 0 (omega arith)
+
+entries-are : (s : List ℕ) (bs : List (List ℕ)) (r r′ : Run) → Stands 2 s r bs r′ → entriesFrom s (length bs) (r .at) ≡ listOf bs
+unfolding entriesFrom listOf
+entries-are s [] r r′ h = refl
+entries-are s (b ∷ bs) r r′ h =
+    let l : lengthAt s (r .at) ≡ length b = sym (ap length (h .1) ∙ length-body 2 s r (h .0)) in
+    ap₂ _++_
+    (entries-here s (r .at) ∙ ap₂ (λ (c : List ℕ) k. every (u16At c) 2 0 (k / 2)) (sym (h .1)) l)
+    (entries-are s bs (past s r) r′ (h .2))
+
+starts-are : (s : List ℕ) (bs : List (List ℕ)) (r r′ : Run) (e : ℕ) → Stands 2 s r bs r′ → startsFrom s (length bs) (r .at) e ≡ startsOf e bs
+unfolding startsFrom startsOf
+starts-are s [] r r′ e h = refl
+starts-are s (b ∷ bs) r r′ e h =
+    let l : lengthAt s (r .at) ≡ length b = sym (ap length (h .1) ∙ length-body 2 s r (h .0)) in
+    ap (λ (xs : List ℕ). e ∷ xs) (starts-are s bs (past s r) r′ (e + lengthAt s (r .at) / 2) (h .2) ∙ ap (λ k. startsOf (e + k / 2) bs) l)
+
+nodes-stand : (s : List ℕ) (bs : List (List ℕ)) (r r′ : Run) (e : ℕ) → r .size ≡ 2 * e → e ≤ maxEntries → Stands 2 s r bs r′ → NodesStand s maxEntries (length bs) (r .at) e
+unfolding NodesStand
+nodes-stand s [] r r′ e z few h = few
+nodes-stand s (b ∷ bs) r r′ e z few h =
+    let n = node-zero (r .count) (r .size) (lengthAt s (r .at)) (h .0 .number) in
+    let room : e + lengthAt s (r .at) / 2 ≤ maxEntries = omega (arith, n .2) in
+    (h .0 .whole, (n .0, (room, nodes-stand s bs (past s r) r′ (e + lengthAt s (r .at) / 2) (omega (arith, n .0)) room (h .2))))
+
+length-starts : (e : ℕ) (bs : List (List ℕ)) → length (startsOf e bs) ≡ suc (length bs)
+unfolding startsOf
+length-starts e [] = refl
+length-starts e (b ∷ bs) = ap suc (length-starts (e + length b / 2) bs)
+
+-- ---- a file of right form
+
+-- its links and its nodes, and where they stand
+pub record Placed (s : List ℕ) (links nodes : List (List ℕ)) : Type 0 where
+  pub right : settingsRight s ≡ true
+  pub between : Run
+  pub last : Run
+  pub links-stand : Stands 1 s (run 15 0 0) links between
+  pub nodes-stand : Stands 2 s (run (between .at) 0 0) nodes last
+  pub ends : last .at ≡ length s
+
+module _ (s : List ℕ) (links nodes : List (List ℕ)) (right : settingsRight s ≡ true) where
+  placed-nodes : (ls : List (List ℕ)) (r : Run) (t : Ran) → Stands 1 s (run 15 0 0) ls r → runAt 2 s (r .at) ≡ t
+      → onRan t (λ x ns. pick (eqb (x .at) (length s)) (form ls ns) (refused (refusal 13 (x .at)))) ≡ form links nodes → Placed s links nodes
+  placed-nodes ls r (fault f) st q = λ e. let z : _≡_ {A = ℕ} 0 1 = cc in absurd (never z)
+  placed-nodes ls r (ran x ns) st q =
+      pick-ind (eqb (x .at) (length s)) (form ls ns) (refused (refusal 13 (x .at))) (λ z. z ≡ form links nodes → Placed s links nodes)
+      (λ h e.
+      let p : ls ≡ links = cc in
+      let p′ : ns ≡ nodes = cc in
+      record {
+        right = right;
+        between = r;
+        last = x;
+        links-stand = subst (λ (l : List (List ℕ)). Stands 1 s (run 15 0 0) l r) p st;
+        nodes-stand = subst (λ (l : List (List ℕ)). Stands 2 s (run (r .at) 0 0) l x) p′ (stands 2 s looks (run (r .at) 0 0) x ns q);
+        ends = eqb-true (x .at) (length s) h;
+      })
+      (λ h e. let z : _≡_ {A = ℕ} 0 1 = cc in absurd (never z))
+
+  placed-links : (t : Ran) → runAt 1 s 15 ≡ t → onRan t (λ r ls. nodesAfter s ls (r .at)) ≡ form links nodes → Placed s links nodes
+  placed-links (fault f) q e = let z : _≡_ {A = ℕ} 0 1 = cc in absurd (never z)
+  placed-links (ran r ls) q e = placed-nodes ls r (runAt 2 s (r .at)) (stands 1 s looks (run 15 0 0) r ls q) refl e
+
+pub placed : (s : List ℕ) (links nodes : List (List ℕ)) → formOf s ≡ form links nodes → Placed s links nodes
+unfolding formOf
+placed s links nodes =
+    pick-ind (settingsRight s) (onRan (runAt 1 s 15) (λ r ls. nodesAfter s ls (r .at))) (refused (refusal 13 0))
+    (λ z. z ≡ form links nodes → Placed s links nodes)
+    (λ h e. placed-links s links nodes h (runAt 1 s 15) refl e)
+    (λ h e. let z : _≡_ {A = ℕ} 0 1 = cc in absurd (never z))
+
+pub record Formed (s : List ℕ) (n m e : ℕ) : Type 0 where
+  pub links : List (List ℕ)
+  pub nodes : List (List ℕ)
+  pub is : formOf s ≡ form links nodes
+  pub n-is : n ≡ length links
+  pub m-is : m ≡ length nodes
+  pub e-is : e ≡ length (listOf nodes)
+
+pub formed : (s : List ℕ) (n m e : ℕ) → shape.Right n m e ≡ shapeOf (formOf s) → Formed s n m e
+formed s n m e = by (formOf s) refl
+  where
+    by : (x : Form) → formOf s ≡ x → shape.Right n m e ≡ shapeOf x → Formed s n m e
+    by (form ls ns) q h = record { links = ls; nodes = ns; is = q; n-is = (cc); m-is = (cc); e-is = (cc) }
+    by (refused f) q h = let z : _≡_ {A = ℕ} 0 1 = cc in absurd (never z)
+
+pub wronged : (s : List ℕ) (f : Refusal) → shape.Wrong f ≡ shapeOf (formOf s) → formOf s ≡ refused f
+wronged s f = by (formOf s)
+  where
+    by : (x : Form) → shape.Wrong f ≡ shapeOf x → x ≡ refused f
+    by (refused g) h = cc
+    by (form ls ns) h = let z : _≡_ {A = ℕ} 0 1 = cc in absurd (never z)
+
+over-by : {A : Type 0} {l l′ : List A} → l ≡ l′ → (b : List A) → over l b ≡ over l′ b
+over-by e b = ap (λ (l : List _). over l b) e
+
+same-reading : {n n′ m m′ e e′ min min′ : ℕ} {w w′ : Bool} {ax ax′ ay ay′ bx bx′ by by′ : List ℤ} {a a′ b b′ t t′ s s′ st st′ l l′ : List ℕ}
+    → n ≡ n′ → m ≡ m′ → e ≡ e′ → w ≡ w′ → min ≡ min′
+    → ax ≡ ax′ → ay ≡ ay′ → bx ≡ bx′ → by ≡ by′ → a ≡ a′ → b ≡ b′ → t ≡ t′ → s ≡ s′ → st ≡ st′ → l ≡ l′
+    → reading (answer.Graph (record { links = n; nodes = m; entries = e; clockwise = w; minimum = min })) (buffers ax ay bx by a b t s st l)
+    ≡ reading (answer.Graph (record { links = n′; nodes = m′; entries = e′; clockwise = w′; minimum = min′ })) (buffers ax′ ay′ bx′ by′ a′ b′ t′ s′ st′ l′)
+same-reading e1 e2 e3 e4 e5 e6 e7 e8 e9 e10 e11 e12 e13 e14 e15 = rw (e1, e2, e3, e4, e5, e6, e7, e8, e9, e10, e11, e12, e13, e14, e15)
+
+-- what the functions that fill the lists are asked, and what they then leave
+module _ (s : List ℕ) (n m e : ℕ) (f : Formed s n m e) where
+  is-placed : Placed s (f .links) (f .nodes)
+  is-placed = placed s (f .links) (f .nodes) (f .is)
+
+  pub file-long : 15 ≤ length s
+  file-long = settings-long s (is-placed .right)
+
+  -- the nodes begin after the links
+  nodes-at : is-placed .between .at ≡ 15 + 28 * n
+  nodes-at =
+      stands-links s (f .links) (run 15 0 0) (is-placed .between) (is-placed .links-stand)
+      ∙ ap (λ k. 15 + 28 * k) (sym (f .n-is))
+
+  pub links-fit : 15 + 28 * n ≤ length s
+  links-fit =
+      let i = stands-inside 1 s (f .links) (run 15 0 0) (is-placed .between) file-long (is-placed .links-stand) in
+      omega (arith, nodes-at)
+
+  pub links-few : n ≤ maxLinks
+  links-few =
+      omega (arith, f .n-is, stands-count 1 s (f .links) (run 15 0 0) (is-placed .between) (is-placed .links-stand),
+      stands-few 1 s (f .links) (run 15 0 0) (is-placed .between) (omega arith) (is-placed .links-stand))
+
+  pub nodes-few : m ≤ maxNodes
+  nodes-few =
+      omega (arith, f .m-is, stands-count 2 s (f .nodes) (run (is-placed .between .at) 0 0) (is-placed .last) (is-placed .nodes-stand),
+      stands-few 2 s (f .nodes) (run (is-placed .between .at) 0 0) (is-placed .last) (omega arith) (is-placed .nodes-stand))
+
+  pub nodes-fit : NodesStand s maxEntries m (15 + 28 * n) 0
+  nodes-fit =
+      rw (f .m-is, ← nodes-at)
+      (nodes-stand s (f .nodes) (run (is-placed .between .at) 0 0) (is-placed .last) 0 refl (omega arith) (is-placed .nodes-stand))
+
+  column-of : {A : Type 0} (at : ℕ → A) (of : List ℕ → A) (j : ℕ) → ((p : ℕ) → lengthAt s p ≡ 22 → at (p + 6 + j) ≡ of (bodyAt s p))
+      → column at j n ≡ map of (f .links)
+  column-of at of j agree =
+      ap (λ k. every at 28 (21 + j) k) (f .n-is) ∙ column-is s at of j agree (f .links) (run 15 0 0) (is-placed .between) (is-placed .links-stand)
+
+  i32-column : (j : ℕ) → j + 4 ≤ 22 → column (i32At s) j n ≡ map (λ b. i32At b j) (f .links)
+  i32-column j h = column-of (i32At s) (λ b. i32At b j) j (λ p l. ap signed (body-u32 s p j (omega arith)))
+
+  u16-column : (j : ℕ) → j + 2 ≤ 22 → column (u16At s) j n ≡ map (λ b. u16At b j) (f .links)
+  u16-column j h = column-of (u16At s) (λ b. u16At b j) j (λ p l. body-u16 s p j (omega arith))
+
+  u8-column : (j : ℕ) → j < 22 → column (λ i. getD s i 0) j n ≡ map (λ b. getD b j 0) (f .links)
+  u8-column j h = column-of (λ i. getD s i 0) (λ b. getD b j 0) j (λ p l. body-byte s p j (omega arith))
+
+  starts-of : (b : List ℕ) → over (startsFrom s m (15 + 28 * n) 0) b ≡ over (startsOf 0 (f .nodes)) b
+  starts-of b =
+      ap₂ (λ k p. over (startsFrom s k p 0) b) (f .m-is) (sym nodes-at)
+      ∙ ap (λ (l : List ℕ). over l b) (starts-are s (f .nodes) (run (is-placed .between .at) 0 0) (is-placed .last) 0 (is-placed .nodes-stand))
+
+  entries-of : (b : List ℕ) → over (entriesFrom s m (15 + 28 * n)) b ≡ over (listOf (f .nodes)) b
+  entries-of b =
+      ap₂ (λ k p. over (entriesFrom s k p) b) (f .m-is) (sym nodes-at)
+      ∙ ap (λ (l : List ℕ). over l b) (entries-are s (f .nodes) (run (is-placed .between .at) 0 0) (is-placed .last) (is-placed .nodes-stand))
+
+  -- the answer and the lists, filled column by column, are the definition's
+  pub read-right : (b : Buffers) (clockwise : Bool) (minimum : ℕ) (c : Columns) (start list : List ℕ)
+      → clockwise ≡ eqb (getD s 6 0) 1
+      → minimum ≡ u64At s 7
+      → c ≡ linksInto s n (columns (b .ax) (b .ay) (b .bx) (b .by) (b .aId) (b .bId) (b .top) (b .state))
+      → start ≡ over (startsFrom s m (15 + 28 * n) 0) (b .start)
+      → list ≡ over (entriesFrom s m (15 + 28 * n)) (b .list)
+      → reading (answer.Graph (record { links = n; nodes = m; entries = e; clockwise = clockwise; minimum = minimum }))
+      (buffers (c .ax) (c .ay) (c .bx) (c .by) (c .aId) (c .bId) (c .top) (c .state) start list)
+      ≡ readInto (fileOf s) b
+  read-right b clockwise minimum c start list p q h i j =
+      rw (f .is)
+      (same-reading (f .n-is ∙ sym (length-map (f .links) (λ b. u16At b 16))) (f .m-is ∙ omega (arith, length-starts 0 (f .nodes))) (f .e-is) p q
+      (ap (λ (x : Columns). x .ax) h ∙ over-by (i32-column 0 (omega arith)) (b .ax))
+      (ap (λ (x : Columns). x .ay) h ∙ over-by (i32-column 4 (omega arith)) (b .ay))
+      (ap (λ (x : Columns). x .bx) h ∙ over-by (i32-column 8 (omega arith)) (b .bx))
+      (ap (λ (x : Columns). x .by) h ∙ over-by (i32-column 12 (omega arith)) (b .by))
+      (ap (λ (x : Columns). x .aId) h ∙ over-by (u16-column 16 (omega arith)) (b .aId))
+      (ap (λ (x : Columns). x .bId) h ∙ over-by (u16-column 18 (omega arith)) (b .bId))
+      (ap (λ (x : Columns). x .top) h ∙ over-by (u8-column 20 (omega arith)) (b .top))
+      (ap (λ (x : Columns). x .state) h ∙ over-by (u8-column 21 (omega arith)) (b .state))
+      (i ∙ starts-of (b .start))
+      (j ∙ entries-of (b .list)))
+
+pub read-wrong : (s : List ℕ) (e : Refusal) (b : Buffers) → shape.Wrong e ≡ shapeOf (formOf s) → reading (answer.Refused e) b ≡ readInto (fileOf s) b
+read-wrong s e b h = rw (wronged s e h)

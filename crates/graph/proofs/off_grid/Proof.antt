@@ -1,0 +1,32 @@
+use borrow.Author.Needs.{needs}
+use Rattle.graph.proofs.off_grid.Statement.{statement}
+use Rattle.graph.proofs.off_grid.Tie as tie
+use Rattle.graph.proofs.off_grid.Reads as reads
+use Rattle.graph.proofs.off_grid.Lts as lts
+use Rattle.turn.proofs.outside.Reads as outside-reads
+use Prim.Native.Nat.{ℕ, _≤_, _<_, _-_, _+_}
+use mathlib.Core.Path.{_≡_, refl, sym, ap, _∙_}
+use native.Mathlib.Omega.{arith}
+use lib.ListN.{length, getD}
+use mir.ValLaws.{toZ-ofZ}
+use mir.Syntax.{w32}
+
+-- src/lib.rt:75:5
+outside-requires : tie.Need-outside-requires
+outside-requires c κs = search needs
+
+-- src/lib.rt:75:20
+outside-requires-2 : tie.Need-outside-requires-2
+outside-requires-2 c κs = search needs
+
+-- src/lib.rt:72:1
+returns : tie.Need-returns
+returns c =
+    let p = c .before .before .before .before .args .p in
+    let g = c .before .before .before .struct-told .given in
+    let x = toZ-ofZ w32 (p .x) (record { sfits = g .0 .1 }) in
+    let y = toZ-ofZ w32 (p .y) (record { sfits = g .1 .0 .1 }) in
+    simp (rw x at (c .before .before .outside .ensures), rw y at (c .outside2 .ensures))
+
+pub off-grid-spec : {M : Type 1} → statement M
+off-grid-spec = tie.close (tie.spec outside-requires outside-requires-2 returns)

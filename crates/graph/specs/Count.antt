@@ -1,0 +1,116 @@
+-- How often a number stands in a list; members and places; sums over the numbers below n.
+use Prim.Native.Nat.{ℕ, zero, suc, _+_, _*_, _≤_, _<_, zero-le, suc-le-suc}
+use native.Mathlib.Nat.{not-suc-le-zero, le-of-suc-le-suc, eq-or-lt-of-le, zero-add, add-zero, add-assoc}
+use native.Mathlib.Numerals.{add-one}
+use native.Mathlib.Omega.{arith}
+use native.Mathlib.Decide.{ℕ-discrete}
+use mathlib.Core.Path.{_≡_, refl, sym, ap, ap₂, _∙_, subst}
+use mathlib.Core.Logic.{⊎-elim}
+use mathlib.Core.Bool.{Bool, true, false}
+use mathlib.Core.List.{List, [], _∷_, _++_, List·Memᴰ, List·Memᴰ·head, List·Memᴰ·tail, List·Memᴰ·not-nil, List·Memᴰ·cases-cons}
+use lib.Dec.{eqb}
+use lib.ListN.{length, getD, take}
+use lib.Seq.{take-suc}
+use borrow.Author.Tests.{eq-eqb, ne-eqb, eqb-true}
+use Rattle.laws.specs.Test.{pick}
+
+unfoldable pub count : ℕ → List ℕ → ℕ
+count x [] = 0
+count x (y ∷ ys) = pick (eqb y x) 1 0 + count x ys
+
+-- ---- one more element
+count-append : (x : ℕ) (s t : List ℕ) → count x (s ++ t) ≡ count x s + count x t
+unfolding count
+count-append x [] t = sym (zero-add _)
+count-append x (y ∷ s) t = simp (count-append x s t, add-assoc)
+
+pub count-more : (x : ℕ) (l : List ℕ) (k : ℕ) → k < length l → count x (take (k + 1) l) ≡ count x (take k l) + pick (eqb (getD l k 0) x) 1 0
+unfolding count
+count-more x l k h = simp (add-one, take-suc l k 0 h, count-append, add-zero)
+
+-- ---- a member stands at a place, and is counted
+pub record Place (x : ℕ) (l : List ℕ) : Type 0 where
+  pub place : ℕ
+  pub within : place < length l
+  pub here : getD l place 0 ≡ x
+
+next : {x y : ℕ} {l : List ℕ} → Place x l → Place x (y ∷ l)
+next p = record { place = suc (p .place); within = suc-le-suc (p .within); here = p .here }
+
+pub place-of : {x : ℕ} (l : List ℕ) → List·Memᴰ x l → Place x l
+place-of [] m = absurd (List·Memᴰ·not-nil m)
+place-of {x} (y ∷ l) m =
+    ⊎-elim (λ (e : x ≡ y). record { place = 0; within = suc-le-suc zero-le; here = sym e }) (λ (m : List·Memᴰ x l). next (place-of l m)) (List·Memᴰ·cases-cons m)
+
+pub member : (l : List ℕ) (i : ℕ) → i < length l → List·Memᴰ (getD l i 0) l
+member [] i h = absurd (not-suc-le-zero h)
+member (y ∷ l) zero h = List·Memᴰ·head refl
+member (y ∷ l) (suc i) h = List·Memᴰ·tail (member l i (le-of-suc-le-suc h))
+
+pub counted-in : (x : ℕ) (l : List ℕ) → 1 ≤ count x l → List·Memᴰ x l
+unfolding count
+counted-in x [] h = absurd (not-suc-le-zero h)
+counted-in x (y ∷ l) h = at (eqb y x) refl h (counted-in x l)
+  where
+    at : (b : Bool) → eqb y x ≡ b → 1 ≤ pick b 1 0 + count x l → (1 ≤ count x l → List·Memᴰ x l) → List·Memᴰ x (y ∷ l)
+    at true e h r = List·Memᴰ·head (sym (eqb-true y x e))
+    at false e h r = List·Memᴰ·tail (r (omega arith))
+
+count-at : (x : ℕ) (l : List ℕ) (i : ℕ) → i < length l → getD l i 0 ≡ x → 1 ≤ count x l
+unfolding count
+count-at x [] i h e = absurd (not-suc-le-zero h)
+count-at x (y ∷ l) zero h e = rw (eq-eqb y x e) (omega arith)
+count-at x (y ∷ l) (suc i) h e = omega (arith, count-at x l i (le-of-suc-le-suc h) e)
+
+-- two places are two
+pub count-two : (x : ℕ) (l : List ℕ) (i j : ℕ) → i < j → j < length l → getD l i 0 ≡ x → getD l j 0 ≡ x → 2 ≤ count x l
+unfolding count
+count-two x [] i j h k p q = absurd (not-suc-le-zero k)
+count-two x (y ∷ l) i zero h k p q = absurd (not-suc-le-zero h)
+count-two x (y ∷ l) zero (suc j) h k p q = let c = count-at x l j (le-of-suc-le-suc k) q in rw (eq-eqb y x p) (omega arith)
+count-two x (y ∷ l) (suc i) (suc j) h k p q = omega (arith, count-two x l i j (le-of-suc-le-suc h) (le-of-suc-le-suc k) p q)
+
+-- ---- sums
+unfoldable pub sum : (ℕ → ℕ) → ℕ → ℕ
+sum f zero = 0
+sum f (suc n) = f n + sum f n
+
+pub sum-same : (f g : ℕ → ℕ) (n : ℕ) → ((i : ℕ) → i < n → f i ≡ g i) → sum f n ≡ sum g n
+unfolding sum
+sum-same f g zero h = refl
+sum-same f g (suc n) h = ap₂ _+_ (h n (omega arith)) (sum-same f g n (λ i l. h i (omega arith)))
+
+pub sum-add : (f g : ℕ → ℕ) (n : ℕ) → sum (λ i. f i + g i) n ≡ sum f n + sum g n
+unfolding sum
+sum-add f g zero = refl
+sum-add f g (suc n) = omega (arith, sum-add f g n)
+
+pub sum-const : (c n : ℕ) → sum (λ i. c) n ≡ c * n
+unfolding sum
+sum-const c zero = omega arith
+sum-const c (suc n) = omega (arith, sum-const c n)
+
+pub sum-swap : (f : ℕ → ℕ → ℕ) (m n : ℕ) → sum (λ i. sum (f i) n) m ≡ sum (λ j. sum (λ i. f i j) m) n
+unfolding sum
+sum-swap f zero n = sym (sum-const 0 n ∙ omega arith)
+sum-swap f (suc m) n = omega (arith, sum-swap f m n, sum-add (f m) (λ j. sum (λ i. f i j) m) n)
+
+-- of the numbers below n, x is one
+nowhere : (x n : ℕ) → n ≤ x → sum (λ i. pick (eqb x i) 1 0) n ≡ 0
+unfolding sum
+nowhere x zero h = refl
+nowhere x (suc n) h = simp (ne-eqb x n (omega arith), nowhere x n (omega arith))
+
+pub sum-once : (x n : ℕ) → x < n → sum (λ i. pick (eqb x i) 1 0) n ≡ 1
+unfolding sum
+sum-once x zero h = absurd (not-suc-le-zero h)
+sum-once x (suc n) h =
+    ⊎-elim (λ (q : x ≡ n). simp (eq-eqb x n q, nowhere x n (omega arith))) (λ (m : x < n). simp (ne-eqb x n (omega arith), sum-once x n m)) (eq-or-lt-of-le (le-of-suc-le-suc h))
+
+-- a list of numbers below n is as long as they are counted
+pub counted : (l : List ℕ) (n : ℕ) → ((k : ℕ) → k < length l → getD l k 0 < n) → sum (λ i. count i l) n ≡ length l
+unfolding count
+counted [] n h = sum-const 0 n ∙ omega arith
+counted (y ∷ l) n h =
+    sum-add (λ i. pick (eqb y i) 1 0) (λ i. count i l) n ∙
+    omega (arith, sum-once y n (h 0 (omega arith)), counted l n (λ k m. h (suc k) (suc-le-suc m)))

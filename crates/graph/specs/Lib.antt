@@ -1,0 +1,11 @@
+-- The definitions that the contracts cite, then what they mean.
+pub mod Graph
+pub mod Count
+pub mod Checks
+pub mod Examples
+pub mod Passes
+pub mod PointLaws
+pub mod Known
+pub mod Tests
+pub mod Exact
+pub mod Fine

@@ -1,0 +1,166 @@
+-- What each test of the checks says, both ways: it fails exactly where the plain fact holds.
+use Prim.Native.Nat.{ℕ, zero, suc, _+_, _-_, _/_, _≤_, _<_}
+use native.Mathlib.Omega.{arith}
+use native.Mathlib.Decide.{decLe}
+use native.Mathlib.Nat.{not-suc-le-zero}
+use mathlib.Core.Path.{_≡_, refl, sym, ap, _∙_, subst}
+use mathlib.Core.Bool.{Bool, true, false, not, _||_, _&&_}
+use mathlib.Core.Logic.{_⊎_, inl, inr, ⊎-elim}
+use mathlib.Core.List.{List}
+use lib.Dec.{ltb, leb, eqb}
+use lib.ListN.{length, getD}
+use borrow.Author.Tests.{ltb-false, leb-false, eqb-true, eqb-false, le-ltb, lt-leb, eq-eqb, ne-eqb, lt-ltb, not-false}
+use Rattle.laws.specs.Test.{pick, or-false, false-or, and-true, and-false, true≢false, not-true}
+use Rattle.laws.specs.Lowest.{some, None, none-of, some-no}
+use Rattle.turn.specs.declared.Point.{Point}
+use Rattle.turn.specs.Points.{before, differ, outside, Coord, OnGrid}
+use Rattle.turn.specs.Angle.{sameDirection}
+use Rattle.graph.specs.declared.Checked.{Checked}
+use Rattle.graph.specs.declared.Checked.the-variants.{Fine, Refused}
+use Rattle.graph.specs.Graph.{Lent, linkCount, nodeCount, pointAt, part}
+use Rattle.graph.specs.Count.{count}
+use Rattle.graph.specs.Checks.{tooMany, unlike, fewPoints, unlikeBand, fewContours, offGrid, misplaced, misnamed, linkFault, misflagged, flagFault, outOfOrder, short, badStarts, stray, strayIn, notOnce, missed, someTwo, endAt, away, apart, apartIn, skipped, alike, alikeIn}
+use Rattle.graph.specs.Passes.{Even, Rising, EndAt}
+use Rattle.graph.specs.PointLaws.{coord, inside, same-point, not-differ}
+
+-- ---- one fact exactly where another
+pub record Iff (P Q : Type 0) : Type 0 where
+  pub to : P → Q
+  pub from : Q → P
+
+-- the test fails exactly where P holds
+abbrev pub Fails : Bool → Type 0 → Type 0
+Fails b P = Iff (b ≡ false) P
+
+pub then : {P Q R : Type 0} → Iff P Q → Iff Q R → Iff P R
+then h k = record { to = λ p. k .to (h .to p); from = λ r. h .from (k .from r) }
+
+pub both : {P Q R S : Type 0} → Iff P Q → Iff R S → Iff (P × R) (Q × S)
+both h k = record { to = λ p. (h .to (p .0), k .to (p .1)); from = λ q. (h .from (q .0), k .from (q .1)) }
+
+-- ---- tests of numbers
+pub lt-fails : (m n : ℕ) → Fails (ltb m n) (n ≤ m)
+lt-fails m n = record { to = ltb-false m n; from = le-ltb m n }
+
+pub le-fails : (m n : ℕ) → Fails (leb m n) (n < m)
+le-fails m n = record { to = leb-false m n; from = lt-leb m n }
+
+pub eq-fails : (m n : ℕ) → Fails (eqb m n) (m ≡ n → ⊥)
+eq-fails m n = record { to = eqb-false m n; from = ne-eqb m n }
+
+pub ne-fails : (m n : ℕ) → Fails (not (eqb m n)) (m ≡ n)
+ne-fails m n = record { to = λ e. eqb-true m n (not-false (eqb m n) e); from = λ e. ap not (eq-eqb m n e) }
+
+pub not-fails : (b : Bool) → Fails (not b) (b ≡ true)
+not-fails b = record { to = not-false b; from = ap not }
+
+-- ---- tests joined
+pub or-fails : {a b : Bool} {P Q : Type 0} → Fails a P → Fails b Q → Fails (a || b) (P × Q)
+or-fails {a} {b} h k = then (record { to = or-false a b; from = λ p. false-or a b (p .0) (p .1) }) (both h k)
+
+pub some-fails : {test : ℕ → Bool} {P : ℕ → Type 0} (n : ℕ) → ((k : ℕ) → Fails (test k) (P k)) → Fails (some test n) ((k : ℕ) → k < n → P k)
+some-fails {test} n h = record { to = λ e k l. h k .to (none-of test n e k l); from = λ p. some-no test n (λ k l. h k .from (p k l)) }
+
+-- two of n places
+pub two-fails : {test : ℕ → ℕ → Bool} {P : ℕ → ℕ → Type 0} (n : ℕ) → ((i j : ℕ) → Fails (test i j) (P i j)) → Fails (someTwo test n) ((j : ℕ) → j < n → (i : ℕ) → i < j → P i j)
+two-fails n h = some-fails n (λ j. some-fails j (λ i. h i j))
+
+-- a check that refuses
+pub refuses : (b : Bool) (k p : ℕ) (next : Checked) → Iff (pick b (Refused k p) next ≡ Fine) ((b ≡ false) × (next ≡ Fine))
+refuses true k p next = record { to = λ e. let z : _≡_ {A = ℕ} 0 1 = cc in absurd (omega arith); from = λ e. absurd (true≢false refl (e .0)) }
+refuses false k p next = record { to = λ e. (refl, e); from = λ e. e .1 }
+
+-- ---- 2
+pub even : (g : Lent) → Fails (unlike g) ((Even g) × (1 ≤ length (g .start)))
+even g =
+    then
+    (or-fails (or-fails (or-fails (or-fails (or-fails (ne-fails _ _) (ne-fails _ _)) (ne-fails _ _)) (ne-fails _ _)) (ne-fails _ _)) (eq-fails (length (g .start)) 0))
+    (record {
+      to = λ h. (record { ax = h .0 .0 .0 .0 .0; ay = h .0 .0 .0 .0 .1; bx = h .0 .0 .0 .1; by = h .0 .0 .1; bId = h .0 .1 }, above (length (g .start)) (h .1));
+      from = λ h. (((((h .0 .ax, h .0 .ay), h .0 .bx), h .0 .by), h .0 .bId), λ e. none (length (g .start)) e (h .1));
+    })
+  where
+    above : (s : ℕ) → (s ≡ 0 → ⊥) → 1 ≤ s
+    above s h = omega arith
+
+    none : (s : ℕ) → s ≡ 0 → 1 ≤ s → ⊥
+    none s e h = omega arith
+
+pub band-even : (n : ℕ) (top state : List ℕ) → Fails (unlikeBand n top state) ((length top ≡ n) × (length state ≡ n))
+band-even n top state = or-fails (ne-fails _ _) (ne-fails _ _)
+
+pub contours : (n firsts lens kinds : ℕ) → Fails (fewContours n firsts lens kinds) (((lens ≡ firsts) × (kinds ≡ firsts)) × (n / 3 ≤ firsts))
+contours n firsts lens kinds = or-fails (or-fails (ne-fails _ _) (ne-fails _ _)) (lt-fails _ _)
+
+-- ---- 3
+pub on-grid : (p : Point) → Fails (offGrid p) (OnGrid p)
+on-grid p = or-fails (record { to = coord (p .x); from = inside (p .x) }) (record { to = coord (p .y); from = inside (p .y) })
+
+pub placed : (a b : Point) → Fails (misplaced a b) (((OnGrid a) × (OnGrid b)) × (before a b ≡ true))
+placed a b = or-fails (or-fails (on-grid a) (on-grid b)) (not-fails (before a b))
+
+pub named : (m aId bId : ℕ) → Fails (misnamed m aId bId) (((aId < m) × (bId < m)) × (aId ≡ bId → ⊥))
+named m aId bId = or-fails (or-fails (le-fails m aId) (le-fails m bId)) (eq-fails aId bId)
+
+pub flagged : (top state : ℕ) → Fails (misflagged top state) ((top ≤ 1) × (state ≤ 1))
+flagged top state = or-fails (lt-fails 1 top) (lt-fails 1 state)
+
+-- ---- 4
+pub in-order : (a : ℕ → Point) (n : ℕ) → Fails (some (outOfOrder a) n) ((k : ℕ) → k + 1 < n → before (a (k + 1)) (a k) ≡ false)
+in-order a n = record { to = λ e k l. after k (none-of (outOfOrder a) n e (k + 1) l); from = λ h. some-no (outOfOrder a) n (at h) }
+  where
+    after : (k : ℕ) → outOfOrder a (k + 1) ≡ false → before (a (k + 1)) (a k) ≡ false
+    after k e =
+        let p : k + 1 - 1 ≡ k = omega arith in
+        let q : ltb 0 (k + 1) ≡ true = lt-ltb 0 (k + 1) (omega arith) in
+        simp (p, q) at e
+
+    at : ((k : ℕ) → k + 1 < n → before (a (k + 1)) (a k) ≡ false) → None (outOfOrder a) n
+    at h zero l = refl
+    at h (suc k) l =
+        let e : k + 1 ≡ suc k = omega arith in
+        let p : suc k - 1 ≡ k = omega arith in
+        let q : ltb 0 (suc k) ≡ true = lt-ltb 0 (suc k) (omega arith) in
+        simp (p, q) (simp e at (h k (omega arith)))
+
+-- ---- 5
+pub rising : (start list : List ℕ) → 1 ≤ length start → Fails (badStarts start list) (Rising start list)
+rising start list l =
+    then (or-fails (or-fails (ne-fails _ _) (ne-fails _ _)) (some-fails (length start - 1) (λ v. lt-fails _ _)))
+    (record {
+      to = λ h. record { any = l; first = h .0 .0; last = h .0 .1; step = h .1 };
+      from = λ h. ((h .first, h .last), h .step);
+    })
+
+pub no-stray : (aId bId : List ℕ) (v e : ℕ) → Fails (stray aId bId v e) (EndAt aId bId v e)
+no-stray aId bId v e =
+    then (or-fails (le-fails (length aId) e) (ends (getD aId e 0) (getD bId e 0)))
+    (record { to = λ h. record { below = h .0; end = h .1 }; from = λ h. (h .below, h .end) })
+  where
+    ends : (a b : ℕ) → Fails (not (eqb a v) && not (eqb b v)) ((a ≡ v) ⊎ (b ≡ v))
+    ends a b = record {
+      to = λ h. ⊎-elim (λ p. inl (ne-fails a v .to p)) (λ p. inr (ne-fails b v .to p)) (and-false _ _ h);
+      from = λ h. no _ _ (⊎-elim (λ p. inl (ne-fails a v .from p)) (λ p. inr (ne-fails b v .from p)) h);
+    }
+      where
+        no : (s t : Bool) → (s ≡ false) ⊎ (t ≡ false) → s && t ≡ false
+        no true t (inl e) = absurd (true≢false refl e)
+        no true t (inr e) = e
+        no false t h = refl
+
+-- ---- 6
+pub together : (a b : ℕ → Point) (aNode : ℕ → ℕ) (v e f : ℕ) → Fails (apart a b aNode v e f) (endAt a b aNode v e ≡ endAt a b aNode v f)
+together a b aNode v e f = record { to = same-point _ _; from = not-differ _ _ }
+
+-- ---- 7
+pub unlike-ways : (a b : ℕ → Point) (aNode : ℕ → ℕ) (state : List ℕ) (v e f : ℕ)
+    → Fails (alike a b aNode state v e f) ((getD state e 0 ≡ 1 → ⊥) → (getD state f 0 ≡ 1 → ⊥) → sameDirection (away a b aNode v e) (away a b aNode v f) ≡ false)
+unlike-ways a b aNode state v e f = record {
+  to = λ h p q. simp (ne-eqb _ 1 p, ne-eqb _ 1 q) at h;
+  from = λ h. by (skipped state e) (skipped state f) (sameDirection (away a b aNode v e) (away a b aNode v f)) (λ p q. h (eqb-false _ 1 p) (eqb-false _ 1 q));
+}
+  where
+    by : (s t d : Bool) → (s ≡ false → t ≡ false → d ≡ false) → not s && not t && d ≡ false
+    by true t d h = refl
+    by false true d h = refl
+    by false false d h = h refl refl

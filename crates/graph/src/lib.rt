@@ -1,0 +1,439 @@
+// The lent graph and its checks 1 to 7. Any graph may be lent: `check_graph` says that it is fine, or document 01's number and place.
+ghost use mathlib.Core.Path.{_≡_};
+ghost use Prim.Native.Nat.{ℕ, _+_, _-_, _<_, _≤_};
+ghost use lib.Dec.{ltb};
+ghost use lib.ListN.{length, getD};
+ghost use Rattle.laws.specs.Lowest.{lowest, some};
+ghost use Rattle.turn.specs.Points.{Short};
+ghost use Rattle.graph.specs.Graph.{lent, pointAt, part};
+ghost use Rattle.graph.specs.Count.{count};
+ghost use Rattle.graph.specs.Checks.{room, tooMany, unlike, fewPoints, unlikeBand, fewContours, offGrid, misplaced, misnamed, linkWrong, misflagged, outOfOrder, short, badStarts, stray, strayIn, strayAt, notOnce, missed, badNodes, nodeAt, endAt, away, apart, apartIn, apartAt, alike, alikeAt, checkedNodes, checkedLinks, checked};
+ghost use Rattle.graph.specs.Passes.{Even, Rising};
+ghost use Rattle.graph.specs.Known.{Points, Grids, Ids, Below, Entries};
+
+use turn::{between, before, differ, outside, same_direction, Point, Vector, MAX_LINKS};
+
+// What the checks say: nothing is wrong, or document 01's number and place.
+pub enum Checked {
+    Fine,
+    Refused { number: u32, place: usize },
+}
+
+// A link or node number, as an index.
+pub fn wide(x: u32) -> usize
+    ensures { λ r. ⌜ r ≡ x ⌝ }
+{
+    x as usize
+}
+
+// The point at k of two lists of coordinates.
+pub fn point_at(xs: &[i32], ys: &[i32], k: usize) -> Point
+    requires { ⌜ (k < length (now xs)) × (k < length (now ys)) ⌝ }
+    ensures { λ r. ⌜ r ≡ pointAt (now (xs .entry)) (now (ys .entry)) k ⌝ }
+{
+    Point { x: xs[k], y: ys[k] }
+}
+
+// ---- Check 2, of the shared graph: whether its lists differ in length, or there is no start.
+fn unlike(ax: &[i32], ay: &[i32], bx: &[i32], by: &[i32], aid: &[u32], bid: &[u32], start: &[u32], list: &[u32]) -> bool
+    ensures { λ r. ⌜ r ≡ unlike (lent (now (ax .entry)) (now (ay .entry)) (now (bx .entry)) (now (by .entry)) (now (aid .entry)) (now (bid .entry)) (now (start .entry)) (now (list .entry))) ⌝ }
+{
+    let n = aid.len();
+    (ax.len() != n)
+        | (ay.len() != n)
+        | (bx.len() != n)
+        | (by.len() != n)
+        | (bid.len() != n)
+        | (start.len() == 0)
+}
+
+// Whether a buffer of so many numbers has no room for n points.
+fn few_points(n: usize, points: usize) -> bool
+    ensures { λ r. ⌜ r ≡ fewPoints n points ⌝ }
+{
+    points / 2 < n
+}
+
+// Check 2, of one band: whether its tops or states are not n.
+fn unlike_band(n: usize, top: &[u8], state: &[u8]) -> bool
+    ensures { λ r. ⌜ r ≡ unlikeBand n (now (top .entry)) (now (state .entry)) ⌝ }
+{
+    (top.len() != n) | (state.len() != n)
+}
+
+// Whether the contour table's lists differ in length, or have no room for n / 3 contours.
+fn few_contours(n: usize, firsts: usize, lens: usize, kinds: usize) -> bool
+    ensures { λ r. ⌜ r ≡ fewContours n firsts lens kinds ⌝ }
+{
+    (lens != firsts) | (kinds != firsts) | (firsts < n / 3)
+}
+
+// ---- Check 3, of the shared graph: whether a point is out of bounds.
+fn off_grid(p: Point) -> bool
+    ensures { λ r. ⌜ r ≡ offGrid p ⌝ }
+{
+    outside(p.x) | outside(p.y)
+}
+
+// Whether a link's points are out of bounds, or a is not strictly before b.
+fn misplaced(a: Point, b: Point) -> bool
+    ensures { λ r. ⌜ r ≡ misplaced a b ⌝ }
+{
+    off_grid(a) | off_grid(b) | !before(a, b)
+}
+
+// Whether a link's node ids are not two of the m.
+fn misnamed(m: usize, aid: u32, bid: u32) -> bool
+    ensures { λ r. ⌜ r ≡ misnamed m aid bid ⌝ }
+{
+    (m <= aid as usize) | (m <= bid as usize) | (aid == bid)
+}
+
+// Check 3, of one band: whether a top or a state is not 0 or 1.
+fn misflagged(top: u8, state: u8) -> bool
+    ensures { λ r. ⌜ r ≡ misflagged top state ⌝ }
+{
+    (1 < top) | (1 < state)
+}
+
+// The lowest link that check 3 refuses, among m nodes, or the number of links.
+fn bad_link(ax: &[i32], ay: &[i32], bx: &[i32], by: &[i32], aid: &[u32], bid: &[u32], start: &[u32], list: &[u32], top: &[u8], state: &[u8]) -> usize
+    requires { ⌜ Even (lent (now ax) (now ay) (now bx) (now by) (now aid) (now bid) (now start) (now list)) ⌝ }
+    requires { ⌜ (length (now top) ≡ length (now aid)) × (length (now state) ≡ length (now aid)) ⌝ }
+    requires { ⌜ 1 ≤ length (now start) ⌝ }
+    ensures { λ r. ⌜ r ≡ lowest (linkWrong (lent (now (ax .entry)) (now (ay .entry)) (now (bx .entry)) (now (by .entry)) (now (aid .entry)) (now (bid .entry)) (now (start .entry)) (now (list .entry))) (now (top .entry)) (now (state .entry))) (length (now (aid .entry))) ⌝ }
+{
+    let n = aid.len();
+    let m = start.len() - 1;
+    let mut k = 0;
+    while k < n {
+        if misplaced(point_at(ax, ay, k), point_at(bx, by, k))
+            | misnamed(m, aid[k], bid[k])
+            | misflagged(top[k], state[k])
+        {
+            return k;
+        }
+        k += 1;
+    }
+    n
+}
+
+// ---- Check 4, of the shared graph: the lowest link whose a is before the previous link's a, or the number of links.
+fn out_of_order(ax: &[i32], ay: &[i32]) -> usize
+    requires { ⌜ length (now ay) ≡ length (now ax) ⌝ }
+    ensures { λ r. ⌜ r ≡ lowest (outOfOrder (pointAt (now (ax .entry)) (now (ay .entry)))) (length (now (ax .entry))) ⌝ }
+{
+    let n = ax.len();
+    let mut k = 1;
+    while k < n {
+        if before(point_at(ax, ay, k), point_at(ax, ay, k - 1)) {
+            return k;
+        }
+        k += 1;
+    }
+    n
+}
+
+// ---- Check 5, of the shared graph: whether a node from one start to the next has under two entries.
+fn short(from: u32, to: u32) -> bool
+    ensures { λ r. ⌜ r ≡ ltb to (from + 2) ⌝ }
+{
+    (to as usize) < from as usize + 2
+}
+
+// Whether a start falls, or leaves its node under two entries.
+fn any_short(start: &[u32]) -> bool
+    requires { ⌜ 1 ≤ length (now start) ⌝ }
+    ensures { λ r. ⌜ r ≡ some (short (now (start .entry))) (length (now (start .entry)) - 1) ⌝ }
+{
+    let m = start.len() - 1;
+    let mut v = 0;
+    while v < m {
+        if short(start[v], start[v + 1]) {
+            return true;
+        }
+        v += 1;
+    }
+    false
+}
+
+// Whether the starts are wrong for this list.
+fn bad_starts(start: &[u32], list: &[u32]) -> bool
+    requires { ⌜ 1 ≤ length (now start) ⌝ }
+    ensures { λ r. ⌜ r ≡ badStarts (now (start .entry)) (now (list .entry)) ⌝ }
+{
+    let m = start.len() - 1;
+    (wide(start[0]) != 0) | (wide(start[m]) != list.len()) | any_short(start)
+}
+
+// Node v's entries, a part of the list.
+pub fn entries<'a, 'b>(start: &'a [u32], list: &'b [u32], v: usize) -> &'b [u32]
+    requires { ⌜ Rising (now start) (now list) ⌝ }
+    requires { ⌜ v < length (now start) - 1 ⌝ }
+    ensures { λ r. ⌜ now r ≡ part (now (start .entry)) (now (list .entry)) v ⌝ }
+{
+    let from = wide(start[v]);
+    let to = wide(start[v + 1]);
+    &list[from..to]
+}
+
+// Whether e is no link with an end at node v.
+fn stray(aid: &[u32], bid: &[u32], v: usize, e: usize) -> bool
+    requires { ⌜ length (now bid) ≡ length (now aid) ⌝ }
+    ensures { λ r. ⌜ r ≡ stray (now (aid .entry)) (now (bid .entry)) v e ⌝ }
+{
+    if aid.len() <= e {
+        return true;
+    }
+    !(wide(aid[e]) == v) & !(wide(bid[e]) == v)
+}
+
+// Whether node v, with these entries, has such an e.
+fn stray_in(aid: &[u32], bid: &[u32], here: &[u32], v: usize) -> bool
+    requires { ⌜ length (now bid) ≡ length (now aid) ⌝ }
+    ensures { λ r. ⌜ r ≡ strayIn (now (aid .entry)) (now (bid .entry)) (now (here .entry)) v ⌝ }
+{
+    let mut i = 0;
+    while i < here.len() {
+        if stray(aid, bid, v, wide(here[i])) {
+            return true;
+        }
+        i += 1;
+    }
+    false
+}
+
+// Whether some node has an entry that is no link with an end there.
+fn any_stray(aid: &[u32], bid: &[u32], start: &[u32], list: &[u32]) -> bool
+    requires { ⌜ length (now bid) ≡ length (now aid) ⌝ }
+    requires { ⌜ Rising (now start) (now list) ⌝ }
+    ensures { λ r. ⌜ r ≡ some (strayAt (now (aid .entry)) (now (bid .entry)) (now (start .entry)) (now (list .entry))) (length (now (start .entry)) - 1) ⌝ }
+{
+    let m = start.len() - 1;
+    let mut v = 0;
+    while v < m {
+        if stray_in(aid, bid, entries(start, list, v), v) {
+            return true;
+        }
+        v += 1;
+    }
+    false
+}
+
+// How often x stands in a list.
+fn count(list: &[u32], x: usize) -> usize
+    ensures { λ r. ⌜ r ≡ count x (now (list .entry)) ⌝ }
+{
+    let mut n = 0;
+    let mut i = 0;
+    while i < list.len() {
+        if wide(list[i]) == x {
+            n += 1;
+        }
+        i += 1;
+    }
+    n
+}
+
+// Whether link k does not stand exactly once at node v.
+fn not_once(start: &[u32], list: &[u32], k: usize, v: usize) -> bool
+    requires { ⌜ Rising (now start) (now list) ⌝ }
+    requires { ⌜ v < length (now start) - 1 ⌝ }
+    ensures { λ r. ⌜ r ≡ notOnce (now (start .entry)) (now (list .entry)) k v ⌝ }
+{
+    count(entries(start, list, v), k) != 1
+}
+
+// Whether some link does not stand exactly once at its a node and once at its b node.
+fn any_missed(aid: &[u32], bid: &[u32], start: &[u32], list: &[u32]) -> bool
+    requires { ⌜ Rising (now start) (now list) ⌝ }
+    requires { ⌜ Ids (now aid) (now bid) (length (now start) - 1) ⌝ }
+    ensures { λ r. ⌜ r ≡ some (missed (now (aid .entry)) (now (bid .entry)) (now (start .entry)) (now (list .entry))) (length (now (aid .entry))) ⌝ }
+{
+    let mut k = 0;
+    while k < aid.len() {
+        if not_once(start, list, k, wide(aid[k])) | not_once(start, list, k, wide(bid[k])) {
+            return true;
+        }
+        k += 1;
+    }
+    false
+}
+
+// Whether the starts and the lists are wrong for the links.
+fn bad_nodes(aid: &[u32], bid: &[u32], start: &[u32], list: &[u32]) -> bool
+    requires { ⌜ Ids (now aid) (now bid) (length (now start) - 1) ⌝ }
+    requires { ⌜ 1 ≤ length (now start) ⌝ }
+    ensures { λ r. ⌜ r ≡ badNodes (now (aid .entry)) (now (bid .entry)) (now (start .entry)) (now (list .entry)) ⌝ }
+{
+    if bad_starts(start, list) {
+        return true;
+    }
+    any_stray(aid, bid, start, list) | any_missed(aid, bid, start, list)
+}
+
+// ---- Checks 6 and 7: the point of link k's end at node v; with a and b swapped, of its other end.
+pub fn end_at(ax: &[i32], ay: &[i32], bx: &[i32], by: &[i32], aid: &[u32], v: usize, k: usize) -> Point
+    requires { ⌜ Points (now ax) (now ay) (now bx) (now by) (length (now aid)) ⌝ }
+    requires { ⌜ k < length (now aid) ⌝ }
+    ensures { λ r. ⌜ r ≡ endAt (pointAt (now (ax .entry)) (now (ay .entry))) (pointAt (now (bx .entry)) (now (by .entry))) (nodeAt (now (aid .entry))) v k ⌝ }
+{
+    if wide(aid[k]) == v {
+        return point_at(ax, ay, k);
+    }
+    point_at(bx, by, k)
+}
+
+// The way that link k runs from node v.
+pub fn away(ax: &[i32], ay: &[i32], bx: &[i32], by: &[i32], aid: &[u32], v: usize, k: usize) -> Vector
+    requires { ⌜ Points (now ax) (now ay) (now bx) (now by) (length (now aid)) ⌝ }
+    requires { ⌜ Grids (now ax) (now ay) (now bx) (now by) (length (now aid)) ⌝ }
+    requires { ⌜ k < length (now aid) ⌝ }
+    ensures { λ r. ⌜ (r ≡ away (pointAt (now (ax .entry)) (now (ay .entry))) (pointAt (now (bx .entry)) (now (by .entry))) (nodeAt (now (aid .entry))) v k) × (Short r) ⌝ }
+{
+    between(end_at(ax, ay, bx, by, aid, v, k), end_at(bx, by, ax, ay, aid, v, k))
+}
+
+// ---- Check 6, of the shared graph: whether node v, with these entries, has ends at different points.
+fn apart_in(ax: &[i32], ay: &[i32], bx: &[i32], by: &[i32], aid: &[u32], here: &[u32], v: usize) -> bool
+    requires { ⌜ Points (now ax) (now ay) (now bx) (now by) (length (now aid)) ⌝ }
+    requires { ⌜ Below (now here) (length (now aid)) ⌝ }
+    ensures { λ r. ⌜ r ≡ apartIn (pointAt (now (ax .entry)) (now (ay .entry))) (pointAt (now (bx .entry)) (now (by .entry))) (nodeAt (now (aid .entry))) (now (here .entry)) v ⌝ }
+{
+    if here.len() == 0 {
+        return false;
+    }
+    let home = end_at(ax, ay, bx, by, aid, v, wide(here[0]));
+    let mut i = 1;
+    while i < here.len() {
+        if differ(home, end_at(ax, ay, bx, by, aid, v, wide(here[i]))) {
+            return true;
+        }
+        i += 1;
+    }
+    false
+}
+
+// The lowest node that check 6 refuses, or the number of nodes.
+fn apart_node(ax: &[i32], ay: &[i32], bx: &[i32], by: &[i32], aid: &[u32], start: &[u32], list: &[u32]) -> usize
+    requires { ⌜ Points (now ax) (now ay) (now bx) (now by) (length (now aid)) ⌝ }
+    requires { ⌜ Rising (now start) (now list) ⌝ }
+    requires { ⌜ Entries (now start) (now list) (length (now aid)) ⌝ }
+    ensures { λ r. ⌜ r ≡ lowest (apartAt (pointAt (now (ax .entry)) (now (ay .entry))) (pointAt (now (bx .entry)) (now (by .entry))) (nodeAt (now (aid .entry))) (part (now (start .entry)) (now (list .entry)))) (length (now (start .entry)) - 1) ⌝ }
+{
+    let m = start.len() - 1;
+    let mut v = 0;
+    while v < m {
+        if apart_in(ax, ay, bx, by, aid, entries(start, list, v), v) {
+            return v;
+        }
+        v += 1;
+    }
+    m
+}
+
+// ---- Check 7, of one band: whether links e and f are unskipped and run from node v in one direction.
+fn alike(ax: &[i32], ay: &[i32], bx: &[i32], by: &[i32], aid: &[u32], state: &[u8], v: usize, e: usize, f: usize) -> bool
+    requires { ⌜ Points (now ax) (now ay) (now bx) (now by) (length (now aid)) ⌝ }
+    requires { ⌜ Grids (now ax) (now ay) (now bx) (now by) (length (now aid)) ⌝ }
+    requires { ⌜ length (now state) ≡ length (now aid) ⌝ }
+    requires { ⌜ (e < length (now aid)) × (f < length (now aid)) ⌝ }
+    ensures { λ r. ⌜ r ≡ alike (pointAt (now (ax .entry)) (now (ay .entry))) (pointAt (now (bx .entry)) (now (by .entry))) (nodeAt (now (aid .entry))) (now (state .entry)) v e f ⌝ }
+{
+    if (state[e] == 1) | (state[f] == 1) {
+        return false;
+    }
+    same_direction(away(ax, ay, bx, by, aid, v, e), away(ax, ay, bx, by, aid, v, f))
+}
+
+// The lowest node that check 7 refuses, or the number of nodes: over nodes and pairs of entries, up to the first pair alike.
+fn alike_node(ax: &[i32], ay: &[i32], bx: &[i32], by: &[i32], aid: &[u32], start: &[u32], list: &[u32], state: &[u8]) -> usize
+    requires { ⌜ Points (now ax) (now ay) (now bx) (now by) (length (now aid)) ⌝ }
+    requires { ⌜ Grids (now ax) (now ay) (now bx) (now by) (length (now aid)) ⌝ }
+    requires { ⌜ length (now state) ≡ length (now aid) ⌝ }
+    requires { ⌜ Rising (now start) (now list) ⌝ }
+    requires { ⌜ Entries (now start) (now list) (length (now aid)) ⌝ }
+    ensures { λ r. ⌜ r ≡ lowest (alikeAt (pointAt (now (ax .entry)) (now (ay .entry))) (pointAt (now (bx .entry)) (now (by .entry))) (nodeAt (now (aid .entry))) (now (state .entry)) (part (now (start .entry)) (now (list .entry)))) (length (now (start .entry)) - 1) ⌝ }
+{
+    let m = start.len() - 1;
+    let mut v = 0;
+    'search: while v < m {
+        let here = entries(start, list, v);
+        let mut j = 0;
+        while j < here.len() {
+            let f = wide(here[j]);
+            let mut i = 0;
+            while i < j {
+                if alike(ax, ay, bx, by, aid, state, v, wide(here[i]), f) {
+                    break 'search;
+                }
+                i += 1;
+            }
+            j += 1;
+        }
+        v += 1;
+    }
+    v
+}
+
+// ---- The order of the checks: what checks 5, 6 and 7 say.
+fn check_nodes(ax: &[i32], ay: &[i32], bx: &[i32], by: &[i32], aid: &[u32], bid: &[u32], start: &[u32], list: &[u32], state: &[u8]) -> Checked
+    requires { ⌜ Points (now ax) (now ay) (now bx) (now by) (length (now aid)) ⌝ }
+    requires { ⌜ Grids (now ax) (now ay) (now bx) (now by) (length (now aid)) ⌝ }
+    requires { ⌜ length (now state) ≡ length (now aid) ⌝ }
+    requires { ⌜ Ids (now aid) (now bid) (length (now start) - 1) ⌝ }
+    requires { ⌜ 1 ≤ length (now start) ⌝ }
+    ensures { λ r. ⌜ r ≡ checkedNodes (lent (now (ax .entry)) (now (ay .entry)) (now (bx .entry)) (now (by .entry)) (now (aid .entry)) (now (bid .entry)) (now (start .entry)) (now (list .entry))) (now (state .entry)) ⌝ }
+{
+    if bad_nodes(aid, bid, start, list) {
+        return Checked::Refused { number: 5, place: 0 };
+    }
+    let m = start.len() - 1;
+    let v = apart_node(ax, ay, bx, by, aid, start, list);
+    if v < m {
+        return Checked::Refused { number: 6, place: v };
+    }
+    let w = alike_node(ax, ay, bx, by, aid, start, list, state);
+    if w < m {
+        return Checked::Refused { number: 7, place: w };
+    }
+    Checked::Fine
+}
+
+// What checks 3 to 7 say.
+fn check_links(ax: &[i32], ay: &[i32], bx: &[i32], by: &[i32], aid: &[u32], bid: &[u32], start: &[u32], list: &[u32], top: &[u8], state: &[u8]) -> Checked
+    requires { ⌜ Even (lent (now ax) (now ay) (now bx) (now by) (now aid) (now bid) (now start) (now list)) ⌝ }
+    requires { ⌜ (length (now top) ≡ length (now aid)) × (length (now state) ≡ length (now aid)) ⌝ }
+    requires { ⌜ 1 ≤ length (now start) ⌝ }
+    ensures { λ r. ⌜ r ≡ checkedLinks (lent (now (ax .entry)) (now (ay .entry)) (now (bx .entry)) (now (by .entry)) (now (aid .entry)) (now (bid .entry)) (now (start .entry)) (now (list .entry))) (now (top .entry)) (now (state .entry)) ⌝ }
+{
+    let n = aid.len();
+    let k = bad_link(ax, ay, bx, by, aid, bid, start, list, top, state);
+    if k < n {
+        return Checked::Refused { number: 3, place: k };
+    }
+    let l = out_of_order(ax, ay);
+    if l < n {
+        return Checked::Refused { number: 4, place: l };
+    }
+    check_nodes(ax, ay, bx, by, aid, bid, start, list, state)
+}
+
+// What checks 1 to 7 say of a lent graph, its tops and states, and the room for its answer: a buffer of so many numbers for the points, two to a point,
+// and the lengths of the contour table's three lists.
+pub fn check_graph(ax: &[i32], ay: &[i32], bx: &[i32], by: &[i32], aid: &[u32], bid: &[u32], start: &[u32], list: &[u32], top: &[u8], state: &[u8], points: usize, firsts: usize, lens: usize, kinds: usize) -> Checked
+    ensures { λ r. ⌜ r ≡ checked (lent (now (ax .entry)) (now (ay .entry)) (now (bx .entry)) (now (by .entry)) (now (aid .entry)) (now (bid .entry)) (now (start .entry)) (now (list .entry))) (now (top .entry)) (now (state .entry)) (room points firsts lens kinds) ⌝ }
+{
+    let n = aid.len();
+    if MAX_LINKS < n {
+        return Checked::Refused { number: 1, place: 0 };
+    }
+    if unlike(ax, ay, bx, by, aid, bid, start, list)
+        | few_points(n, points)
+        | unlike_band(n, top, state)
+        | few_contours(n, firsts, lens, kinds)
+    {
+        return Checked::Refused { number: 2, place: 0 };
+    }
+    check_links(ax, ay, bx, by, aid, bid, start, list, top, state)
+}

@@ -1,0 +1,10 @@
+-- The laws, leaves first.
+pub mod Test
+pub mod Lowest
+pub mod Int
+pub mod Ring
+pub mod Sign
+pub mod Order
+pub mod Bounds
+pub mod Unique
+pub mod Lists

@@ -1,0 +1,79 @@
+-- Lists beyond the kit's library: what a store leaves at every place, a map that a loop makes from an index on, members and their places.
+use Prim.Native.Nat.{ℕ, zero, suc, _+_, _≤_, _<_, zero-le, suc-le-suc}
+use native.Mathlib.Nat.{not-suc-le-zero, le-of-suc-le-suc}
+use native.Mathlib.Numerals.{add-one}
+use native.Mathlib.Omega.{arith}
+use native.Mathlib.Decide.{ℕ-discrete}
+use mathlib.Core.Path.{_≡_, refl, sym, ap, _∙_}
+use mathlib.Core.Logic.{⊎-elim}
+use mathlib.Core.List.{List, [], _∷_, _++_, map, append-nil, List·Memᴰ, List·Memᴰ·head, List·Memᴰ·tail, List·Memᴰ·not-nil, List·Memᴰ·cases-cons}
+use lib.ListN.{length, getD, set, take, drop, replicate, drop-of-length-le}
+use lib.Seq.{getD-set-same, getD-set-other, set-getD, take-all}
+
+-- ---- a list that a loop fills by rising index, read by place
+module _ {A : Type 0} (d : A) where
+  -- what is stored at i extends what holds below i
+  pub put-below : (f : ℕ → A) (l : List A) (i : ℕ) (v : A) → i < length l → v ≡ f i → ((j : ℕ) → j < i → getD l j d ≡ f j)
+      → (j : ℕ) → j < i + 1 → getD (set l i v) j d ≡ f j
+  put-below f l i v h e k j m = go (ℕ-discrete j i)
+    where
+      go : Dec (j ≡ i) → getD (set l i v) j d ≡ f j
+      go (yes p) = rw p (getD-set-same l i v d h ∙ e)
+      go (no n) = getD-set-other l i j v d n ∙ k j (omega arith)
+
+  -- and leaves what holds above i
+  pub put-above : (f : ℕ → A) (l : List A) (i : ℕ) (v : A) → ((j : ℕ) → i ≤ j → getD l j d ≡ f j)
+      → (j : ℕ) → i + 1 ≤ j → getD (set l i v) j d ≡ f j
+  put-above f l i v k j m = getD-set-other l i j v d (λ p. omega arith) ∙ k j (omega arith)
+
+-- ---- f at each element from index i on: what a loop that rewrites a list still has to do
+abbrev pub mapFrom : {A : Type 0} → (A → A) → ℕ → List A → List A
+mapFrom f i l = take i l ++ map f (drop i l)
+
+module _ {A : Type 0} (f : A → A) where
+  map-suc : (i : ℕ) (l : List A) (d y : A) → i < length l → y ≡ f (getD l i d) → mapFrom f (suc i) (set l i y) ≡ mapFrom f i l
+  map-suc i [] d y h e = absurd (not-suc-le-zero h)
+  map-suc zero (x ∷ xs) d y h e = ap (λ (z : A). z ∷ map f xs) e
+  map-suc (suc i) (x ∷ xs) d y h e = ap (λ (r : List A). x ∷ r) (map-suc i xs d y (le-of-suc-le-suc h) e)
+
+  -- a turn that stores
+  pub map-more : (i : ℕ) (l : List A) (d y : A) → i < length l → y ≡ f (getD l i d) → mapFrom f (i + 1) (set l i y) ≡ mapFrom f i l
+  map-more i l d y h e = rw (add-one i) (map-suc i l d y h e)
+
+  -- a turn that leaves the element
+  pub map-keep : (i : ℕ) (l : List A) (d : A) → i < length l → getD l i d ≡ f (getD l i d) → mapFrom f (i + 1) l ≡ mapFrom f i l
+  map-keep i l d h e = ap (mapFrom f (i + 1)) (sym (set-getD l i d)) ∙ map-more i l d (getD l i d) h e
+
+  -- past the end
+  pub map-end : (i : ℕ) (l : List A) → length l ≤ i → mapFrom f i l ≡ l
+  map-end i l h = rw (take-all i l h, drop-of-length-le l h) (append-nil l)
+
+  -- a map that leaves every element leaves the list
+  pub map-same : (l : List A) (d : A) → ((i : ℕ) → i < length l → f (getD l i d) ≡ getD l i d) → map f l ≡ l
+  map-same [] d h = refl
+  map-same (x ∷ xs) d h = rw (h 0 (omega arith)) (ap (λ (r : List A). x ∷ r) (map-same xs d (λ i k. h (suc i) (suc-le-suc k))))
+
+-- a list all of one element goes by the length alone
+pub map-const : {A B : Type 0} (z : B) (l : List A) → map (λ _. z) l ≡ replicate (length l) z
+map-const z [] = refl
+map-const {B = B} z (x ∷ xs) = ap (λ (r : List B). z ∷ r) (map-const z xs)
+
+-- ---- members, and the places that they stand at
+pub record Place {A : Type 0} (d x : A) (l : List A) : Type 0 where
+  pub place : ℕ
+  pub within : place < length l
+  pub here : getD l place d ≡ x
+
+module _ {A : Type 0} (d : A) where
+  next : {x y : A} {l : List A} → Place d x l → Place d x (y ∷ l)
+  next p = record { place = suc (p .place); within = suc-le-suc (p .within); here = p .here }
+
+  pub place-of : {x : A} (l : List A) → List·Memᴰ x l → Place d x l
+  place-of [] m = absurd (List·Memᴰ·not-nil m)
+  place-of {x} (y ∷ l) m =
+      ⊎-elim (λ (e : x ≡ y). record { place = 0; within = suc-le-suc zero-le; here = sym e }) (λ (n : List·Memᴰ x l). next (place-of l n)) (List·Memᴰ·cases-cons m)
+
+  pub member : (l : List A) (i : ℕ) → i < length l → List·Memᴰ (getD l i d) l
+  member [] i h = absurd (not-suc-le-zero h)
+  member (y ∷ l) zero h = List·Memᴰ·head refl
+  member (y ∷ l) (suc i) h = List·Memᴰ·tail (member l i (le-of-suc-le-suc h))

@@ -1,0 +1,69 @@
+use native.Mathlib.Omega.{arith}
+use mathlib.Core.Path.{_≡_, refl, sym, ap, _∙_}
+use Prim.Native.Nat.{ℕ, _+_, _*_, _-_, _/_, _≤_, _<_}
+use lib.ListN.{length, getD}
+use lib.ListN.{set, length-set}
+use borrow.Author.Count.{below-none}
+use Rattle.nearest.specs.Lists.{named}
+use Rattle.nearest.proofs.Put.{put-below}
+use Rattle.nearest.proofs.name_contours.Statement.{statement}
+use Rattle.nearest.proofs.name_contours.Tie as tie
+
+abbrev Inv-loop : tie.InvT-loop
+Inv-loop of n best m under₀ j₀ under j = (j ≤ m) × (length under ≡ length under₀) × ((i : ℕ) → i < j → getD under i 0 ≡ named of (getD best i 0))
+
+abbrev μ-loop : tie.MeasureT-loop
+μ-loop of n best m under₀ j₀ under j = m - j
+
+loop-holds : tie.Need-loop-holds Inv-loop μ-loop
+loop-holds c = let s = c .before .before .before in (omega arith, refl, below-none (λ i. getD (s .args .under .now) i 0 ≡ named (s .args .of .now) (getD (s .args .best .now) i 0)))
+
+mul-contour-of : tie.Need-mul-contour-of Inv-loop μ-loop
+mul-contour-of c = let s = c .before .before .before .before .before in omega (arith, s .good, s .pre .1)
+
+shared-slice-read-contour-of : tie.Need-shared-slice-read-contour-of Inv-loop μ-loop
+shared-slice-read-contour-of c = let s = c .before .before .before .before .before .before in omega (arith, s .pre .1)
+
+contour-of-requires : tie.Need-contour-of-requires Inv-loop μ-loop
+contour-of-requires c κs = let s = c .before .before .before .before .before .before in let l = c .before .before .loop in let b = s .pre .1 .2 (l .j) (c .before .loop-test .taken) in (omega (arith, s .pre .0 .0), λ k h. s .pre .0 .1 k (omega arith))
+
+mul-under : tie.Need-mul-under Inv-loop μ-loop
+mul-under c = let s = c .before .before .before .before .before .before .before in omega (arith, s .good, s .pre .1)
+
+slice-write-under : tie.Need-slice-write-under Inv-loop μ-loop
+slice-write-under c = let s = c .before .before .before .before .before .before .before in omega (arith, s .pre .1, c .before .before .before .loop .inv .1)
+
+add-j : tie.Need-add-j Inv-loop μ-loop
+add-j c = let s = c .before .before .before .before .before .before .before in omega (arith, s .good, s .pre .1)
+
+loop-less : tie.Need-loop-less Inv-loop μ-loop
+loop-less c = omega arith
+
+loop-again : tie.Need-loop-again Inv-loop μ-loop
+loop-again c =
+    let s = c .before .before .before .before .before .before .before in let l = c .before .before .before .loop in
+    (omega arith, simp length-set (l .inv .1), put-below 0 (λ i. named (s .args .of .now) (getD (s .args .best .now) i 0)) (l .under) (l .j) _ (omega (arith, s .pre .1, l .inv .1)) (c .contour-of .ensures) (l .inv .2))
+
+same-length : tie.Need-same-length Inv-loop μ-loop
+same-length c = c .before .loop .inv .1
+
+returns : tie.Need-returns Inv-loop μ-loop
+returns c = λ j h. c .before .loop .inv .2 j (omega arith)
+
+pub name-contours-spec : {M : Type 1} → statement M
+name-contours-spec =
+    tie.close
+    (tie.spec
+    Inv-loop
+    μ-loop
+    loop-holds
+    mul-contour-of
+    shared-slice-read-contour-of
+    contour-of-requires
+    mul-under
+    slice-write-under
+    add-j
+    loop-less
+    loop-again
+    same-length
+    returns)

@@ -1,0 +1,194 @@
+-- `nearer` is a strict order of the candidate edges up to their contour; and what `nearest` names counts, and no edge that counts is nearer.
+use Prim.Native.Nat.{ℕ, zero, suc, _+_, _-_, _≤_, _<_}
+use mathlib.Core.Path.{_≡_, refl, sym, ap, _∙_, subst}
+use mathlib.Core.Bool.{Bool, true, false, _&&_, _||_}
+use native.Mathlib.Omega.{arith}
+use native.Mathlib.Nat.{le-refl}
+use native.Mathlib.Numerals.{add-one}
+use native.Mathlib.Decide.{decLe}
+use mathlib.Core.Logic.{_⊎_, inl, inr}
+use lib.Dec.{T, eqb, ltb, ltb→lt, lt→ltb}
+use borrow.Author.Tests.{ne-eqb, eq-eqb, le-ltb, ltb-false}
+use lib.IntN.{ℤ, pos, _*ℤ_}
+use lib.Signed.{ltZ, leZ, _<ℤ_, _≤ℤ_}
+use Rattle.laws.specs.Test.{pick, Is, is-true, true-is, true≢false, not-true, and-true, true-and}
+use Rattle.laws.specs.Order.{lin, sub-pos}
+use Rattle.table.specs.declared.Anchor.{Anchor}
+use Rattle.nearest.specs.declared.Edge.{Edge}
+use Rattle.nearest.specs.Edges.{along, run, rise, spans, height, lower, lowerN, liesUnder, winsTie, nearer}
+use Rattle.nearest.specs.Search.{kept, offered, keep, nearest, contourUnder}
+use Rattle.nearest.specs.Compare.{lt-yes, le-yes, lower-trans, lowerN-trans, lower-same, lowerN-same, lower-neither, lowerN-neither}
+use Rattle.nearest.specs.Gaps.{rising, falling}
+
+-- ---- a strict order of the edges that run to the right
+pub nearer-trans : (a : Anchor) (e f g : Edge) → pos 0 <ℤ run e → pos 0 <ℤ run f → pos 0 <ℤ run g → T (nearer a e f) → T (nearer a f g) → T (nearer a e g)
+unfolding nearer winsTie
+nearer-trans a e f g he hf hg =
+    lower-trans (height a e *ℤ run f) (height a f *ℤ run e) (height a f *ℤ run g) (height a g *ℤ run f) (height a e *ℤ run g) (height a g *ℤ run e) _ _ _
+    (rising (height a e) (run e) (height a f) (run f) (height a g) (run g) he hf hg)
+    (lower-trans (rise f *ℤ run e) (rise e *ℤ run f) (rise g *ℤ run f) (rise f *ℤ run g) (rise g *ℤ run e) (rise e *ℤ run g) _ _ _
+    (falling (rise e) (run e) (rise f) (run f) (rise g) (run g) he hf hg)
+    (lowerN-trans (e .kind) (f .kind) (g .kind) _ _ _
+    (λ p q. lt→ltb (e .contour) (g .contour) (l p q))))
+  where
+    l : T (ltb (e .contour) (f .contour)) → T (ltb (f .contour) (g .contour)) → e .contour < g .contour
+    l p q = omega (arith, ltb→lt (e .contour) (f .contour) p, ltb→lt (f .contour) (g .contour) q)
+
+pub nearer-same : (a : Anchor) (e : Edge) → nearer a e e ≡ false
+unfolding nearer winsTie
+nearer-same a e =
+    lower-same (height a e *ℤ run e) _ ∙ lower-same (rise e *ℤ run e) _ ∙ lowerN-same (e .kind) _ ∙ le-ltb (e .contour) (e .contour) (le-refl (e .contour))
+
+-- of two edges neither of which is nearer, both are of one contour
+pub nearer-neither : (a : Anchor) (e f : Edge) → nearer a e f ≡ false → nearer a f e ≡ false → e .contour ≡ f .contour
+unfolding nearer winsTie
+nearer-neither a e f p q =
+    let gap = lower-neither (height a e *ℤ run f) (height a f *ℤ run e) _ _ p q in
+    let slope = lower-neither (rise f *ℤ run e) (rise e *ℤ run f) _ _ (gap .1) (gap .2) in
+    let kind = lowerN-neither (e .kind) (f .kind) _ _ (slope .1) (slope .2) in
+    omega (arith, ltb-false (e .contour) (f .contour) (kind .1), ltb-false (f .contour) (e .contour) (kind .2))
+
+-- ---- the search
+module _ (edge : ℕ → Edge) (gives : ℕ → Bool) (a : Anchor) where
+  -- edge k counts: its contour gives edges, and it spans the anchor and lies under
+  abbrev pub counts : ℕ → Bool
+  counts k = gives (edge k .contour) && (spans (a .at .x) (edge k) && liesUnder a (edge k))
+
+-- of the first n edges none counts
+pub record None (edge : ℕ → Edge) (gives : ℕ → Bool) (a : Anchor) (n : ℕ) : Type 0 where
+  pub not : (k : ℕ) → k < n → counts edge gives a k ≡ false
+
+-- edge b counts, and none that counts is nearer
+pub record Nearest (edge : ℕ → Edge) (gives : ℕ → Bool) (a : Anchor) (n b : ℕ) : Type 0 where
+  pub one : b < n
+  pub counted : counts edge gives a b ≡ true
+  pub least : (k : ℕ) → k < n → counts edge gives a k ≡ true → nearer a (edge k) (edge b) ≡ false
+
+-- by the number and 1, or 0
+abbrev pub Best : (ℕ → Edge) → (ℕ → Bool) → Anchor → ℕ → ℕ → Type 0
+Best edge gives a n zero = None edge gives a n
+Best edge gives a n (suc b) = Nearest edge gives a n b
+
+-- an edge that spans an anchor runs to the right
+pub spans-runs : (x : ℤ) (e : Edge) → spans x e ≡ true → pos 0 <ℤ run e
+spans-runs x e s =
+    let b = and-true (leZ (e .left .x) x) (ltZ x (e .right .x)) s in
+    sub-pos (e .left .x) (e .right .x) (between (le-yes _ _ (b .0)) (lt-yes _ _ (b .1)))
+  where
+    between : e .left .x ≤ℤ x → x <ℤ e .right .x → e .left .x <ℤ e .right .x
+    between p q = omega lin
+
+below-suc : (P : ℕ → Type 0) (i : ℕ) → ((k : ℕ) → k < i → P k) → P i → (k : ℕ) → k < suc i → P k
+below-suc P i h p k l = go (decLe (suc k) i)
+  where
+    go : Dec (k < i) → P k
+    go (yes d) = h k d
+    go (no d) = let e : k ≡ i = omega arith in rw e p
+
+-- what is kept, by whether the edge counts and is nearer
+pick-skip : (g s u w : Bool) (x b : ℕ) → g && (s && u) ≡ false → b ≡ pick g (pick s (pick (u && w) x b) b) b
+pick-skip true true true w x b e = absurd (true≢false refl e)
+pick-skip true true false w x b e = refl
+pick-skip true false u w x b e = refl
+pick-skip false s u w x b e = refl
+
+pick-won : (g s u w : Bool) (x b : ℕ) → g && (s && u) ≡ true → w ≡ true → x ≡ pick g (pick s (pick (u && w) x b) b) b
+pick-won true true true w x b e f = rw f
+pick-won true true false w x b e f = absurd (true≢false e refl)
+pick-won true false u w x b e f = absurd (true≢false e refl)
+pick-won false s u w x b e f = absurd (true≢false e refl)
+
+pick-lost : (g s u w : Bool) (x b : ℕ) → w ≡ false → b ≡ pick g (pick s (pick (u && w) x b) b) b
+pick-lost true true true w x b f = rw f
+pick-lost true true false w x b f = refl
+pick-lost true false u w x b f = refl
+pick-lost false s u w x b f = refl
+
+module _ (edge : ℕ → Edge) (gives : ℕ → Bool) (a : Anchor) where
+  counts-runs : (k : ℕ) → counts edge gives a k ≡ true → pos 0 <ℤ run (edge k)
+  counts-runs k e = spans-runs (a .at .x) (edge k) (and-true (spans (a .at .x) (edge k)) (liesUnder a (edge k)) (and-true (gives (edge k .contour)) _ e .1) .0)
+
+  -- one edge more
+  module _ (n : ℕ) where
+    -- it does not count
+    skip : counts edge gives a n ≡ false → (b : ℕ) → Best edge gives a n b → Best edge gives a (suc n) b
+    skip c zero r = record { not = below-suc (λ k. counts edge gives a k ≡ false) n (r .not) c }
+    skip c (suc b) r = record {
+      one = omega (arith, r .one);
+      counted = r .counted;
+      least = below-suc (λ k. counts edge gives a k ≡ true → nearer a (edge k) (edge b) ≡ false) n (r .least) (λ t. absurd (true≢false t c));
+    }
+
+    -- the first that does
+    first : counts edge gives a n ≡ true → None edge gives a n → Nearest edge gives a (suc n) n
+    first c r = record {
+      one = omega arith;
+      counted = c;
+      least = below-suc (λ k. counts edge gives a k ≡ true → nearer a (edge k) (edge n) ≡ false) n (λ k l t. absurd (true≢false t (r .not k l))) (λ t. nearer-same a (edge n));
+    }
+
+    -- it is nearer
+    won : counts edge gives a n ≡ true → (b : ℕ) → nearer a (edge n) (edge b) ≡ true → Nearest edge gives a n b → Nearest edge gives a (suc n) n
+    won c b w r = record {
+      one = omega arith;
+      counted = c;
+      least = below-suc (λ k. counts edge gives a k ≡ true → nearer a (edge k) (edge n) ≡ false) n (λ k m t. not-true _ (λ v. farther k m t v)) (λ t. nearer-same a (edge n));
+    }
+      where
+        farther : (k : ℕ) → k < n → counts edge gives a k ≡ true → nearer a (edge k) (edge n) ≡ true → ⊥
+        farther k m t v =
+            true≢false
+            (is-true (record { is = nearer-trans a (edge k) (edge n) (edge b) (counts-runs k t) (counts-runs n c) (counts-runs b (r .counted)) (true-is v .is) (true-is w .is) }))
+            (r .least k m t)
+
+    -- it is not
+    lost : (b : ℕ) → nearer a (edge n) (edge b) ≡ false → Nearest edge gives a n b → Nearest edge gives a (suc n) b
+    lost b w r = record {
+      one = omega (arith, r .one);
+      counted = r .counted;
+      least = below-suc (λ k. counts edge gives a k ≡ true → nearer a (edge k) (edge b) ≡ false) n (r .least) (λ t. w);
+    }
+
+    step : (b : ℕ) → Best edge gives a n b → Best edge gives a (suc n) (keep edge gives a n b)
+    unfolding keep offered kept
+    step b r = go (counts edge gives a n) refl b r
+      where
+        next : (b : ℕ) → counts edge gives a n ≡ true → (w : Bool) → nearer a (edge n) (edge b) ≡ w → Nearest edge gives a n b → Best edge gives a (suc n) (keep edge gives a n (suc b))
+        next b c true e r =
+            let q : suc b - 1 ≡ b = omega arith in
+            subst (Best edge gives a (suc n)) (sym (add-one n) ∙ pick-won (gives (edge n .contour)) (spans (a .at .x) (edge n)) (liesUnder a (edge n)) _ (n + 1) (suc b) c (rw (ne-eqb (suc b) 0 (λ z. omega arith), q) e)) (won c b e r)
+        next b c false e r =
+            let q : suc b - 1 ≡ b = omega arith in
+            subst (Best edge gives a (suc n)) (pick-lost (gives (edge n .contour)) (spans (a .at .x) (edge n)) (liesUnder a (edge n)) _ (n + 1) (suc b) (rw (ne-eqb (suc b) 0 (λ z. omega arith), q) e)) (lost b e r)
+        go : (c : Bool) → counts edge gives a n ≡ c → (b : ℕ) → Best edge gives a n b → Best edge gives a (suc n) (keep edge gives a n b)
+        go false c b r = subst (Best edge gives a (suc n)) (pick-skip (gives (edge n .contour)) (spans (a .at .x) (edge n)) (liesUnder a (edge n)) _ (n + 1) b c) (skip c b r)
+        go true c zero r = subst (Best edge gives a (suc n)) (sym (add-one n) ∙ pick-won (gives (edge n .contour)) (spans (a .at .x) (edge n)) (liesUnder a (edge n)) _ (n + 1) 0 c refl) (first c r)
+        go true c (suc b) r = next b c (nearer a (edge n) (edge b)) refl r
+
+  pub best : (n : ℕ) → Best edge gives a n (nearest edge gives a n)
+  unfolding nearest
+  best zero = record { not = λ k l. absurd (nothing k l) }
+    where
+      nothing : (k : ℕ) → k < 0 → ⊥
+      nothing k l = omega arith
+  best (suc n) = step n (nearest edge gives a n) (best n)
+
+  -- ---- the contour that the search answers is that of every nearest edge
+  one-contour : (n b c : ℕ) → Nearest edge gives a n b → Nearest edge gives a n c → edge b .contour ≡ edge c .contour
+  one-contour n b c r s = nearer-neither a (edge b) (edge c) (s .least b (r .one) (r .counted)) (r .least c (s .one) (s .counted))
+
+  answers : (n b c : ℕ) → Best edge gives a n b → Nearest edge gives a n c → pick (eqb b 0) 0 (edge (b - 1) .contour + 1) ≡ edge c .contour + 1
+  answers n zero c r s = absurd (true≢false (s .counted) (r .not c (s .one)))
+  answers n (suc b) c r s = let q : suc b - 1 ≡ b = omega arith in rw (ne-eqb (suc b) 0 (λ z. omega arith), q, one-contour n b c r s)
+
+  pub contour-under : (n c : ℕ) → Nearest edge gives a n c → contourUnder edge gives a n ≡ edge c .contour + 1
+  unfolding contourUnder
+  contour-under n c s = answers n (nearest edge gives a n) c (best n) s
+
+  none-answers : (n b : ℕ) → Best edge gives a n b → None edge gives a n → pick (eqb b 0) 0 (edge (b - 1) .contour + 1) ≡ 0
+  none-answers n zero r s = refl
+  none-answers n (suc b) r s = absurd (true≢false (r .counted) (s .not b (r .one)))
+
+  pub none-under : (n : ℕ) → None edge gives a n → contourUnder edge gives a n ≡ 0
+  unfolding contourUnder
+  none-under n s = none-answers n (nearest edge gives a n) (best n) s

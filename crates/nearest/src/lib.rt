@@ -1,0 +1,352 @@
+// The nearest edge under a point: candidate edges, what lies under an anchor, and the search, driven by edges.
+use table::Anchor;
+use turn::Point;
+use turn::Vector;
+
+ghost use mathlib.Core.Path.{_≡_};
+ghost use Prim.Native.Nat.{ℕ, _<_, _≤_};
+ghost use lib.ListN.{length, getD};
+ghost use lib.IntN.{natAbs, _*ℤ_};
+ghost use Rattle.turn.specs.Limits.{maxLinks};
+ghost use Rattle.turn.specs.Points.{OnGrid, Short, productBound, span};
+ghost use Rattle.table.specs.Table.{table, nextIn};
+ghost use Rattle.table.specs.Sound.{Sound};
+ghost use Rattle.nearest.specs.Edges.{height, liesUnder, winsTie, nearer, On, gapBound};
+ghost use Rattle.nearest.specs.Search.{kept as kept-of, searchUnder};
+ghost use Rattle.nearest.specs.Lists.{lists, listedEdge, anchors, anchorAt, giving, Fit, Flags, Placed, Sorted, Parted, Numbers, Offered, Nearests, named, Linked, Ranges, ranges, Round};
+
+// An edge from its left end to its right end, with its contour's kind (0 hull, 1 hole) and number.
+pub struct Edge {
+    pub left: Point,
+    pub right: Point,
+    pub kind: u8,
+    pub contour: u32,
+}
+
+// The vertical gap from the edge up to the anchor, times the edge's run.
+fn height_over(a: Anchor, e: Edge) -> i64
+    requires { ⌜ On a e ⌝ }
+    ensures { λ r. ⌜ (r ≡ height a e) × (natAbs r ≤ productBound) ⌝ }
+{
+    turn::turn_of(e.left, e.right, a.at)
+}
+
+// The anchor is strictly above the edge, or on it with its anchor edge strictly counterclockwise of it.
+fn lies_under(a: Anchor, e: Edge) -> bool
+    requires { ⌜ On a e ⌝ }
+    ensures { λ r. ⌜ r ≡ liesUnder a e ⌝ }
+{
+    let h = height_over(a, e);
+    if 0 < h {
+        return true;
+    }
+    if h < 0 {
+        return false;
+    }
+    0 < turn::cross_product(
+        turn::between(e.left, e.right),
+        turn::between(a.at, a.to),
+    )
+}
+
+// A height, or a rise, times a run: below 2^61.
+fn scaled(h: i64, run: i64) -> i64
+    requires { ⌜ (natAbs h ≤ productBound) × (natAbs run ≤ span) ⌝ }
+    ensures { λ r. ⌜ (r ≡ h *ℤ run) × (natAbs r ≤ gapBound) ⌝ }
+{
+    h * run
+}
+
+// Of two edges with one gap: the greatest slope, then hulls before holes, then the lower number.
+fn wins_tie(u: Vector, v: Vector, kind: u8, other_kind: u8, contour: u32, other: u32) -> bool
+    requires { ⌜ (Short u) × (Short v) ⌝ }
+    ensures { λ r. ⌜ r ≡ winsTie u v kind «other_kind» contour other ⌝ }
+{
+    let slope = scaled(u.y, v.x);
+    let other_slope = scaled(v.y, u.x);
+    if other_slope < slope {
+        return true;
+    }
+    if slope < other_slope {
+        return false;
+    }
+    (kind < other_kind) | (!(other_kind < kind) & (contour < other))
+}
+
+// e is nearer to the anchor than f: by the gaps as fractions, then as `wins_tie` says.
+fn is_nearer(a: Anchor, e: Edge, f: Edge) -> bool
+    requires { ⌜ (On a e) × (On a f) ⌝ }
+    ensures { λ r. ⌜ r ≡ nearer a e f ⌝ }
+{
+    let u = turn::between(e.left, e.right);
+    let v = turn::between(f.left, f.right);
+    let gap = scaled(height_over(a, e), v.x);
+    let other_gap = scaled(height_over(a, f), u.x);
+    if gap < other_gap {
+        return true;
+    }
+    if other_gap < gap {
+        return false;
+    }
+    wins_tie(u, v, e.kind, f.kind, e.contour, f.contour)
+}
+
+// Edge k, which begins at point k, with its ends the way round that makes a candidate run from left to right.
+fn edge_at(
+    points: &[i32],
+    next: &[u32],
+    of: &[u32],
+    kind: &[u8],
+    right: bool,
+    n: usize,
+    k: usize,
+) -> Edge
+    requires { ⌜ (Fit (lists (now points) (now next) (now of) (now kind) right) n) × (k < n) ⌝ }
+    ensures { λ r. ⌜ (r ≡ listedEdge (lists (now (points .entry)) (now (next .entry)) (now (of .entry)) (now (kind .entry)) right) k) × (OnGrid (r .left)) × (OnGrid (r .right)) ⌝ }
+{
+    let c = of[k];
+    let t = kind[c as usize];
+    let j = next[k] as usize;
+    let p = table::point_at(points, k);
+    let q = table::point_at(points, j);
+    if right {
+        Edge {
+            left: p,
+            right: q,
+            kind: t,
+            contour: c,
+        }
+    } else {
+        Edge {
+            left: q,
+            right: p,
+            kind: t,
+            contour: c,
+        }
+    }
+}
+
+// Anchor j.
+pub fn anchor_at(x: &[i32], y: &[i32], to_x: &[i32], to_y: &[i32], j: usize) -> Anchor
+    requires { ⌜ (j < length (now x)) × (j < length (now y)) × (j < length (now «to_x»)) × (j < length (now «to_y»)) ⌝ }
+    ensures { λ r. ⌜ r ≡ anchorAt (anchors (now (x .entry)) (now (y .entry)) (now («to_x» .entry)) (now («to_y» .entry))) j ⌝ }
+{
+    Anchor {
+        at: Point { x: x[j], y: y[j] },
+        to: Point { x: to_x[j], y: to_y[j] },
+    }
+}
+
+// The first of m numbers in order that is not below x.
+fn first_from(l: &[i32], m: usize, x: i32) -> usize
+    requires { ⌜ (m ≤ length (now l)) × (Sorted (now l) m) ⌝ }
+    ensures { λ r. ⌜ Parted (now (l .entry)) m x r ⌝ }
+{
+    let mut low = 0;
+    let mut high = m;
+    while low < high {
+        let middle = low + (high - low) / 2;
+        if l[middle] < x {
+            low = middle + 1;
+        } else {
+            high = middle;
+        }
+    }
+    low
+}
+
+// What an anchor keeps of the best edge so far, b (its number and 1, or 0: none), and edge k, which spans it.
+fn kept(
+    points: &[i32],
+    next: &[u32],
+    of: &[u32],
+    kind: &[u8],
+    right: bool,
+    n: usize,
+    a: Anchor,
+    e: Edge,
+    k: usize,
+    b: u32,
+) -> u32
+    requires { ⌜ (Fit (lists (now points) (now next) (now of) (now kind) right) n) × (n ≤ maxLinks) ⌝ }
+    requires { ⌜ (k < n) × (b ≤ n) × (e ≡ listedEdge (lists (now points) (now next) (now of) (now kind) right) k) × (On a e) ⌝ }
+    ensures { λ r. ⌜ r ≡ kept-of (listedEdge (lists (now (points .entry)) (now (next .entry)) (now (of .entry)) (now (kind .entry)) right)) a k b ⌝ }
+{
+    if !lies_under(a, e) {
+        return b;
+    }
+    if b == 0 {
+        return k as u32 + 1;
+    }
+    let f = edge_at(points, next, of, kind, right, n, (b - 1) as usize);
+    if is_nearer(a, e, f) {
+        k as u32 + 1
+    } else {
+        b
+    }
+}
+
+// Edge k is offered to every anchor that it spans. They stand together: the anchors are in order by x.
+fn offer(
+    points: &[i32],
+    next: &[u32],
+    of: &[u32],
+    kind: &[u8],
+    right: bool,
+    n: usize,
+    x: &[i32],
+    y: &[i32],
+    to_x: &[i32],
+    to_y: &[i32],
+    m: usize,
+    best: &mut [u32],
+    k: usize,
+)
+    requires { ⌜ (Fit (lists (now points) (now next) (now of) (now kind) right) n) × (n ≤ maxLinks) × (k < n) ⌝ }
+    requires { ⌜ Placed (anchors (now x) (now y) (now «to_x») (now «to_y»)) m ⌝ }
+    requires { ⌜ (m ≤ length (now best)) × (Numbers (now best) m n) ⌝ }
+    ensures { λ _. ⌜ Offered (lists (now (points .entry)) (now (next .entry)) (now (of .entry)) (now (kind .entry)) right) (anchors (now (x .entry)) (now (y .entry)) (now («to_x» .entry)) (now («to_y» .entry))) m k (now (best .entry)) (now (best .exit)) ⌝ }
+{
+    let e = edge_at(points, next, of, kind, right, n, k);
+    let start = e.left.x;
+    let end = e.right.x;
+    if end <= start {
+        return;
+    }
+    let mut j = first_from(x, m, start);
+    while j < m {
+        if end <= x[j] {
+            return;
+        }
+        let a = anchor_at(x, y, to_x, to_y, j);
+        let b = best[j];
+        best[j] = kept(points, next, of, kind, right, n, a, e, k, b);
+        j += 1;
+    }
+}
+
+// The nearest edge under every anchor, of the first n, of the contours that are not mute.
+fn nearest_edges(
+    points: &[i32],
+    next: &[u32],
+    of: &[u32],
+    kind: &[u8],
+    right: bool,
+    n: usize,
+    mute: &[u8],
+    x: &[i32],
+    y: &[i32],
+    to_x: &[i32],
+    to_y: &[i32],
+    m: usize,
+    best: &mut [u32],
+)
+    requires { ⌜ (Fit (lists (now points) (now next) (now of) (now kind) right) n) × (n ≤ maxLinks) × (Flags (now of) (now mute) n) ⌝ }
+    requires { ⌜ Placed (anchors (now x) (now y) (now «to_x») (now «to_y»)) m ⌝ }
+    requires { ⌜ (m ≤ length (now best)) × ((j : ℕ) → j < m → getD (now best) j 0 ≡ 0) ⌝ }
+    ensures { λ _. ⌜ Nearests (lists (now (points .entry)) (now (next .entry)) (now (of .entry)) (now (kind .entry)) right) (now (mute .entry)) n (anchors (now (x .entry)) (now (y .entry)) (now («to_x» .entry)) (now («to_y» .entry))) m (now (best .exit)) ⌝ }
+{
+    let mut k = 0;
+    while k < n {
+        if mute[of[k] as usize] != 0 {
+            k += 1;
+            continue;
+        }
+        offer(
+            points, next, of, kind, right, n, x, y, to_x, to_y, m, best, k,
+        );
+        k += 1;
+    }
+}
+
+// The contour of an edge, and 1, by the edge's number and 1; 0 where there is none.
+fn contour_of(of: &[u32], b: u32) -> u32
+    requires { ⌜ (b ≤ length (now of)) × ((k : ℕ) → k < b → getD (now of) k 0 < maxLinks) ⌝ }
+    ensures { λ r. ⌜ r ≡ named (now (of .entry)) b ⌝ }
+{
+    if b == 0 {
+        return 0;
+    }
+    of[(b - 1) as usize] + 1
+}
+
+// The contours of m of the first n edges.
+fn name_contours(of: &[u32], n: usize, best: &[u32], m: usize, under: &mut [u32])
+    requires { ⌜ (n ≤ length (now of)) × ((k : ℕ) → k < n → getD (now of) k 0 < maxLinks) ⌝ }
+    requires { ⌜ (m ≤ length (now best)) × (m ≤ length (now under)) × (Numbers (now best) m n) ⌝ }
+    ensures { λ _. ⌜ ((j : ℕ) → j < m → getD (now (under .exit)) j 0 ≡ named (now (of .entry)) (getD (now (best .entry)) j 0)) ⌝ }
+{
+    let mut j = 0;
+    while j < m {
+        under[j] = contour_of(of, best[j]);
+        j += 1;
+    }
+}
+
+// The point after point k, round a contour that stands from a position up to another.
+fn follows(k: usize, from: usize, to: usize) -> u32
+    requires { ⌜ (from ≤ k) × (k < to) × (to ≤ maxLinks) ⌝ }
+    ensures { λ r. ⌜ r ≡ nextIn from to k ⌝ }
+{
+    if k + 1 == to { from as u32 } else { k as u32 + 1 }
+}
+
+// The points from..to are contour c's.
+fn link_contour(next: &mut [u32], of: &mut [u32], c: u32, from: usize, to: usize)
+    requires { ⌜ (from ≤ to) × (to ≤ maxLinks) × (to ≤ length (now next)) × (to ≤ length (now of)) ⌝ }
+    ensures { λ _. ⌜ Linked c from to (now (next .entry)) (now (of .entry)) (now (next .exit)) (now (of .exit)) ⌝ }
+{
+    let mut k = from;
+    while k < to {
+        of[k] = c;
+        next[k] = follows(k, from, to);
+        k += 1;
+    }
+}
+
+// For every point the one after it round its contour, and its contour.
+fn link(first: &[u32], len: &[u32], next: &mut [u32], of: &mut [u32])
+    requires { ⌜ (Ranges (now first) (now len)) × (maxLinks ≤ length (now next)) × (maxLinks ≤ length (now of)) ⌝ }
+    ensures { λ _. ⌜ Round (ranges (now (first .entry)) (now (len .entry))) (length (now (first .entry))) (now (next .exit)) (now (of .exit)) ⌝ }
+{
+    let mut c = 0;
+    while c < first.len() {
+        let from = first[c] as usize;
+        let to = from + len[c] as usize;
+        link_contour(next, of, c as u32, from, to);
+        c += 1;
+    }
+}
+
+// The search: for each of m anchors the contour, and 1, of the nearest edge under it, 0 where there is none. Candidate edges have fill above, or below; the contours that give edges are giving.
+pub fn contours_under(
+    points: &[i32],
+    first: &[u32],
+    len: &[u32],
+    kind: &[u8],
+    above: bool,
+    clockwise: bool,
+    mute: &[u8],
+    x: &[i32],
+    y: &[i32],
+    to_x: &[i32],
+    to_y: &[i32],
+    m: usize,
+    under: &mut [u32],
+)
+    requires { ⌜ Sound (table (now points) (now first) (now len) (now kind)) ⌝ }
+    requires { ⌜ (length (now first) ≤ length (now mute)) × (m ≤ maxLinks) × (m ≤ length (now under)) ⌝ }
+    requires { ⌜ Placed (anchors (now x) (now y) (now «to_x») (now «to_y»)) m ⌝ }
+    ensures { λ _. ⌜ ((j : ℕ) → j < m → getD (now (under .exit)) j 0 ≡ searchUnder (table (now (points .entry)) (now (first .entry)) (now (len .entry)) (now (kind .entry))) above clockwise (giving (now (mute .entry))) (anchorAt (anchors (now (x .entry)) (now (y .entry)) (now («to_x» .entry)) (now («to_y» .entry))) j)) ⌝ }
+{
+    let n = points.len() / 2;
+    let right = (above & !clockwise) | (!above & clockwise);
+    let mut next = [0u32; 4096];
+    let mut of = [0u32; 4096];
+    let mut best = [0u32; 4096];
+    link(first, len, &mut next, &mut of);
+    nearest_edges(
+        points, &next, &of, kind, right, n, mute, x, y, to_x, to_y, m, &mut best,
+    );
+    name_contours(&of, n, &best, m, under);
+}

@@ -1,0 +1,8 @@
+-- The definitions that the contracts cite, then the laws of them.
+pub mod Next
+pub mod Known
+pub mod Passed
+pub mod States
+pub mod Choice
+pub mod Topmost
+pub mod Fine

@@ -1,0 +1,354 @@
+// The first link of a walk and the next link at a node (document 01, "Walking", rules 1 and 3).
+use turn::Point;
+use turn::Vector;
+ghost use mathlib.Core.Path.{_≡_};
+ghost use mathlib.Core.Bool.{true};
+ghost use mathlib.Core.List.{List, []};
+ghost use Prim.Native.Nat.{ℕ, _+_, _<_, _≤_};
+ghost use lib.Dec.{eqb};
+ghost use lib.ListN.{length, getD};
+ghost use Rattle.laws.specs.Test.{pick};
+ghost use Rattle.turn.specs.Points.{Short, clockwise};
+ghost use Rattle.turn.specs.Angle.{metBefore};
+ghost use Rattle.graph.specs.Graph.{lent, graphOf, pointAt};
+ghost use Rattle.next.specs.Next.{isOpen, opens, onlyOpen, runs, metFirst, best, firstMet, nextLink, replaces, topmost, firstLink};
+ghost use Rattle.next.specs.Known.{Links, Nodes, Numbers, Unvisited, linksOf, stretch, rayOf, sideOf};
+ghost use Rattle.next.specs.Passed.{Passed};
+
+// What the rules name as the first, last or next link: an unvisited link, or nothing.
+pub enum Next {
+    Link(usize),
+    Nothing,
+}
+
+// A link with the way that it runs from a node.
+struct Ray {
+    link: usize,
+    way: Vector,
+}
+
+// A link with its points.
+struct Side {
+    link: usize,
+    a: Point,
+    b: Point,
+}
+
+fn wide(x: u32) -> usize
+    ensures { λ r. ⌜ r ≡ x ⌝ }
+{
+    x as usize
+}
+
+// An entry of a list of numbers.
+fn number(list: &[u32], i: usize) -> usize
+    requires { ⌜ i < length (now list) ⌝ }
+    ensures { λ r. ⌜ r ≡ getD (now (list .entry)) i 0 ⌝ }
+{
+    wide(list[i])
+}
+
+fn point(x: &[i32], y: &[i32], k: usize) -> Point
+    requires { ⌜ (k < length (now x)) × (k < length (now y)) ⌝ }
+    ensures { λ r. ⌜ r ≡ pointAt (now (x .entry)) (now (y .entry)) k ⌝ }
+{
+    Point { x: x[k], y: y[k] }
+}
+
+// A link that the rule names, if it is unvisited.
+fn only_unvisited(state: &[u8], k: usize) -> Next
+    requires { ⌜ k < length (now state) ⌝ }
+    ensures { λ r. ⌜ r ≡ onlyOpen (now (state .entry)) k ⌝ }
+{
+    if state[k] == 0 {
+        return Next::Link(k);
+    }
+    Next::Nothing
+}
+
+// Where the first unvisited link stands in a list, from one position up to another, which is the answer if there is none.
+fn unvisited_from(list: &[u32], state: &[u8], from: usize, to: usize) -> usize
+    requires { ⌜ (from ≤ to) × (to ≤ length (now list)) × (Numbers (now list) from to (length (now state))) ⌝ }
+    ensures { λ r. ⌜ Passed (now (list .entry)) (now (state .entry)) from to r ⌝ }
+{
+    let mut i = from;
+    while i < to {
+        if state[number(list, i)] == 0 {
+            return i;
+        }
+        i += 1;
+    }
+    i
+}
+
+// Link k with the way that it runs from its end at a node.
+fn ray_of(ax: &[i32], ay: &[i32], bx: &[i32], by: &[i32], aid: &[u32], node: usize, k: usize) -> Ray
+    requires { ⌜ Links (now ax) (now ay) (now bx) (now by) (length (now aid)) ⌝ }
+    requires { ⌜ k < length (now aid) ⌝ }
+    ensures { λ r. ⌜ r ≡ rayOf (linksOf (now (ax .entry)) (now (ay .entry)) (now (bx .entry)) (now (by .entry)) (now (aid .entry))) node k ⌝ }
+    ensures { λ r. ⌜ Short (r .way) ⌝ }
+{
+    let a = point(ax, ay, k);
+    let b = point(bx, by, k);
+    if number(aid, k) == node {
+        return Ray {
+            link: k,
+            way: turn::between(a, b),
+        };
+    }
+    Ray {
+        link: k,
+        way: turn::between(b, a),
+    }
+}
+
+// The one of two links that is met first, turning from a way; the choice so far where neither is before the other.
+fn nearer(sense: bool, from: Vector, choice: Ray, other: Ray) -> Ray
+    requires { ⌜ (Short from) × (Short (choice .way)) × (Short (other .way)) ⌝ }
+    ensures { λ r. ⌜ r ≡ pick (metBefore sense from (other .way) (choice .way)) other choice ⌝ }
+{
+    if turn::met_before(sense, from, other.way, choice.way) {
+        return other;
+    }
+    choice
+}
+
+// Of link k and the unvisited links of the list from position i on, the first met when turning from a link.
+fn nearest(
+    ax: &[i32],
+    ay: &[i32],
+    bx: &[i32],
+    by: &[i32],
+    aid: &[u32],
+    list: &[u32],
+    state: &[u8],
+    sense: bool,
+    node: usize,
+    link: usize,
+    k: usize,
+    second: usize,
+    to: usize,
+) -> usize
+    requires { ⌜ Links (now ax) (now ay) (now bx) (now by) (length (now aid)) ⌝ }
+    requires { ⌜ (length (now state) ≡ length (now aid)) × (link < length (now aid)) × (k < length (now aid)) ⌝ }
+    requires { ⌜ (second ≤ to) × (to ≤ length (now list)) × (Numbers (now list) second to (length (now aid))) ⌝ }
+    requires { ⌜ (second < to → isOpen (now state) (getD (now list) second 0) ≡ true) ⌝ }
+    ensures { λ r. ⌜ r ≡ best (metFirst (linksOf (now (ax .entry)) (now (ay .entry)) (now (bx .entry)) (now (by .entry)) (now (aid .entry))) sense node link) k (opens (now (state .entry)) (stretch (now (list .entry)) second to)) ⌝ }
+{
+    let walked = ray_of(ax, ay, bx, by, aid, node, link);
+    let from = walked.way;
+    let mut choice = ray_of(ax, ay, bx, by, aid, node, k);
+    let mut i = second;
+    while i < to {
+        let other = ray_of(ax, ay, bx, by, aid, node, number(list, i));
+        choice = nearer(sense, from, choice, other);
+        i = unvisited_from(list, state, i + 1, to);
+    }
+    choice.link
+}
+
+// Rule 3 at a `Cross`: of the unvisited links, the first met when turning from the link just walked. No direction is read where there is no choice.
+fn find_nearest_link_to(
+    ax: &[i32],
+    ay: &[i32],
+    bx: &[i32],
+    by: &[i32],
+    aid: &[u32],
+    list: &[u32],
+    state: &[u8],
+    sense: bool,
+    node: usize,
+    link: usize,
+    from: usize,
+    to: usize,
+) -> Next
+    requires { ⌜ Links (now ax) (now ay) (now bx) (now by) (length (now aid)) ⌝ }
+    requires { ⌜ (length (now state) ≡ length (now aid)) × (link < length (now aid)) ⌝ }
+    requires { ⌜ (from ≤ to) × (to ≤ length (now list)) × (Numbers (now list) from to (length (now aid))) ⌝ }
+    ensures { λ r. ⌜ r ≡ firstMet (metFirst (linksOf (now (ax .entry)) (now (ay .entry)) (now (bx .entry)) (now (by .entry)) (now (aid .entry))) sense node link) (opens (now (state .entry)) (stretch (now (list .entry)) from to)) ⌝ }
+{
+    let first = unvisited_from(list, state, from, to);
+    if first == to {
+        return Next::Nothing;
+    }
+    let k = number(list, first);
+    let second = unvisited_from(list, state, first + 1, to);
+    if second == to {
+        return Next::Link(k);
+    }
+    Next::Link(nearest(
+        ax,
+        ay,
+        bx,
+        by,
+        aid,
+        list,
+        state,
+        sense,
+        node,
+        link,
+        k,
+        second,
+        to,
+    ))
+}
+
+// Rule 3: the next link at a node, turning clockwise from the link just walked if the sense is true.
+pub fn next_link(
+    ax: &[i32],
+    ay: &[i32],
+    bx: &[i32],
+    by: &[i32],
+    aid: &[u32],
+    start: &[u32],
+    list: &[u32],
+    state: &[u8],
+    sense: bool,
+    node: usize,
+    link: usize,
+) -> Next
+    requires { ⌜ Links (now ax) (now ay) (now bx) (now by) (length (now state)) ⌝ }
+    requires { ⌜ Nodes (now aid) (now start) (now list) (length (now state)) ⌝ }
+    requires { ⌜ (node + 1 < length (now start)) × (link < length (now state)) ⌝ }
+    ensures { λ r. ⌜ ((bid top : List ℕ) → r ≡ nextLink (graphOf (lent (now (ax .entry)) (now (ay .entry)) (now (bx .entry)) (now (by .entry)) (now (aid .entry)) bid (now (start .entry)) (now (list .entry))) top) sense (now (state .entry)) node link) ⌝ }
+    ensures { λ r. ⌜ Unvisited (now (state .entry)) r ⌝ }
+{
+    let from = number(start, node);
+    let to = number(start, node + 1);
+    if to - from == 2 {
+        let l0 = number(list, from);
+        let l1 = number(list, from + 1);
+        if l0 == link {
+            return only_unvisited(state, l1);
+        }
+        return only_unvisited(state, l0);
+    }
+    find_nearest_link_to(
+        ax,
+        ay,
+        bx,
+        by,
+        aid,
+        list,
+        state,
+        sense,
+        node,
+        link,
+        from,
+        to,
+    )
+}
+
+// Rule 1 at a `Bridge` with entries l0 and l1.
+fn find_left_top_link_on_bridge(
+    ax: &[i32],
+    ay: &[i32],
+    bx: &[i32],
+    by: &[i32],
+    state: &[u8],
+    l0: usize,
+    l1: usize,
+) -> Next
+    requires { ⌜ Links (now ax) (now ay) (now bx) (now by) (length (now state)) ⌝ }
+    requires { ⌜ (l0 < length (now state)) × (l1 < length (now state)) ⌝ }
+    ensures { λ r. ⌜ r ≡ onlyOpen (now (state .entry)) (pick (clockwise (pointAt (now (ax .entry)) (now (ay .entry)) l0) (pointAt (now (bx .entry)) (now (by .entry)) l0) (pointAt (now (bx .entry)) (now (by .entry)) l1)) l0 l1) ⌝ }
+{
+    let a = point(ax, ay, l0);
+    let b = point(bx, by, l0);
+    let c = point(bx, by, l1);
+    if turn::clockwise(a, b, c) {
+        return only_unvisited(state, l0);
+    }
+    only_unvisited(state, l1)
+}
+
+// Rule 1 at a `Cross`: entry x in the choice's place, unless it is k, visited, skipped, or its b is strictly clockwise of the choice.
+fn higher(
+    ax: &[i32],
+    ay: &[i32],
+    bx: &[i32],
+    by: &[i32],
+    state: &[u8],
+    k: usize,
+    choice: Side,
+    x: usize,
+) -> Side
+    requires { ⌜ Links (now ax) (now ay) (now bx) (now by) (length (now state)) ⌝ }
+    requires { ⌜ (choice .link < length (now state)) × (x < length (now state)) ⌝ }
+    requires { ⌜ choice ≡ sideOf (linksOf (now ax) (now ay) (now bx) (now by) []) (choice .link) ⌝ }
+    ensures { λ r. ⌜ r ≡ sideOf (linksOf (now (ax .entry)) (now (ay .entry)) (now (bx .entry)) (now (by .entry)) []) (pick (replaces (linksOf (now (ax .entry)) (now (ay .entry)) (now (bx .entry)) (now (by .entry)) []) (now (state .entry)) k (choice .link) x) x (choice .link)) ⌝ }
+{
+    if x == k {
+        return choice;
+    }
+    if state[x] != 0 {
+        return choice;
+    }
+    let b = point(bx, by, x);
+    if turn::clockwise(choice.a, choice.b, b) {
+        return choice;
+    }
+    Side {
+        link: x,
+        a: point(ax, ay, x),
+        b: b,
+    }
+}
+
+// Rule 1 at a `Cross`: from k through its list.
+fn find_left_top_link_on_indices(
+    ax: &[i32],
+    ay: &[i32],
+    bx: &[i32],
+    by: &[i32],
+    list: &[u32],
+    state: &[u8],
+    k: usize,
+    from: usize,
+    to: usize,
+) -> usize
+    requires { ⌜ Links (now ax) (now ay) (now bx) (now by) (length (now state)) ⌝ }
+    requires { ⌜ (from ≤ to) × (to ≤ length (now list)) × (Numbers (now list) from to (length (now state))) × (k < length (now state)) ⌝ }
+    ensures { λ r. ⌜ r ≡ topmost (linksOf (now (ax .entry)) (now (ay .entry)) (now (bx .entry)) (now (by .entry)) []) (now (state .entry)) k k (stretch (now (list .entry)) from to) ⌝ }
+{
+    let mut choice = Side {
+        link: k,
+        a: point(ax, ay, k),
+        b: point(bx, by, k),
+    };
+    let mut i = from;
+    while i < to {
+        choice = higher(ax, ay, bx, by, state, k, choice, number(list, i));
+        i += 1;
+    }
+    choice.link
+}
+
+// Rule 1: the first link of the walk that the scan starts at link k, which is unvisited.
+pub fn find_left_top_link(
+    ax: &[i32],
+    ay: &[i32],
+    bx: &[i32],
+    by: &[i32],
+    aid: &[u32],
+    start: &[u32],
+    list: &[u32],
+    state: &[u8],
+    k: usize,
+) -> Next
+    requires { ⌜ Links (now ax) (now ay) (now bx) (now by) (length (now state)) ⌝ }
+    requires { ⌜ Nodes (now aid) (now start) (now list) (length (now state)) ⌝ }
+    requires { ⌜ isOpen (now state) k ≡ true ⌝ }
+    ensures { λ r. ⌜ ((bid top : List ℕ) → r ≡ firstLink (graphOf (lent (now (ax .entry)) (now (ay .entry)) (now (bx .entry)) (now (by .entry)) (now (aid .entry)) bid (now (start .entry)) (now (list .entry))) top) (now (state .entry)) k) ⌝ }
+    ensures { λ r. ⌜ Unvisited (now (state .entry)) r ⌝ }
+{
+    let node = number(aid, k);
+    let from = number(start, node);
+    let to = number(start, node + 1);
+    if to - from == 2 {
+        let l0 = number(list, from);
+        let l1 = number(list, from + 1);
+        return find_left_top_link_on_bridge(ax, ay, bx, by, state, l0, l1);
+    }
+    Next::Link(find_left_top_link_on_indices(ax, ay, bx, by, list, state, k, from, to))
+}

@@ -1,0 +1,100 @@
+use mathlib.Core.List.{_++_}
+use Rattle.print.specs.Text.{text}
+use Rattle.print.specs.Decimal.{decimal, decimalZ}
+use Rattle.print.specs.Answer.{said, roleText, header, contourLine, pointLine}
+use Rattle.print.specs.Write.{left-all, left-from-0, left-after, left-last, piece-fits, last-fits}
+use borrow.Author.Needs.{needs}
+use Rattle.print.proofs.write_contour_line.Statement.{statement}
+use Rattle.print.proofs.write_contour_line.Tie as tie
+use Rattle.print.proofs.write_contour_line.Reads as reads
+use Rattle.print.proofs.write_contour_line.Lts as lts
+use Rattle.print.proofs.write_decimal.Reads as write-decimal-reads
+use Rattle.print.proofs.write_role.Reads as write-role-reads
+use Rattle.print.proofs.write_said.Reads as write-said-reads
+use Rattle.print.proofs.write_text.Reads as write-text-reads
+
+write-decimal-requires : tie.Need-write-decimal-requires
+unfolding contourLine
+write-decimal-requires c κs = 
+    let a = c .before .before .args in
+    let p = decimal (a .number) in
+    let q = said (roleText (a .kind) (a .owner)) (a .owner) in
+    let r = said (text " ") (a .len) in
+    let e = text "\n" in
+    let l0 = left-all (a .out .now) (a .at) (contourLine (a .number) (a .kind) (a .owner) (a .len)) (c .before .before .pre) in
+    piece-fits p (q ++ (r ++ e)) l0
+
+write-role-requires : tie.Need-write-role-requires
+unfolding contourLine
+write-role-requires c κs = 
+    let a = c .before .before .before .before .before .before .args in
+    let p = decimal (a .number) in
+    let q = said (roleText (a .kind) (a .owner)) (a .owner) in
+    let r = said (text " ") (a .len) in
+    let e = text "\n" in
+    let l0 = left-all (a .out .now) (a .at) (contourLine (a .number) (a .kind) (a .owner) (a .len)) (c .before .before .before .before .before .before .pre) in
+    let l1 = left-after p (q ++ (r ++ e)) l0 (c .before .before .before .write-decimal .ensures) in
+    piece-fits q (r ++ e) l1
+
+slice-aggregate-write-said : tie.Need-slice-aggregate-write-said
+slice-aggregate-write-said c = search needs
+
+write-said-requires : tie.Need-write-said-requires
+unfolding contourLine
+write-said-requires c κs = 
+    let a = c .before .before .before .before .before .before .before .before .before .before .before .args in
+    let p = decimal (a .number) in
+    let q = said (roleText (a .kind) (a .owner)) (a .owner) in
+    let r = said (text " ") (a .len) in
+    let e = text "\n" in
+    let l0 = left-all (a .out .now) (a .at) (contourLine (a .number) (a .kind) (a .owner) (a .len)) (c .before .before .before .before .before .before .before .before .before .before .before .pre) in
+    let l1 = left-after p (q ++ (r ++ e)) l0 (c .before .before .before .before .before .before .before .before .write-decimal .ensures) in
+    let l2 = left-after q (r ++ e) l1 (c .before .before .before .before .write-role .ensures) in
+    piece-fits r e l2
+
+slice-aggregate-write-text : tie.Need-slice-aggregate-write-text
+slice-aggregate-write-text c = search needs
+
+write-text-requires : tie.Need-write-text-requires
+unfolding contourLine
+write-text-requires c κs = 
+    let a = c .before .before .before .before .before .before .before .before .before .before .before .before .before .before .before .before .args in
+    let p = decimal (a .number) in
+    let q = said (roleText (a .kind) (a .owner)) (a .owner) in
+    let r = said (text " ") (a .len) in
+    let e = text "\n" in
+    let l0 = left-all (a .out .now) (a .at) (contourLine (a .number) (a .kind) (a .owner) (a .len)) (c .before .before .before .before .before .before .before .before .before .before .before .before .before .before .before .before .pre) in
+    let l1 = left-after p (q ++ (r ++ e)) l0 (c .before .before .before .before .before .before .before .before .before .before .before .before .before .write-decimal .ensures) in
+    let l2 = left-after q (r ++ e) l1 (c .before .before .before .before .before .before .before .before .before .write-role .ensures) in
+    let l3 = left-after r e l2 (c .before .before .before .before .write-said .ensures) in
+    last-fits e l3
+
+same-length : tie.Need-same-length
+same-length c = search needs
+
+returns : tie.Need-returns
+unfolding contourLine
+returns c = 
+    let a = c .before .before .before .before .before .before .before .before .before .before .before .before .before .before .before .before .before .before .before .args in
+    let p = decimal (a .number) in
+    let q = said (roleText (a .kind) (a .owner)) (a .owner) in
+    let r = said (text " ") (a .len) in
+    let e = text "\n" in
+    let l0 = left-all (a .out .now) (a .at) (contourLine (a .number) (a .kind) (a .owner) (a .len)) (c .before .before .before .before .before .before .before .before .before .before .before .before .before .before .before .before .before .before .before .pre) in
+    let l1 = left-after p (q ++ (r ++ e)) l0 (c .before .before .before .before .before .before .before .before .before .before .before .before .before .before .before .before .write-decimal .ensures) in
+    let l2 = left-after q (r ++ e) l1 (c .before .before .before .before .before .before .before .before .before .before .before .before .write-role .ensures) in
+    let l3 = left-after r e l2 (c .before .before .before .before .before .before .before .write-said .ensures) in
+    left-last e l3 (c .before .before .write-text .ensures)
+
+pub write-contour-line-spec : {M : Type 1} → statement M
+write-contour-line-spec =
+    tie.close
+    (tie.spec
+    write-decimal-requires
+    write-role-requires
+    slice-aggregate-write-said
+    write-said-requires
+    slice-aggregate-write-text
+    write-text-requires
+    same-length
+    returns)

@@ -1,0 +1,102 @@
+-- What each test of check 10 says, both ways: it fails exactly where the plain fact holds.
+use Prim.Native.Nat.{ℕ, _+_, _/_, _%_, _≤_, _<_}
+use native.Mathlib.Omega.{arith}
+use mathlib.Core.Path.{_≡_, refl, ap}
+use mathlib.Core.Bool.{Bool, true, false, not, _||_}
+use mathlib.Core.List.{List}
+use lib.Dec.{ltb, eqb}
+use lib.IntN.{ℤ, pos, negsuc}
+use lib.ListN.{length}
+use borrow.Author.Tests.{ltb-false, eqb-true, le-ltb, eq-eqb, not-false}
+use Rattle.laws.specs.Test.{pick, or-false, false-or, true≢false}
+use Rattle.laws.specs.Lowest.{some, none-of, some-no}
+use Rattle.turn.specs.declared.Point.{Point}
+use Rattle.turn.specs.Limits.{maxLinks}
+use Rattle.turn.specs.Points.{differ, outside, Coord, OnGrid}
+use Rattle.table.specs.declared.Checked.{Checked}
+use Rattle.table.specs.declared.Checked.the-variants.{Fine, Refused}
+use Rattle.table.specs.Table.{pointAt, previousIn}
+use Rattle.table.specs.TableChecks.{misfit, rangeFault, offGrid, pointFault, somePointFault, contourFault}
+
+-- ---- one fact exactly where another
+pub record Iff (P Q : Type 0) : Type 0 where
+  pub to : P → Q
+  pub from : Q → P
+
+-- the test fails exactly where P holds
+abbrev pub Fails : Bool → Type 0 → Type 0
+Fails b P = Iff (b ≡ false) P
+
+pub then : {P Q R : Type 0} → Iff P Q → Iff Q R → Iff P R
+then h k = record { to = λ p. k .to (h .to p); from = λ r. h .from (k .from r) }
+
+pub both : {P Q R S : Type 0} → Iff P Q → Iff R S → Iff (P × R) (Q × S)
+both h k = record { to = λ p. (h .to (p .0), k .to (p .1)); from = λ q. (h .from (q .0), k .from (q .1)) }
+
+lt-fails : (m n : ℕ) → Fails (ltb m n) (n ≤ m)
+lt-fails m n = record { to = ltb-false m n; from = le-ltb m n }
+
+pub ne-fails : (m n : ℕ) → Fails (not (eqb m n)) (m ≡ n)
+ne-fails m n = record { to = λ e. eqb-true m n (not-false (eqb m n) e); from = λ e. ap not (eq-eqb m n e) }
+
+not-fails : (b : Bool) → Fails (not b) (b ≡ true)
+not-fails b = record { to = not-false b; from = ap not }
+
+pub or-fails : {a b : Bool} {P Q : Type 0} → Fails a P → Fails b Q → Fails (a || b) (P × Q)
+or-fails {a} {b} h k = then (record { to = or-false a b; from = λ p. false-or a b (p .0) (p .1) }) (both h k)
+
+pub some-fails : {test : ℕ → Bool} {P : ℕ → Type 0} (n : ℕ) → ((k : ℕ) → Fails (test k) (P k)) → Fails (some test n) ((k : ℕ) → k < n → P k)
+some-fails {test} n h = record { to = λ e k l. h k .to (none-of test n e k l); from = λ p. some-no test n (λ k l. h k .from (p k l)) }
+
+-- a check that refuses where a test passes, and else goes on
+pub refuses : (b : Bool) (k p : ℕ) (rest : Checked) → Iff (pick b (Refused k p) rest ≡ Fine) ((b ≡ false) × (rest ≡ Fine))
+refuses true k p rest = record { to = λ e. let z : _≡_ {A = ℕ} 0 1 = cc in absurd (omega arith); from = λ e. absurd (true≢false refl (e .0)) }
+refuses false k p rest = record { to = λ e. (refl, e); from = λ e. e .1 }
+
+-- ---- the bounds
+coord : (z : ℤ) → outside z ≡ false → Coord z
+coord (pos n) e = ltb-false 524288 n e
+coord (negsuc n) e = let h = ltb-false 524287 n (or-false _ _ e .0) in omega arith
+
+inside : (z : ℤ) → Coord z → outside z ≡ false
+inside (pos n) h = le-ltb 524288 n h
+inside (negsuc n) h = false-or _ _ (le-ltb 524287 n (omega arith)) refl
+
+pub on-grid : (p : Point) → Fails (offGrid p) (OnGrid p)
+on-grid p = or-fails (record { to = coord (p .x); from = inside (p .x) }) (record { to = coord (p .y); from = inside (p .y) })
+
+-- ---- the parts of check 10
+pub fitting : (points first len kind owners : ℕ) → Fails (misfit points first len kind owners) (((((len ≡ first) × (kind ≡ first)) × (first ≤ owners)) × (points / 2 ≤ maxLinks)) × (points % 2 ≡ 0))
+fitting points first len kind owners = or-fails (or-fails (or-fails (or-fails (ne-fails _ _) (ne-fails _ _)) (lt-fails _ _)) (lt-fails _ _)) (ne-fails _ _)
+
+-- a contour's range, length and kind are right
+pub record Ranged (count start first len kind : ℕ) : Type 0 where
+  pub consecutive : first ≡ start
+  pub within : first + len ≤ count
+  pub long : 3 ≤ len
+  pub known : kind ≤ 1
+
+pub ranged : (count start first len kind : ℕ) → Fails (rangeFault count start first len kind) (Ranged count start first len kind)
+ranged count start first len kind =
+    then (or-fails (or-fails (or-fails (ne-fails first start) (lt-fails count (first + len))) (lt-fails len 3)) (lt-fails 1 kind))
+    (record {
+      to = λ h. record { consecutive = h .0 .0 .0; within = h .0 .0 .1; long = h .0 .1; known = h .1 };
+      from = λ h. (((h .consecutive, h .within), h .long), h .known);
+    })
+
+-- a point of a contour is on the grid and not the one before it
+pub record Placed (points : List ℤ) (from to p : ℕ) : Type 0 where
+  pub grid : OnGrid (pointAt points p)
+  pub apart : differ (pointAt points (previousIn from to p)) (pointAt points p) ≡ true
+
+placed : (points : List ℤ) (from to p : ℕ) → Fails (pointFault points from to p) (Placed points from to p)
+placed points from to p =
+    then (or-fails (on-grid (pointAt points p)) (not-fails _))
+    (record { to = λ h. record { grid = h .0; apart = h .1 }; from = λ h. (h .grid, h .apart) })
+
+pub all-placed : (points : List ℤ) (from len : ℕ) → Fails (somePointFault points from len) ((k : ℕ) → k < len → Placed points from (from + len) (from + k))
+all-placed points from len = some-fails len (λ k. placed points from (from + len) (from + k))
+
+pub contour-right : (points : List ℤ) (start first len kind : ℕ)
+    → Fails (contourFault points start first len kind) ((Ranged (length points / 2) start first len kind) × ((k : ℕ) → k < len → Placed points first (first + len) (first + k)))
+contour-right points start first len kind = or-fails (ranged (length points / 2) start first len kind) (all-placed points first len)

@@ -1,0 +1,5 @@
+-- What the proofs cite beside the laws of specs/.
+pub mod Operands
+pub mod Halves
+pub mod Sums
+pub mod Absolutes

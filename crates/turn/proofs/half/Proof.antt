@@ -1,0 +1,19 @@
+use mir.Syntax.{w64}
+use mir.ValLaws.{toZ-ofZ}
+use Prim.Native.Nat.{_/_}
+use mathlib.Core.Path.{ap}
+use borrow.Author.Needs.{needs}
+use Rattle.turn.proofs.half.Statement.{statement}
+use Rattle.turn.proofs.half.Tie as tie
+use Rattle.turn.proofs.half.Reads as reads
+use Rattle.turn.proofs.half.Lts as lts
+use Rattle.turn.proofs.absolute.Reads as absolute-reads
+
+absolute-requires : tie.Need-absolute-requires
+absolute-requires c κs = search needs
+
+returns : tie.Need-returns
+returns c = rw (toZ-ofZ w64 _ (c .before .fits .x)) at (ap (λ n. n / 2) (c .absolute .ensures))
+
+pub half-spec : {M : Type 1} → statement M
+half-spec = tie.close (tie.spec absolute-requires returns)

@@ -1,0 +1,22 @@
+use mathlib.Core.Path.{ap}
+use mathlib.Core.Bool.{_&&_, _||_}
+use mir.Syntax.{w64}
+use mir.ValLaws.{toZ-ofZ}
+use lib.Dec.{leb, eqb}
+use borrow.Author.Needs.{needs}
+use Rattle.turn.proofs.is_kept.Statement.{statement}
+use Rattle.turn.proofs.is_kept.Tie as tie
+use Rattle.turn.proofs.is_kept.Reads as reads
+use Rattle.turn.proofs.is_kept.Lts as lts
+use Rattle.turn.proofs.half.Reads as half-reads
+
+half-requires : tie.Need-half-requires
+half-requires c κs = search needs
+
+returns : tie.Need-returns
+returns c =
+    let a = c .before .args in
+    ap (λ n. leb 3 (a .points) && (eqb (a .minimum) 0 || leb (a .minimum) n)) (rw (toZ-ofZ w64 _ (c .before .fits .area)) at (c .half .ensures))
+
+pub is-kept-spec : {M : Type 1} → statement M
+is-kept-spec = tie.close (tie.spec half-requires returns)

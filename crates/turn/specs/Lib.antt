@@ -1,0 +1,12 @@
+-- The definitions that the contracts cite, then the laws of them.
+pub mod Limits
+pub mod Points
+pub mod Angle
+pub mod Area
+pub mod Size
+pub mod Rank
+pub mod Directions
+pub mod Angular
+pub mod First
+pub mod PointOrder
+pub mod Areas

@@ -1,0 +1,211 @@
+// Points, turns, the angular order, areas and the size test, all exact.
+ghost use mathlib.Core.Path.{_≡_};
+ghost use Prim.Native.Nat.{_+_, _*_, _<_, _≤_, _/_};
+ghost use lib.IntN.{pos, natAbs, _-ℤ_};
+ghost use lib.ListN.{length};
+ghost use Rattle.laws.specs.Sign.{sgn, is-mns};
+ghost use Rattle.turn.specs.Limits.{maxLinks, maxCoordinate};
+ghost use Rattle.turn.specs.Points.{before, differ, outside, Coord, OnGrid, Short, fromTo, cross, dot, turn, clockwise, productBound, span, Grid};
+ghost use Rattle.turn.specs.Angle.{halfOf, metBefore, sameDirection, turned};
+ghost use Rattle.turn.specs.Area.{wedge, area, pointsOf, wedgeBound};
+ghost use Rattle.turn.specs.Size.{half, isKept};
+ghost use Rattle.turn.specs.Rank.{rank};
+
+// The most links of a graph, and the most points of a contour table.
+pub const MAX_LINKS: usize = 4096;
+
+// Coordinates lie from -MAX_COORDINATE to MAX_COORDINATE.
+pub const MAX_COORDINATE: i32 = 524288;
+
+pub struct Point {
+    pub x: i32,
+    pub y: i32,
+}
+
+// The way from one point to another.
+pub struct Vector {
+    pub x: i64,
+    pub y: i64,
+}
+
+// Whether p is strictly before q: by x, then by y.
+pub fn before(p: Point, q: Point) -> bool
+    ensures { λ r. ⌜ r ≡ before p q ⌝ }
+{
+    (p.x < q.x) | (!(q.x < p.x) & (p.y < q.y))
+}
+
+// Whether p and q are different points.
+pub fn differ(p: Point, q: Point) -> bool
+    ensures { λ r. ⌜ r ≡ differ p q ⌝ }
+{
+    before(p, q) | before(q, p)
+}
+
+// Whether a coordinate is out of bounds.
+pub fn outside(z: i32) -> bool
+    ensures { λ r. ⌜ r ≡ outside z ⌝ }
+{
+    (z < -MAX_COORDINATE) | (MAX_COORDINATE < z)
+}
+
+// The difference of two coordinates.
+fn difference(a: i32, b: i32) -> i64
+    requires { ⌜ (Coord a) × (Coord b) ⌝ }
+    ensures { λ r. ⌜ (r ≡ a -ℤ b) × (natAbs r ≤ span) ⌝ }
+{
+    a as i64 - b as i64
+}
+
+// The vector from p to q.
+pub fn between(p: Point, q: Point) -> Vector
+    requires { ⌜ (OnGrid p) × (OnGrid q) ⌝ }
+    ensures { λ r. ⌜ (r ≡ fromTo p q) × (Short r) ⌝ }
+{
+    let x = difference(q.x, p.x);
+    let y = difference(q.y, p.y);
+    Vector { x: x, y: y }
+}
+
+// The cross product of two vectors between points.
+pub fn cross_product(u: Vector, v: Vector) -> i64
+    requires { ⌜ (Short u) × (Short v) ⌝ }
+    ensures { λ r. ⌜ (r ≡ cross u v) × (natAbs r ≤ productBound) ⌝ }
+{
+    u.x * v.y - u.y * v.x
+}
+
+fn dot_product(u: Vector, v: Vector) -> i64
+    requires { ⌜ (Short u) × (Short v) ⌝ }
+    ensures { λ r. ⌜ (r ≡ dot u v) × (natAbs r ≤ productBound) ⌝ }
+{
+    u.x * v.x + u.y * v.y
+}
+
+// Above 0 where a, b, c turn counterclockwise, below 0 where they turn clockwise.
+pub fn turn_of(a: Point, b: Point, c: Point) -> i64
+    requires { ⌜ (OnGrid a) × (OnGrid b) × (OnGrid c) ⌝ }
+    ensures { λ r. ⌜ (r ≡ turn a b c) × (natAbs r ≤ productBound) ⌝ }
+{
+    cross_product(between(a, b), between(a, c))
+}
+
+// Whether a, b, c turn strictly clockwise.
+pub fn clockwise(a: Point, b: Point, c: Point) -> bool
+    requires { ⌜ (OnGrid a) × (OnGrid b) × (OnGrid c) ⌝ }
+    ensures { λ r. ⌜ r ≡ clockwise a b c ⌝ }
+{
+    turn_of(a, b, c) < 0
+}
+
+// Whether u and v have one direction.
+pub fn same_direction(u: Vector, v: Vector) -> bool
+    requires { ⌜ (Short u) × (Short v) ⌝ }
+    ensures { λ r. ⌜ r ≡ sameDirection u v ⌝ }
+{
+    (cross_product(u, v) == 0) & (0 < dot_product(u, v))
+}
+
+// Whether a cross product turns the way that is asked for: below 0 for clockwise, above 0 for counterclockwise.
+fn turns(sense: bool, product: i64) -> bool
+    ensures { λ r. ⌜ r ≡ is-mns (turned sense (sgn product)) ⌝ }
+{
+    (sense & (product < 0)) | (!sense & (0 < product))
+}
+
+// Where f lies, turning from e: 0 in the first half turn, 1 opposite, 2 in the second half turn, 3 a full turn away.
+fn half_of(sense: bool, e: Vector, f: Vector) -> u8
+    requires { ⌜ (Short e) × (Short f) ⌝ }
+    ensures { λ r. ⌜ r ≡ rank (halfOf sense e f) ⌝ }
+{
+    let c = cross_product(e, f);
+    if turns(sense, c) {
+        return 0;
+    }
+    if turns(!sense, c) {
+        return 2;
+    }
+    if dot_product(e, f) < 0 {
+        return 1;
+    }
+    3
+}
+
+// Whether, turning from e, clockwise or counterclockwise, f is met strictly before g.
+pub fn met_before(sense: bool, e: Vector, f: Vector, g: Vector) -> bool
+    requires { ⌜ (Short e) × (Short f) × (Short g) ⌝ }
+    ensures { λ r. ⌜ r ≡ metBefore sense e f g ⌝ }
+{
+    let h = half_of(sense, e, f);
+    let k = half_of(sense, e, g);
+    if h < k {
+        return true;
+    }
+    if k < h {
+        return false;
+    }
+    if (h == 1) | (h == 3) {
+        return false;
+    }
+    turns(sense, cross_product(f, g))
+}
+
+// x y' - y x' of two points.
+fn wedge(p: Point, q: Point) -> i64
+    requires { ⌜ (OnGrid p) × (OnGrid q) ⌝ }
+    ensures { λ r. ⌜ (r ≡ wedge p q) × (natAbs r ≤ wedgeBound) ⌝ }
+{
+    p.x as i64 * q.y as i64 - p.y as i64 * q.x as i64
+}
+
+// The signed doubled area of a closed run of points, x and y in turn.
+pub fn doubled_area(points: &[i32]) -> i64
+    requires { ⌜ (length (now points) ≤ 2 * maxLinks) × (Grid (now points)) ⌝ }
+    ensures { λ r. ⌜ (r ≡ area (pointsOf (now (points .entry)))) × (natAbs r ≤ length (now (points .entry)) * wedgeBound) ⌝ }
+{
+    if points.len() < 2 {
+        return 0;
+    }
+    let home = Point {
+        x: points[0],
+        y: points[1],
+    };
+    let mut p = home;
+    let mut sum: i64 = 0;
+    let mut i = 2;
+    while i + 1 < points.len() {
+        let q = Point {
+            x: points[i],
+            y: points[i + 1],
+        };
+        sum += wedge(p, q);
+        p = q;
+        i += 2;
+    }
+    sum + wedge(p, home)
+}
+
+// The absolute value, at every i64.
+pub fn absolute(x: i64) -> u64
+    ensures { λ r. ⌜ r ≡ natAbs x ⌝ }
+{
+    if x < 0 {
+        (-(x + 1)) as u64 + 1
+    } else {
+        x as u64
+    }
+}
+
+// Half the absolute value, rounded down.
+pub fn half(x: i64) -> u64
+    ensures { λ r. ⌜ r ≡ half x ⌝ }
+{
+    absolute(x) / 2
+}
+
+// Rule 6: whether a walk of so many points and such a signed doubled area is kept.
+pub fn is_kept(points: usize, area: i64, minimum: u64) -> bool
+    ensures { λ r. ⌜ r ≡ isKept points area minimum ⌝ }
+{
+    (3 <= points) & ((minimum == 0) | (minimum <= half(area)))
+}

@@ -1,0 +1,27 @@
+use mathlib.Core.Path.{sym, _∙_}
+use borrow.Author.Tests.{eq-eqb, ne-eqb}
+use borrow.Author.Needs.{needs}
+use Rattle.walk.proofs.other_node.Statement.{statement}
+use Rattle.walk.proofs.other_node.Tie as tie
+use Rattle.walk.proofs.other_node.Reads as reads
+use Rattle.walk.proofs.other_node.Lts as lts
+use Rattle.walk.proofs.node_at.Reads as node-at-reads
+
+-- src/lib.rt:91:9
+node-at-requires : tie.Need-node-at-requires
+node-at-requires c κs = search needs
+
+-- src/lib.rt:92:20
+node-at-requires-2 : tie.Need-node-at-requires-2
+node-at-requires-2 c κs = search needs
+
+-- src/lib.rt:87:1
+returns : tie.Need-returns
+returns c = rw (eq-eqb _ _ (sym (c .before .before .node-at .ensures) ∙ c .before .if1 .taken)) (c .node-at2 .ensures)
+
+-- src/lib.rt:87:1
+returns-2 : tie.Need-returns-2
+returns-2 c = rw (ne-eqb _ _ (λ e. c .if1 .left (c .before .node-at .ensures ∙ e))) (c .before .node-at .ensures)
+
+pub other-node-spec : {M : Type 1} → statement M
+other-node-spec = tie.close (tie.spec node-at-requires node-at-requires-2 returns returns-2)

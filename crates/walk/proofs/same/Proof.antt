@@ -1,0 +1,19 @@
+use mathlib.Core.Path.{_≡_, refl}
+use mathlib.Core.Bool.{Bool, true, false, not, _&&_, _||_, Bool·beq}
+use Rattle.walk.proofs.same.Statement.{statement}
+use Rattle.walk.proofs.same.Tie as tie
+use Rattle.walk.proofs.same.Reads as reads
+use Rattle.walk.proofs.same.Lts as lts
+
+both : (a b : Bool) → (a && b) || (not a && not b) ≡ Bool·beq a b
+both true true = refl
+both true false = refl
+both false true = refl
+both false false = refl
+
+-- src/lib.rt:424:1
+returns : tie.Need-returns
+returns c = both (c .args .a) (c .args .b)
+
+pub same-spec : {M : Type 1} → statement M
+same-spec = tie.close (tie.spec returns)

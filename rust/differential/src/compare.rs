@@ -1,0 +1,69 @@
+//! One graph under one setting: the text's answer, ours, and what their comparison says.
+
+use crate::sides::Outcome;
+use generators::Sample;
+use reading::Settings;
+use reading::bind::is_difference_2;
+use reading::geometry::Point;
+use reading::walk::Walk;
+use std::panic::{AssertUnwindSafe, catch_unwind};
+use text::Run;
+
+/// What the text answers: contours in the order of its scan, visit states, and its shapes, or none where it panics.
+#[derive(Clone, Debug, PartialEq, Eq)]
+pub struct TextAnswer {
+    pub contours: Vec<Vec<Point>>,
+    pub states: Vec<u8>,
+    pub shapes: Option<Vec<Vec<Vec<Point>>>>,
+}
+
+/// Runs the text under one of its overlay rules. The graph must be one on which no walk is refused, in whatever order the
+/// walks are taken: elsewhere the text may run for ever.
+pub fn ask_text(sample: &Sample, settings: Settings, rule: usize) -> TextAnswer {
+    let mut run = Run::new(&sample.graph, &sample.state, settings, rule);
+    run.extract_contours();
+    let (contours, states) = (run.contours(), run.states());
+    let shapes = catch_unwind(AssertUnwindSafe(|| run.extract_shapes())).ok();
+    if shapes.is_some() {
+        assert_eq!(run.states(), states, "both of the text's extractions walk alike");
+    }
+    TextAnswer { contours, states, shapes }
+}
+
+/// The difference that document 01 names for a run, if any.
+#[derive(Clone, Copy, Debug, PartialEq, Eq)]
+pub enum Expected {
+    /// Everything is equal.
+    Equality,
+    /// A rejected walk leaves the scan's link unvisited: the crate moves on.
+    Difference1,
+    /// A hole passes its anchor point twice: the crate looks at every visit. The contours are equal.
+    Difference2,
+}
+
+pub fn expected(walks: &[Walk], outcome: &Outcome, clockwise: bool) -> Expected {
+    let mut holes = outcome.contours.iter().zip(&outcome.kinds).filter(|(_, kind)| **kind == 1);
+    if walks.iter().any(|walk| walk.is_difference_1()) {
+        Expected::Difference1
+    } else if outcome.hulls() > 1 && holes.any(|(hole, _)| is_difference_2(hole, clockwise)) {
+        Expected::Difference2
+    } else {
+        Expected::Equality
+    }
+}
+
+/// What was found equal.
+#[derive(Clone, Copy, Debug, PartialEq, Eq)]
+pub struct Equal {
+    /// Contours in order, and the visit states, which tell hull from hole.
+    pub contours: bool,
+    /// The shapes with their holes; an orphan's refusal here is the text's panic.
+    pub shapes: bool,
+}
+
+pub fn compare(outcome: &Outcome, text: &TextAnswer) -> Equal {
+    Equal {
+        contours: outcome.contours == text.contours && outcome.states == text.states,
+        shapes: outcome.shapes() == text.shapes,
+    }
+}

@@ -1,0 +1,119 @@
+//! Our side of the comparison, as one value whoever answers.
+
+use generators::Sample;
+use reading::bind::{Table, Visits, bind, bind_seeing};
+use reading::geometry::Point;
+use reading::graph::Buffers;
+use reading::walk::{Scan, extract, walks};
+use reading::{Refusal, Settings};
+
+/// What extraction and binding answer on a graph: kept contours in order, kinds, states, and owners unless refused.
+#[derive(Clone, Debug, PartialEq, Eq)]
+pub struct Outcome {
+    pub contours: Vec<Vec<Point>>,
+    pub kinds: Vec<u8>,
+    pub states: Vec<u8>,
+    pub owners: Result<Vec<u16>, Refusal>,
+}
+
+impl Outcome {
+    fn new(table: &Table, states: Vec<u8>, owners: Result<Vec<u16>, Refusal>) -> Self {
+        Self {
+            contours: (0..table.contours()).map(|contour| table.contour(contour)).collect(),
+            kinds: table.kind.clone(),
+            states,
+            owners,
+        }
+    }
+
+    /// Each hull with the holes that it owns, as the text gives its shapes; none if binding was refused.
+    pub fn shapes(&self) -> Option<Vec<Vec<Vec<Point>>>> {
+        let owners = self.owners.as_ref().ok()?;
+        let hulls = self.kinds.iter().filter(|&&kind| kind == 0).count();
+        let mut shapes: Vec<Vec<Vec<Point>>> = vec![Vec::new(); hulls];
+        for wanted in [0, 1] {
+            for ((contour, &kind), &owner) in self.contours.iter().zip(&self.kinds).zip(owners) {
+                if kind == wanted && hulls > 0 {
+                    shapes[owner as usize].push(contour.clone());
+                }
+            }
+        }
+        Some(shapes)
+    }
+
+    pub fn hulls(&self) -> usize {
+        self.kinds.iter().filter(|&&kind| kind == 0).count()
+    }
+}
+
+/// The reading's answer.
+pub fn by_reading(sample: &Sample, settings: Settings) -> Result<Outcome, Refusal> {
+    let mut lent = Buffers::for_states(sample.state.clone());
+    let counts = extract(&sample.graph, settings, &mut lent)?;
+    let table = kept(lent.points, lent.first, lent.len, lent.kind, counts.points, counts.contours);
+    let mut owner = vec![0; table.contours()];
+    let owners = bind(&table, settings.clockwise, &mut owner).map(|_| owner);
+    Ok(Outcome::new(&table, lent.state, owners))
+}
+
+/// The reading's answer with the crate's own rules where document 01 names a difference: the scan moves on (D1), and the anchor
+/// edge is sought at every visit (D2). None where that scan's walks are refused. For a graph that passed checks 1 to 7.
+pub fn by_crate_rules(sample: &Sample, settings: Settings) -> Option<Outcome> {
+    let walks = walks(&sample.graph, &sample.state, settings, Scan::MovesOn).ok()?;
+    let mut states = sample.state.clone();
+    let mut table = Table::default();
+    for walk in walks {
+        walk.links.iter().for_each(|&link| states[link] = walk.state());
+        if walk.kept {
+            table.push(&walk.points, walk.hole);
+        }
+    }
+    let mut owner = vec![0; table.contours()];
+    let owners = bind_seeing(Visits::All, &table, settings.clockwise, &mut owner).map(|_| owner);
+    Some(Outcome::new(&table, states, owners))
+}
+
+/// The library's answer.
+#[cfg(feature = "library")]
+pub fn by_library(sample: &Sample, settings: Settings) -> Result<Outcome, Refusal> {
+    use guovdamas::lent;
+    let refused = |refusal: guovdamas::Refusal| Refusal { number: refusal.number(), place: refusal.place() };
+    let direction = guovdamas::ContourDirection::from_clockwise(settings.clockwise);
+    let options = guovdamas::Options { output_direction: direction, min_output_area: settings.minimum };
+    let graph = &sample.graph;
+    let lists = guovdamas::Lists {
+        ax: &graph.ax,
+        ay: &graph.ay,
+        bx: &graph.bx,
+        by: &graph.by,
+        a_id: &graph.a_id,
+        b_id: &graph.b_id,
+        top: &graph.top,
+        start: &graph.start,
+        list: &graph.list,
+    };
+    let mut lent = Buffers::for_states(sample.state.clone());
+    let buffers = lent::Buffers {
+        state: &mut lent.state,
+        points: &mut lent.points,
+        first: &mut lent.first,
+        len: &mut lent.len,
+        kind: &mut lent.kind,
+    };
+    let counts = lent::extract(lists, options, buffers).map_err(refused)?;
+    let table = kept(lent.points, lent.first, lent.len, lent.kind, counts.points, counts.contours);
+    let mut owner = vec![0; table.contours()];
+    let borrowed = lent::Table { points: &table.points, first: &table.first, len: &table.len, kind: &table.kind };
+    let owners = lent::bind(borrowed, direction, &mut owner).map(|_| owner).map_err(refused);
+    Ok(Outcome::new(&table, lent.state, owners))
+}
+
+/// The part of the buffers that holds the kept contours.
+fn kept(points: Vec<i32>, first: Vec<u32>, len: Vec<u32>, kind: Vec<u8>, count: u32, contours: u32) -> Table {
+    let mut table = Table { points, first, len, kind };
+    table.points.truncate(2 * count as usize);
+    table.first.truncate(contours as usize);
+    table.len.truncate(contours as usize);
+    table.kind.truncate(contours as usize);
+    table
+}

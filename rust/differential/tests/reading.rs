@@ -1,0 +1,76 @@
+//! What document 01 promises of every run, seen on the reading and generated graphs.
+
+use generators::planar::{FAMILIES, sample};
+use generators::rng::Rng;
+use generators::{Sample, planar, wild};
+use reading::bind::{Table, bind, lookup};
+use reading::graph::Buffers;
+use reading::walk::extract;
+use reading::{Refusal, Settings};
+
+/// Extraction into least room, then binding; the links walked are those that were unvisited, what was extracted passes checks
+/// 10 and 11, and after binding every contour is found.
+fn run(sample: &Sample, settings: Settings) -> Result<i64, Refusal> {
+    let mut lent = Buffers::for_states(sample.state.clone());
+    let counts = extract(&sample.graph, settings, &mut lent)?;
+    let unvisited = sample.state.iter().filter(|&&state| state == 0).count();
+    assert_eq!(counts.walked as usize, unvisited);
+    assert!(lent.state.iter().all(|&state| state != 0));
+
+    let contours = counts.contours as usize;
+    let table = Table {
+        points: lent.points[..2 * counts.points as usize].to_vec(),
+        first: lent.first[..contours].to_vec(),
+        len: lent.len[..contours].to_vec(),
+        kind: lent.kind[..contours].to_vec(),
+    };
+    let mut owner = vec![0; contours];
+    match bind(&table, settings.clockwise, &mut owner) {
+        Ok(_) => assert!((0..contours).all(|contour| lookup(&table, &owner, contour).is_some())),
+        Err(refusal) => assert_eq!(refusal.number, 12, "{table:?}"),
+    }
+    Ok(counts.kept_area + counts.rejected_area)
+}
+
+/// The doubled area that document 01's third demand gives: the sum over the links with fill on the left (right for clockwise).
+fn area_of_links(sample: &Sample, clockwise: bool) -> i64 {
+    let graph = &sample.graph;
+    let unskipped = (0..graph.links()).filter(|&link| sample.state[link] == 0);
+    let area = |link: usize| {
+        let (a, b) = (graph.a(link), graph.b(link));
+        let cross = a.x as i64 * b.y as i64 - a.y as i64 * b.x as i64;
+        if (graph.top[link] == 1) != clockwise { cross } else { -cross }
+    };
+    unskipped.map(area).sum()
+}
+
+#[test]
+fn planar_graphs_are_walked_whole() {
+    for seed in 0..6000 {
+        let mut rng = Rng::new(seed ^ 11 << 40);
+        let sample = sample(FAMILIES[seed as usize % FAMILIES.len()], 6, &mut rng);
+        for clockwise in [false, true] {
+            let minimum = rng.choose(&[0, 1, 10]);
+            assert_eq!(run(&sample, Settings { clockwise, minimum }), Ok(area_of_links(&sample, clockwise)));
+        }
+    }
+}
+
+#[test]
+fn other_graphs_are_walked_whole_or_refused() {
+    let mut refused = 0;
+    for seed in 0..6000 {
+        let mut rng = Rng::new(seed ^ 12 << 40);
+        let mut graph = sample(FAMILIES[seed as usize % FAMILIES.len()], 4, &mut rng);
+        planar::upset_tops(&mut graph, &mut rng);
+        for graph in [graph, wild::sample(8, &mut rng)] {
+            let settings = Settings { clockwise: rng.chance(50), minimum: rng.choose(&[0, 1]) };
+            match run(&graph, settings) {
+                Ok(_) => {}
+                Err(Refusal { number: 8 | 9, .. }) => refused += 1,
+                Err(refusal) => panic!("the generators make graphs that pass checks 1 to 7, but {refusal:?}"),
+            }
+        }
+    }
+    println!("{refused} of 12000 refused with 8 or 9");
+}

@@ -1,0 +1,57 @@
+//! The given text against the reading (and, with the feature `library`, the library): its stored answers, and, where the text is
+//! at hand, generated graphs. The program `differential` compares many more.
+
+use differential::{stored, tally};
+use generators::planar::FAMILIES;
+
+/// The sample of the text's answers, made by `differential --store 160`.
+const STORED: &str = include_str!("../../../tests/rust-data/text-answers.txt");
+
+#[test]
+fn stored_answers() {
+    let cases = stored::parse(STORED);
+    assert_eq!(cases.len(), 160);
+    for stored::Case { file, answer } in &cases {
+        assert_eq!(&reading::file::answer(file), answer);
+        #[cfg(feature = "library")]
+        assert_eq!(&by_library(file), answer);
+    }
+    println!("{} stored answers of the text replayed", cases.len());
+}
+
+/// The library's answer in the program's words.
+#[cfg(feature = "library")]
+fn by_library(file: &[u8]) -> String {
+    use differential::sides;
+    let reading::file::Study { settings, graph, state } =
+        reading::file::parse(file).expect("a stored graph is well formed");
+    let outcome = sides::by_library(&generators::Sample { graph, state }, settings).expect("a stored graph is walked");
+    let shapes = outcome.shapes();
+    stored::print(&differential::compare::TextAnswer { contours: outcome.contours, states: outcome.states, shapes })
+}
+
+#[test]
+fn stored_answers_are_the_texts() {
+    if text::AT_HAND {
+        assert_eq!(stored::write(160), STORED);
+    } else {
+        println!("the text is not at hand: its stored answers were not asked for again");
+    }
+}
+
+#[test]
+fn generated_graphs() {
+    if !text::AT_HAND {
+        println!("the text is not at hand: no generated graph was compared with it");
+        return;
+    }
+    println!("{}", tally::Tally::HEADINGS);
+    for family in FAMILIES {
+        let tally = tally::planar(family, 1000);
+        println!("| {family:?} |{tally}");
+        assert_eq!(tally.findings, 0, "{:?}", tally.smallest);
+    }
+    let tally = tally::outside(1000);
+    println!("| outside the domain |{tally}");
+    assert_eq!(tally.findings, 0, "{:?}", tally.smallest);
+}

@@ -1,0 +1,231 @@
+//! The library against the reading of document 01: every answer and every byte of every buffer, on generated graphs and
+//! tables, good and damaged. Seeds are fixed; the counts are printed (`cargo test -- --nocapture`).
+
+use generators::planar::{FAMILIES, sample};
+use generators::rng::Rng;
+use generators::{Sample, damage, planar, tables, wild};
+use guovdamas::{ContourDirection, Lists, Options, Refusal, lent};
+use reading::bind::{Role, Table};
+use reading::graph::{Buffers, Graph};
+use reading::{Settings, bind, walk};
+use std::collections::BTreeMap;
+
+/// How often each number was answered, 0 for done.
+#[derive(Default)]
+struct Tally(BTreeMap<u32, usize>);
+
+impl Tally {
+    fn count(&mut self, number: u32) {
+        *self.0.entry(number).or_default() += 1;
+    }
+
+    /// Prints the counts and sees that each number was met often enough to mean something.
+    fn report(&self, what: &str, numbers: &[u32]) {
+        println!("{what}: {} compared; answers by number: {:?}", self.0.values().sum::<usize>(), self.0);
+        for number in numbers {
+            assert!(self.0.get(number).is_some_and(|&met| met >= 20), "{what}: {number} is hardly met");
+        }
+    }
+}
+
+fn parts(refusal: Refusal) -> reading::Refusal {
+    reading::Refusal { number: refusal.number(), place: refusal.place() }
+}
+
+fn lists(graph: &Graph) -> Lists<'_> {
+    Lists {
+        ax: &graph.ax,
+        ay: &graph.ay,
+        bx: &graph.bx,
+        by: &graph.by,
+        a_id: &graph.a_id,
+        b_id: &graph.b_id,
+        top: &graph.top,
+        start: &graph.start,
+        list: &graph.list,
+    }
+}
+
+fn extract(graph: &Graph, settings: Settings, lent: &mut Buffers) -> Result<walk::Counts, reading::Refusal> {
+    let options = Options {
+        output_direction: ContourDirection::from_clockwise(settings.clockwise),
+        min_output_area: settings.minimum,
+    };
+    let buffers = lent::Buffers {
+        state: &mut lent.state,
+        points: &mut lent.points,
+        first: &mut lent.first,
+        len: &mut lent.len,
+        kind: &mut lent.kind,
+    };
+    let lent::Counts { contours, points, rejected, walked, kept_area, rejected_area } =
+        lent::extract(lists(graph), options, buffers).map_err(parts)?;
+    Ok(walk::Counts { contours, points, rejected, walked, kept_area, rejected_area })
+}
+
+fn table(table: &Table) -> lent::Table<'_> {
+    lent::Table { points: &table.points, first: &table.first, len: &table.len, kind: &table.kind }
+}
+
+/// Extracts by both, then binds what was found by both; all answers and buffers must be equal.
+fn compare_extraction(graph: &Graph, lent: &Buffers, settings: Settings, tally: &mut Tally) {
+    let (mut read, mut ours) = (lent.clone(), lent.clone());
+    let due = walk::extract(graph, settings, &mut read);
+    let answer = extract(graph, settings, &mut ours);
+    assert_eq!(answer, due, "{graph:?} {lent:?} {settings:?}");
+    assert_eq!(ours, read, "{graph:?} {lent:?} {settings:?}");
+    match due {
+        Err(refusal) => tally.count(refusal.number),
+        Ok(counts) => {
+            let contours = counts.contours as usize;
+            let found = Table {
+                points: read.points[..2 * counts.points as usize].to_vec(),
+                first: read.first[..contours].to_vec(),
+                len: read.len[..contours].to_vec(),
+                kind: read.kind[..contours].to_vec(),
+            };
+            compare_binding(&found, contours, settings.clockwise, tally);
+        }
+    }
+}
+
+/// Binds by both, then looks up every contour and one more; all answers and buffers must be equal.
+fn compare_binding(lent: &Table, room: usize, clockwise: bool, tally: &mut Tally) {
+    let soiled: Vec<u16> = (0..room as u16).map(|position| position.wrapping_mul(40_503)).collect();
+    let (mut read, mut ours) = (soiled.clone(), soiled);
+    let due = bind::bind(lent, clockwise, &mut read);
+    let answer = lent::bind(table(lent), ContourDirection::from_clockwise(clockwise), &mut ours);
+    let answer = answer.map(|bound| bind::Bound { shapes: bound.shapes, dropped: bound.dropped });
+    assert_eq!(answer.map_err(parts), due, "{lent:?} {clockwise}");
+    assert_eq!(ours, read, "{lent:?} {clockwise}");
+    tally.count(due.err().map_or(0, |refusal| refusal.number));
+    compare_lookups(lent, &read);
+}
+
+fn compare_lookups(lent: &Table, owner: &[u16]) {
+    for contour in (0..=lent.contours()).chain([usize::MAX]) {
+        let due = bind::lookup(lent, owner, contour);
+        let answer = lent::lookup(table(lent), owner, contour).map(|record| bind::Record {
+            first: record.first,
+            len: record.len,
+            role: match record.role {
+                lent::Role::Hull(number) => Role::Hull(number),
+                lent::Role::Hole(number) => Role::Hole(number),
+                lent::Role::Dropped => Role::Dropped,
+            },
+        });
+        assert_eq!(answer, due, "{lent:?} {owner:?} {contour}");
+    }
+}
+
+/// A direction, and a minimum that some of the graph's walks just meet or just miss.
+fn settings(sample: &Sample, rng: &mut Rng) -> Settings {
+    let clockwise = rng.chance(50);
+    let walks = walk::walks(&sample.graph, &sample.state, Settings { clockwise, minimum: 0 }, walk::Scan::Stays)
+        .unwrap_or_default();
+    let mut minima = vec![0, 0, 1, u64::MAX, 1 << 63];
+    minima.extend(walks.iter().map(|walk| walk.doubled_area().unsigned_abs() as u64 / 2));
+    minima.extend(walks.iter().map(|walk| walk.doubled_area().unsigned_abs() as u64 / 2 + 1));
+    Settings { clockwise, minimum: rng.choose(&minima) }
+}
+
+#[test]
+fn planar_graphs() {
+    for family in FAMILIES {
+        let mut tally = Tally::default();
+        for seed in 0..4000 {
+            let mut rng = Rng::new(seed ^ (1 + family as u64) << 40);
+            let size = rng.choose(&[2, 3, 4, 5, 6, 8]);
+            let sample = sample(family, size, &mut rng);
+            let (settings, lent) = (settings(&sample, &mut rng), sample.soiled_buffers(&mut rng));
+            compare_extraction(&sample.graph, &lent, settings, &mut tally);
+        }
+        tally.report(&format!("planar, {family:?}"), &[0]);
+    }
+}
+
+#[test]
+fn large_graphs() {
+    let mut tally = Tally::default();
+    for seed in 0..60 {
+        let mut rng = Rng::new(seed ^ 2 << 40);
+        let sample = sample(FAMILIES[seed as usize % FAMILIES.len()], 30, &mut rng);
+        let (settings, lent) = (settings(&sample, &mut rng), sample.soiled_buffers(&mut rng));
+        compare_extraction(&sample.graph, &lent, settings, &mut tally);
+    }
+    tally.report("large", &[0]);
+}
+
+#[test]
+fn upset_tops_and_wild_graphs() {
+    let mut tally = Tally::default();
+    for seed in 0..40_000 {
+        let mut rng = Rng::new(seed ^ 3 << 40);
+        let sample = if rng.chance(60) {
+            wild::sample(9, &mut rng)
+        } else {
+            let mut sample = sample(FAMILIES[seed as usize % FAMILIES.len()], 4, &mut rng);
+            planar::upset_tops(&mut sample, &mut rng);
+            sample
+        };
+        let (settings, lent) = (settings(&sample, &mut rng), sample.soiled_buffers(&mut rng));
+        compare_extraction(&sample.graph, &lent, settings, &mut tally);
+    }
+    tally.report("upset tops and wild", &[0, 8, 9, 12]);
+}
+
+#[test]
+fn damaged_graphs() {
+    let mut tally = Tally::default();
+    for seed in 0..40_000 {
+        let mut rng = Rng::new(seed ^ 4 << 40);
+        let Sample { mut graph, state } = sample(FAMILIES[seed as usize % FAMILIES.len()], 3, &mut rng);
+        let mut lent = Sample { graph: graph.clone(), state }.soiled_buffers(&mut rng);
+        let settings = Settings { clockwise: rng.chance(50), minimum: rng.choose(&[0, 1, 5]) };
+        // Now and then two faults, so that the order of the checks tells.
+        if rng.chance(30) {
+            damage::graph(rng.choose(&[4, 6]), &mut graph, &mut lent, &mut rng);
+        }
+        damage::graph(1 + rng.below(7) as u32, &mut graph, &mut lent, &mut rng);
+        compare_extraction(&graph, &lent, settings, &mut tally);
+    }
+    tally.report("damaged", &[0, 1, 2, 3, 4, 5, 6, 7, 8]);
+}
+
+#[test]
+fn tables_with_ties() {
+    let mut tally = Tally::default();
+    for seed in 0..60_000 {
+        let mut rng = Rng::new(seed ^ 5 << 40);
+        let clockwise = rng.chance(50);
+        let table = tables::sample(7, clockwise, &mut rng);
+        let room = table.contours() + rng.below(3);
+        compare_binding(&table, room, clockwise, &mut tally);
+    }
+    tally.report("tables", &[0, 12]);
+}
+
+#[test]
+fn damaged_tables() {
+    let mut tally = Tally::default();
+    for seed in 0..40_000 {
+        let mut rng = Rng::new(seed ^ 6 << 40);
+        let clockwise = rng.chance(50);
+        let mut table = tables::sample(6, clockwise, &mut rng);
+        let room = damage::table(&mut table, &mut rng);
+        compare_binding(&table, room, clockwise != rng.chance(20), &mut tally);
+    }
+    tally.report("damaged tables", &[0, 10, 11, 12]);
+}
+
+#[test]
+fn lookups_of_any_owners() {
+    for seed in 0..10_000 {
+        let mut rng = Rng::new(seed ^ 7 << 40);
+        let table = tables::sample(6, false, &mut rng);
+        let owner: Vec<u16> =
+            (0..table.contours() + rng.below(2)).map(|_| rng.choose(&[0, 1, 2, 3, 65_534, 65_535])).collect();
+        compare_lookups(&table, &owner[rng.below(2).min(owner.len())..]);
+        compare_lookups(&table, &owner);
+    }
+}

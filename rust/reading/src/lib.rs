@@ -1,0 +1,47 @@
+//! An independent reading of document 01 in plain Rust.
+//!
+//! It is written from the document's words and from nothing else, to be read beside it and to be compared with the proved
+//! library: no cleverness, exact numbers in `i128`, one function for each rule. [`graph`] holds the lent graph and checks
+//! 1 to 7, [`walk`] the walking rules 1 to 7, [`bind`] checks 10 to 12 with binding and lookup, [`file`](mod@file) the
+//! program's file and its printed answer.
+
+pub mod bind;
+pub mod file;
+pub mod geometry;
+pub mod graph;
+pub mod walk;
+
+#[cfg(test)]
+mod examples;
+
+/// Most links, and most points of a table.
+pub const MAX_LINKS: usize = 4096;
+/// Coordinates lie from `-MAX_COORDINATE` to `MAX_COORDINATE`.
+pub const MAX_COORDINATE: i32 = 524_288;
+
+/// A refusal: document 01's number, and the place returned with it.
+#[derive(Clone, Copy, Debug, PartialEq, Eq, Hash)]
+pub struct Refusal {
+    pub number: u32,
+    pub place: u32,
+}
+
+/// Output direction and minimum area.
+#[derive(Clone, Copy, Debug, PartialEq, Eq)]
+pub struct Settings {
+    pub clockwise: bool,
+    pub minimum: u64,
+}
+
+/// Refuses with `number` at the place found, if one was found.
+fn refuse_at(number: u32, place: Option<usize>) -> Result<(), Refusal> {
+    match place {
+        Some(place) => Err(Refusal { number, place: place as u32 }),
+        None => Ok(()),
+    }
+}
+
+/// Refuses with `number` at 0 if the fault is there.
+fn refuse_if(number: u32, fault: bool) -> Result<(), Refusal> {
+    refuse_at(number, fault.then_some(0))
+}

@@ -1,0 +1,53 @@
+//! The given text of i_overlay 9.0.1 (extraction and binding), compiled unchanged over small stand-ins.
+//!
+//! The text itself is not part of this project: `build.rs` finds it beside the repository. Where it is missing,
+//! [`AT_HAND`] is false and [`Run`] cannot be made.
+//!
+//! The modules `bind`, `core`, `geom`, `segm`, `util` and `vector` hold the text's files, with stand-ins for the few items
+//! of that crate that the text leaves out. The text leans on four more crates, which are not at hand; the modules `int`,
+//! `triangle`, `flat`, `key` and `sort` stand in for them, at the paths that the text names.
+
+// The text says `i_float::int::point::IntPoint`: all four crates' names mean this one.
+#[cfg(text_at_hand)]
+extern crate alloc;
+#[cfg(text_at_hand)]
+extern crate self as i_float;
+#[cfg(text_at_hand)]
+extern crate self as i_key_sort;
+#[cfg(text_at_hand)]
+extern crate self as i_shape;
+#[cfg(text_at_hand)]
+extern crate self as i_tree;
+
+#[cfg(text_at_hand)]
+#[path = "at_hand.rs"]
+mod run;
+#[cfg(not(text_at_hand))]
+#[path = "missing.rs"]
+mod run;
+pub use run::{AT_HAND, Bound, Run, Unbound};
+
+#[cfg(text_at_hand)]
+mod stand_ins;
+#[cfg(text_at_hand)]
+pub(crate) use stand_ins::{Expiration, ExpiredKey, LayoutNumber, build, flat, int, key, sort, triangle};
+
+#[cfg(text_at_hand)]
+macro_rules! given {
+    ($($module:ident { $($stand_in:ident),* })*) => {$(
+        #[allow(dead_code)]
+        pub(crate) mod $module {
+            include!(concat!(env!("OUT_DIR"), "/", stringify!($module), ".rs"));
+            $(pub(crate) use crate::stand_ins::$stand_in;)*
+        }
+    )*};
+}
+#[cfg(text_at_hand)]
+given! {
+    bind {}
+    core { overlay }
+    geom { line_range }
+    segm {}
+    util {}
+    vector {}
+}

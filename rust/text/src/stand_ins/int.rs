@@ -1,0 +1,181 @@
+//! i_float `int` (numbers, points, vectors) and i_shape `int` (contours, area).
+
+pub(crate) mod number {
+    pub(crate) mod int {
+        use super::uint::UIntNumber;
+        use super::wide_int::WideIntNumber;
+        use crate::{Expiration, LayoutNumber, sort::key::SortKey};
+        use std::fmt::Debug;
+
+        /// A coordinate, with the twice as wide number that products of two differences need.
+        pub trait IntNumber: Copy + Ord + Debug + Default + Send + Sync {
+            type Wide: WideIntNumber<UInt = Self::WideUInt> + From<Self>;
+            type WideUInt: UIntNumber;
+        }
+
+        macro_rules! int_number {
+            ($($int:ty, $wide:ty, $unsigned:ty;)*) => {$(
+                impl IntNumber for $int {
+                    type Wide = $wide;
+                    type WideUInt = $unsigned;
+                }
+                impl WideIntNumber for $wide {
+                    type UInt = $unsigned;
+                    const ZERO: Self = 0;
+                    const ONE: Self = 1;
+
+                    fn unsigned_abs(self) -> $unsigned {
+                        self.unsigned_abs()
+                    }
+                }
+                impl UIntNumber for $unsigned {
+                    const ZERO: Self = 0;
+                }
+                impl Expiration for $int {
+                    const NEVER: Self = <$int>::MAX;
+                }
+                impl LayoutNumber for $int {}
+                impl SortKey for $int {}
+            )*};
+        }
+        int_number! {
+            i16, i32, u32;
+            i32, i64, u64;
+            i64, i128, u128;
+        }
+    }
+
+    pub(crate) mod wide_int {
+        use std::fmt::Debug;
+        use std::ops::{Add, Mul, Neg, Sub};
+
+        pub trait WideIntNumber:
+            Copy
+            + Ord
+            + Debug
+            + Send
+            + Sync
+            + Add<Output = Self>
+            + Sub<Output = Self>
+            + Mul<Output = Self>
+            + Neg<Output = Self>
+        {
+            type UInt;
+            const ZERO: Self;
+            const ONE: Self;
+
+            fn unsigned_abs(self) -> Self::UInt;
+        }
+    }
+
+    pub(crate) mod uint {
+        use std::fmt::Debug;
+        use std::ops::Shr;
+
+        pub trait UIntNumber: Copy + Ord + Debug + Send + Sync + Shr<usize, Output = Self> {
+            const ZERO: Self;
+        }
+    }
+}
+
+pub(crate) mod point {
+    use super::number::int::IntNumber;
+    use super::vector::IntVector;
+    use std::ops::Sub;
+
+    /// A point, ordered by x and then by y.
+    #[derive(Debug, Clone, Copy, PartialEq, Eq, PartialOrd, Ord)]
+    pub struct IntPoint<I> {
+        pub x: I,
+        pub y: I,
+    }
+
+    impl<I: IntNumber> Sub for IntPoint<I> {
+        type Output = IntVector<I>;
+
+        #[inline(always)]
+        fn sub(self, other: Self) -> IntVector<I> {
+            let difference = |p: I, q: I| I::Wide::from(p) - I::Wide::from(q);
+            IntVector { x: difference(self.x, other.x), y: difference(self.y, other.y) }
+        }
+    }
+}
+
+pub(crate) mod vector {
+    use super::number::int::IntNumber;
+
+    #[derive(Debug, Clone, Copy)]
+    pub struct IntVector<I: IntNumber> {
+        pub x: I::Wide,
+        pub y: I::Wide,
+    }
+
+    impl<I: IntNumber> IntVector<I> {
+        /// Positive when `other` is counterclockwise of this vector.
+        #[inline(always)]
+        pub fn cross_product(self, other: Self) -> I::Wide {
+            self.x * other.y - self.y * other.x
+        }
+    }
+}
+
+pub(crate) mod path {
+    pub type IntPath<I> = Vec<super::point::IntPoint<I>>;
+}
+
+pub(crate) mod shape {
+    pub type IntContour<I> = Vec<super::point::IntPoint<I>>;
+    pub type IntShape<I> = Vec<IntContour<I>>;
+    pub type IntShapes<I> = Vec<IntShape<I>>;
+}
+
+pub(crate) mod area {
+    use super::number::{int::IntNumber, wide_int::WideIntNumber};
+    use super::point::IntPoint;
+
+    /// The doubled area of a closed contour. The text uses its absolute value alone.
+    pub trait UnsafeArea<I: IntNumber> {
+        fn unsafe_area(self) -> I::Wide;
+    }
+
+    impl<I: IntNumber, It: Iterator<Item = IntPoint<I>>> UnsafeArea<I> for It {
+        #[inline]
+        fn unsafe_area(mut self) -> I::Wide {
+            let cross = |p: IntPoint<I>, q: IntPoint<I>| {
+                I::Wide::from(p.x) * I::Wide::from(q.y) - I::Wide::from(p.y) * I::Wide::from(q.x)
+            };
+            let Some(first) = self.next() else {
+                return I::Wide::ZERO;
+            };
+            let (sum, last) = self.fold((I::Wide::ZERO, first), |(sum, p), q| (sum + cross(p, q), q));
+            sum + cross(last, first)
+        }
+    }
+}
+
+pub(crate) mod simple {
+    /// Removal of collinear points: never asked for, since they are kept.
+    pub trait Simplify {
+        fn simplify_contour(&mut self);
+    }
+
+    impl<T> Simplify for Vec<T> {
+        fn simplify_contour(&mut self) {
+            unreachable!("collinear points are kept");
+        }
+    }
+}
+
+pub(crate) mod count {
+    use super::shape::IntShapes;
+
+    pub trait PointsCount {
+        fn points_count(&self) -> usize;
+    }
+
+    impl<I> PointsCount for IntShapes<I> {
+        fn points_count(&self) -> usize {
+            self.iter().flatten().map(Vec::len).sum()
+        }
+    }
+}
