@@ -9,4 +9,6 @@ pub mod Steps
 pub mod Runs
 pub mod Forms
 pub mod Lists
+pub mod Encoded
+pub mod RoundTrip
 pub mod Examples

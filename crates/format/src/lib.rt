@@ -78,14 +78,18 @@ fn u16_at(s: &[u8], i: usize) -> u32
     requires { ⌜ i + 2 ≤ length (now s) ⌝ }
     ensures { λ r. ⌜ (r ≡ u16At (now (s .entry)) i) × (r < 65536) ⌝ }
 {
-    s[i] as u32 + 256 * (s[i + 1] as u32)
+    let low = s[i] as u32;
+    let high = s[i + 1] as u32;
+    low + 256 * high
 }
 
 fn u32_at(s: &[u8], i: usize) -> u32
     requires { ⌜ i + 4 ≤ length (now s) ⌝ }
     ensures { λ r. ⌜ r ≡ u32At (now (s .entry)) i ⌝ }
 {
-    u16_at(s, i) + 65536 * u16_at(s, i + 2)
+    let low = u16_at(s, i);
+    let high = u16_at(s, i + 2);
+    low + 65536 * high
 }
 
 fn u64_at(s: &[u8], i: usize) -> u64
@@ -157,11 +161,12 @@ fn step_at(s: &[u8], kind: u32, r: Run) -> Step
     if number != 0 {
         return Step::Fault(refused(number, at));
     }
-    if s.len() - at - 6 < len {
+    let body = at + 6;
+    if s.len() - body < len {
         return Step::Fault(Refusal { number: 13, place: at });
     }
     Step::Next(Run {
-        at: at + 6 + len,
+        at: body + len,
         count: r.count + 1,
         size: r.size + len,
     })

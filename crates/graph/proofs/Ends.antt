@@ -1,13 +1,12 @@
 -- What the functions over the ends at a node have to show: each entry compared with the first, ends within the bounds, pairs of entries.
-use Prim.Native.Nat.{ℕ, zero, suc, _≤_, _<_}
+use Prim.Native.Nat.{ℕ, _≤_, _<_}
 use native.Mathlib.Omega.{arith}
-use native.Mathlib.Nat.{not-suc-le-zero}
 use mathlib.Core.Path.{_≡_, refl, sym, _∙_}
 use mathlib.Core.Bool.{Bool, true, false, not, _||_, _&&_}
 use mathlib.Core.List.{List}
 use lib.Dec.{eqb}
 use lib.ListN.{length, getD}
-use Rattle.laws.specs.Test.{pick, pick-ind, true≢false}
+use Rattle.laws.specs.Test.{pick-ind, true≢false}
 use Rattle.laws.specs.Lowest.{None, some, some-yes, some-no}
 use Rattle.turn.specs.declared.Point.{Point}
 use Rattle.turn.specs.Points.{OnGrid}

@@ -5,8 +5,7 @@ use mathlib.Core.Bool.{false}
 use mathlib.Core.List.{List}
 use lib.ListN.{length, getD}
 use Rattle.laws.specs.Test.{or-false}
-use Rattle.laws.specs.Lowest.{lowest, some, None, none-of}
-use Rattle.turn.specs.Points.{before, OnGrid}
+use Rattle.laws.specs.Lowest.{some, None, none-of}
 use Rattle.graph.specs.Graph.{Lent, linkCount, nodeCount, part}
 use Rattle.graph.specs.Checks.{aOf, bOf, nodeAt, linkFault, flagFault, misplaced, misnamed, linkWrong, badStarts, strayAt, missed, badNodes}
 use Rattle.graph.specs.Passes.{Even, Rising}

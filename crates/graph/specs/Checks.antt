@@ -40,10 +40,6 @@ nodeAt ids k = getD ids k 0
 abbrev pub entriesOf : Lent → ℕ → List ℕ
 entriesOf g = part (g .start) (g .list)
 
--- ---- 1, of the shared graph: "n above 4,096"
-abbrev pub tooMany : ℕ → Bool
-tooMany n = ltb maxLinks n
-
 -- ---- 2, of the shared graph: "parallel lists differ in length; no start at all"
 abbrev pub unlike : Lent → Bool
 unlike g =
@@ -159,13 +155,10 @@ skipped state k = eqb (getD state k 0) 1
 abbrev pub alike : (ℕ → Point) → (ℕ → Point) → (ℕ → ℕ) → List ℕ → ℕ → ℕ → ℕ → Bool
 alike a b aNode state v e f = not (skipped state e) && not (skipped state f) && sameDirection (away a b aNode v e) (away a b aNode v f)
 
-abbrev pub alikeIn : (ℕ → Point) → (ℕ → Point) → (ℕ → ℕ) → List ℕ → List ℕ → ℕ → Bool
-alikeIn a b aNode state entries v = someTwo (λ i j. alike a b aNode state v (getD entries i 0) (getD entries j 0)) (length entries)
-
 abbrev pub alikeAt : (ℕ → Point) → (ℕ → Point) → (ℕ → ℕ) → List ℕ → (ℕ → List ℕ) → ℕ → Bool
-alikeAt a b aNode state entries v = alikeIn a b aNode state (entries v) v
+alikeAt a b aNode state entries v = someTwo (λ i j. alike a b aNode state v (getD (entries v) i 0) (getD (entries v) j 0)) (length (entries v))
 
--- ---- the order: each check "over all the input before the next"
+-- ---- the order: each check "over all the input before the next"; 1 is "n above 4,096"
 
 -- a check refuses the lowest place below n at which its test passes; else the next check says
 abbrev pub refuseAt : ℕ → (ℕ → Bool) → ℕ → Checked → Checked
@@ -190,6 +183,6 @@ checkedLinks g top state =
 
 unfoldable pub checked : Lent → List ℕ → List ℕ → Room → Checked
 checked g top state r =
-    refuseIf 1 (tooMany (linkCount g))
+    refuseIf 1 (ltb maxLinks (linkCount g))
     (refuseIf 2 (unlike g || fewPoints (linkCount g) (r .points) || unlikeBand (linkCount g) top state || fewContours (linkCount g) (r .firsts) (r .lens) (r .kinds))
     (checkedLinks g top state))

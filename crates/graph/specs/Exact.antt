@@ -1,20 +1,20 @@
 -- `checked` calls a graph fine exactly where it passes: where each condition of document 01's checks 1 to 7 fails everywhere.
-use Prim.Native.Nat.{ℕ, _+_, _-_, _/_, _≤_, _<_}
+use Prim.Native.Nat.{ℕ, _+_, _/_, _≤_, _<_}
 use native.Mathlib.Omega.{arith}
 use native.Mathlib.Decide.{decLe}
 use mathlib.Core.Path.{_≡_, refl, sym}
 use mathlib.Core.Bool.{Bool, true, false, _||_}
 use mathlib.Core.List.{List}
 use lib.ListN.{length, getD}
-use Rattle.laws.specs.Lowest.{lowest, some}
+use Rattle.laws.specs.Lowest.{some}
 use Rattle.turn.specs.Limits.{maxLinks}
 use Rattle.turn.specs.Points.{before, OnGrid}
 use Rattle.turn.specs.Angle.{sameDirection}
 use Rattle.graph.specs.declared.Checked.the-variants.{Fine}
 use Rattle.graph.specs.Graph.{Lent, linkCount, nodeCount}
 use Rattle.graph.specs.Count.{count}
-use Rattle.graph.specs.Checks.{Room, aOf, bOf, nodeAt, entriesOf, unlike, fewPoints, unlikeBand, fewContours, linkWrong, outOfOrder, badStarts, badNodes, apartAt, alikeAt, checkedNodes, checkedLinks, checked}
-use Rattle.graph.specs.Passes.{Even, Rising, EndAt, entry, endOf, awayOf, SharedPasses, BandPasses, Passes}
+use Rattle.graph.specs.Checks.{Room, aOf, bOf, nodeAt, entriesOf, unlike, fewPoints, unlikeBand, fewContours, linkWrong, badStarts, badNodes, apartAt, alikeAt, checkedNodes, checkedLinks, checked}
+use Rattle.graph.specs.Passes.{Even, EndAt, entry, endOf, awayOf, Passes}
 use Rattle.graph.specs.Tests.{Iff, Fails, then, both, or-fails, some-fails, two-fails, lt-fails, ne-fails, refuses, even, band-even, contours, placed, named, flagged, in-order, rising, no-stray, together, unlike-ways}
 
 module _ (g : Lent) (top state : List ℕ) (r : Room) where
@@ -128,13 +128,22 @@ module _ (g : Lent) (top state : List ℕ) (r : Room) where
   unpack : Passes g top state r → All
   unpack h =
       let s = h .shared in
-      let b = h .band in
-      (s .few,
-      (((((s .even, s .rising .any), s .room), (b .top-long, b .state-long)), ((b .lens-long, b .kinds-long), b .room)),
-      ((λ k l. ((((s .a-grid k l, s .b-grid k l), s .strict k l), ((s .a-node k l, s .b-node k l), s .two-nodes k l)), (b .top-flag k l, b .state-flag k l))),
-      (s .order,
-      (((rising (g .start) (g .list) (s .rising .any) .from (s .rising), λ v l i c. s .ends v i l c), λ k l. (s .once-a k l, s .once-b k l)),
-      ((λ v l j lj i li. s .one-point v i j l (omega arith) lj), λ v l j lj i li. b .spread v i j l li lj))))))
+      let b = h .band in (
+        s .few,
+        (
+          ((((s .even, s .rising .any), s .room), (b .top-long, b .state-long)), ((b .lens-long, b .kinds-long), b .room)),
+          (
+            (λ k l. ((((s .a-grid k l, s .b-grid k l), s .strict k l), ((s .a-node k l, s .b-node k l), s .two-nodes k l)), (b .top-flag k l, b .state-flag k l))),
+            (
+              s .order,
+              (
+                ((rising (g .start) (g .list) (s .rising .any) .from (s .rising), λ v l i c. s .ends v i l c), λ k l. (s .once-a k l, s .once-b k l)),
+                ((λ v l j lj i li. s .one-point v i j l (omega arith) lj), λ v l j lj i li. b .spread v i j l li lj),
+              ),
+            ),
+          ),
+        ),
+      )
 
   pub exact : Iff (checked g top state r ≡ Fine) (Passes g top state r)
   exact = then all (record { to = passes; from = unpack })

@@ -78,7 +78,7 @@ two : (points (pos 0 ∷ []) ays bxs bys
 unfolding checked
 two = refl
 
--- 3: coordinates at both bounds, one past each, a at b, an id not below 4, equal ids, a top of 2, a state of 2 at a lower link than a wrong top
+-- 3: a coordinate one past each bound, a at b, an id not below 4, equal ids, a top of 2, a state of 2 at a lower link than a wrong top
 three : (points axs ays bxs (pos 0 ∷ pos 4 ∷ pos 524289 ∷ pos 4 ∷ [])
     ∷ points (pos 0 ∷ negsuc 524288 ∷ pos 0 ∷ pos 4 ∷ []) ays bxs bys
     ∷ points axs ays (pos 4 ∷ pos 0 ∷ pos 0 ∷ pos 4 ∷ []) bys
@@ -91,7 +91,7 @@ three : (points axs ays bxs (pos 0 ∷ pos 4 ∷ pos 524289 ∷ pos 4 ∷ [])
 unfolding checked checkedLinks lowest
 three = refl
 
--- 4: link 1 from (-1, 0) comes after link 0 from (0, 0); at both bounds nothing is wrong but the order
+-- 4: link 1 from (-1, 0) comes after link 0 from (0, 0); a link between both bounds passes check 3, and is out of order too
 four : (points (pos 0 ∷ negsuc 0 ∷ pos 0 ∷ pos 4 ∷ []) ays bxs bys
     ∷ points (pos 0 ∷ pos 0 ∷ negsuc 524287 ∷ pos 4 ∷ []) (pos 0 ∷ pos 0 ∷ negsuc 524287 ∷ pos 0 ∷ []) (pos 4 ∷ pos 0 ∷ pos 524288 ∷ pos 4 ∷ []) (pos 0 ∷ pos 4 ∷ pos 524288 ∷ pos 4 ∷ [])
     ∷ [])

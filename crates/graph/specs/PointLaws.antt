@@ -1,8 +1,7 @@
 -- Laws of points: the order, when two are one, the bounds; and that having one direction goes both ways.
-use Prim.Native.Nat.{ℕ, _≤_}
 use native.Mathlib.Omega.{arith}
 use mathlib.Core.Path.{_≡_, refl, sym, ap, _∙_, subst}
-use mathlib.Core.Bool.{Bool, true, false, not, _||_, _&&_}
+use mathlib.Core.Bool.{Bool, true, false, not, _&&_}
 use mathlib.Core.Logic.{_⊎_, inl, inr, ⊎-elim}
 use lib.IntN.{ℤ, pos, negsuc, negℤ}
 use lib.Signed.{ltZ, _≤ℤ_, _<ℤ_, ltZ-no, ltZ-yes, <ℤ-irrefl, clashℤ, ≤ℤ-refl}

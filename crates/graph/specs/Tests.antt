@@ -1,25 +1,22 @@
 -- What each test of the checks says, both ways: it fails exactly where the plain fact holds.
 use Prim.Native.Nat.{ℕ, zero, suc, _+_, _-_, _/_, _≤_, _<_}
 use native.Mathlib.Omega.{arith}
-use native.Mathlib.Decide.{decLe}
-use native.Mathlib.Nat.{not-suc-le-zero}
-use mathlib.Core.Path.{_≡_, refl, sym, ap, _∙_, subst}
+use mathlib.Core.Path.{_≡_, refl, ap}
 use mathlib.Core.Bool.{Bool, true, false, not, _||_, _&&_}
 use mathlib.Core.Logic.{_⊎_, inl, inr, ⊎-elim}
 use mathlib.Core.List.{List}
 use lib.Dec.{ltb, leb, eqb}
 use lib.ListN.{length, getD}
 use borrow.Author.Tests.{ltb-false, leb-false, eqb-true, eqb-false, le-ltb, lt-leb, eq-eqb, ne-eqb, lt-ltb, not-false}
-use Rattle.laws.specs.Test.{pick, or-false, false-or, and-true, and-false, true≢false, not-true}
+use Rattle.laws.specs.Test.{pick, or-false, false-or, and-false, true≢false}
 use Rattle.laws.specs.Lowest.{some, None, none-of, some-no}
 use Rattle.turn.specs.declared.Point.{Point}
-use Rattle.turn.specs.Points.{before, differ, outside, Coord, OnGrid}
+use Rattle.turn.specs.Points.{before, OnGrid}
 use Rattle.turn.specs.Angle.{sameDirection}
 use Rattle.graph.specs.declared.Checked.{Checked}
 use Rattle.graph.specs.declared.Checked.the-variants.{Fine, Refused}
-use Rattle.graph.specs.Graph.{Lent, linkCount, nodeCount, pointAt, part}
-use Rattle.graph.specs.Count.{count}
-use Rattle.graph.specs.Checks.{tooMany, unlike, fewPoints, unlikeBand, fewContours, offGrid, misplaced, misnamed, linkFault, misflagged, flagFault, outOfOrder, short, badStarts, stray, strayIn, notOnce, missed, someTwo, endAt, away, apart, apartIn, skipped, alike, alikeIn}
+use Rattle.graph.specs.Graph.{Lent}
+use Rattle.graph.specs.Checks.{unlike, unlikeBand, fewContours, offGrid, misplaced, misnamed, misflagged, outOfOrder, badStarts, stray, someTwo, endAt, away, apart, skipped, alike}
 use Rattle.graph.specs.Passes.{Even, Rising, EndAt}
 use Rattle.graph.specs.PointLaws.{coord, inside, same-point, not-differ}
 

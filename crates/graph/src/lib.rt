@@ -7,11 +7,17 @@ ghost use Rattle.laws.specs.Lowest.{lowest, some};
 ghost use Rattle.turn.specs.Points.{Short};
 ghost use Rattle.graph.specs.Graph.{lent, pointAt, part};
 ghost use Rattle.graph.specs.Count.{count};
-ghost use Rattle.graph.specs.Checks.{room, tooMany, unlike, fewPoints, unlikeBand, fewContours, offGrid, misplaced, misnamed, linkWrong, misflagged, outOfOrder, short, badStarts, stray, strayIn, strayAt, notOnce, missed, badNodes, nodeAt, endAt, away, apart, apartIn, apartAt, alike, alikeAt, checkedNodes, checkedLinks, checked};
+ghost use Rattle.graph.specs.Checks.{room, unlike, fewPoints, unlikeBand, fewContours, offGrid, misplaced, misnamed, linkWrong, misflagged, outOfOrder, short, badStarts, stray, strayIn, strayAt, notOnce, missed, badNodes, nodeAt, endAt, away, apart, apartIn, apartAt, alike, alikeAt, checkedNodes, checkedLinks, checked};
 ghost use Rattle.graph.specs.Passes.{Even, Rising};
 ghost use Rattle.graph.specs.Known.{Points, Grids, Ids, Below, Entries};
-
-use turn::{between, before, differ, outside, same_direction, Point, Vector, MAX_LINKS};
+use turn::MAX_LINKS;
+use turn::Point;
+use turn::Vector;
+use turn::before;
+use turn::between;
+use turn::differ;
+use turn::outside;
+use turn::same_direction;
 
 // What the checks say: nothing is wrong, or document 01's number and place.
 pub enum Checked {
@@ -35,7 +41,16 @@ pub fn point_at(xs: &[i32], ys: &[i32], k: usize) -> Point
 }
 
 // ---- Check 2, of the shared graph: whether its lists differ in length, or there is no start.
-fn unlike(ax: &[i32], ay: &[i32], bx: &[i32], by: &[i32], aid: &[u32], bid: &[u32], start: &[u32], list: &[u32]) -> bool
+fn unlike(
+    ax: &[i32],
+    ay: &[i32],
+    bx: &[i32],
+    by: &[i32],
+    aid: &[u32],
+    bid: &[u32],
+    start: &[u32],
+    list: &[u32],
+) -> bool
     ensures { λ r. ⌜ r ≡ unlike (lent (now (ax .entry)) (now (ay .entry)) (now (bx .entry)) (now (by .entry)) (now (aid .entry)) (now (bid .entry)) (now (start .entry)) (now (list .entry))) ⌝ }
 {
     let n = aid.len();
@@ -97,7 +112,18 @@ fn misflagged(top: u8, state: u8) -> bool
 }
 
 // The lowest link that check 3 refuses, among m nodes, or the number of links.
-fn bad_link(ax: &[i32], ay: &[i32], bx: &[i32], by: &[i32], aid: &[u32], bid: &[u32], start: &[u32], list: &[u32], top: &[u8], state: &[u8]) -> usize
+fn bad_link(
+    ax: &[i32],
+    ay: &[i32],
+    bx: &[i32],
+    by: &[i32],
+    aid: &[u32],
+    bid: &[u32],
+    start: &[u32],
+    list: &[u32],
+    top: &[u8],
+    state: &[u8],
+) -> usize
     requires { ⌜ Even (lent (now ax) (now ay) (now bx) (now by) (now aid) (now bid) (now start) (now list)) ⌝ }
     requires { ⌜ (length (now top) ≡ length (now aid)) × (length (now state) ≡ length (now aid)) ⌝ }
     requires { ⌜ 1 ≤ length (now start) ⌝ }
@@ -273,7 +299,15 @@ fn bad_nodes(aid: &[u32], bid: &[u32], start: &[u32], list: &[u32]) -> bool
 }
 
 // ---- Checks 6 and 7: the point of link k's end at node v; with a and b swapped, of its other end.
-pub fn end_at(ax: &[i32], ay: &[i32], bx: &[i32], by: &[i32], aid: &[u32], v: usize, k: usize) -> Point
+pub fn end_at(
+    ax: &[i32],
+    ay: &[i32],
+    bx: &[i32],
+    by: &[i32],
+    aid: &[u32],
+    v: usize,
+    k: usize,
+) -> Point
     requires { ⌜ Points (now ax) (now ay) (now bx) (now by) (length (now aid)) ⌝ }
     requires { ⌜ k < length (now aid) ⌝ }
     ensures { λ r. ⌜ r ≡ endAt (pointAt (now (ax .entry)) (now (ay .entry))) (pointAt (now (bx .entry)) (now (by .entry))) (nodeAt (now (aid .entry))) v k ⌝ }
@@ -285,17 +319,36 @@ pub fn end_at(ax: &[i32], ay: &[i32], bx: &[i32], by: &[i32], aid: &[u32], v: us
 }
 
 // The way that link k runs from node v.
-pub fn away(ax: &[i32], ay: &[i32], bx: &[i32], by: &[i32], aid: &[u32], v: usize, k: usize) -> Vector
+pub fn away(
+    ax: &[i32],
+    ay: &[i32],
+    bx: &[i32],
+    by: &[i32],
+    aid: &[u32],
+    v: usize,
+    k: usize,
+) -> Vector
     requires { ⌜ Points (now ax) (now ay) (now bx) (now by) (length (now aid)) ⌝ }
     requires { ⌜ Grids (now ax) (now ay) (now bx) (now by) (length (now aid)) ⌝ }
     requires { ⌜ k < length (now aid) ⌝ }
     ensures { λ r. ⌜ (r ≡ away (pointAt (now (ax .entry)) (now (ay .entry))) (pointAt (now (bx .entry)) (now (by .entry))) (nodeAt (now (aid .entry))) v k) × (Short r) ⌝ }
 {
-    between(end_at(ax, ay, bx, by, aid, v, k), end_at(bx, by, ax, ay, aid, v, k))
+    between(
+        end_at(ax, ay, bx, by, aid, v, k),
+        end_at(bx, by, ax, ay, aid, v, k),
+    )
 }
 
 // ---- Check 6, of the shared graph: whether node v, with these entries, has ends at different points.
-fn apart_in(ax: &[i32], ay: &[i32], bx: &[i32], by: &[i32], aid: &[u32], here: &[u32], v: usize) -> bool
+fn apart_in(
+    ax: &[i32],
+    ay: &[i32],
+    bx: &[i32],
+    by: &[i32],
+    aid: &[u32],
+    here: &[u32],
+    v: usize,
+) -> bool
     requires { ⌜ Points (now ax) (now ay) (now bx) (now by) (length (now aid)) ⌝ }
     requires { ⌜ Below (now here) (length (now aid)) ⌝ }
     ensures { λ r. ⌜ r ≡ apartIn (pointAt (now (ax .entry)) (now (ay .entry))) (pointAt (now (bx .entry)) (now (by .entry))) (nodeAt (now (aid .entry))) (now (here .entry)) v ⌝ }
@@ -315,7 +368,15 @@ fn apart_in(ax: &[i32], ay: &[i32], bx: &[i32], by: &[i32], aid: &[u32], here: &
 }
 
 // The lowest node that check 6 refuses, or the number of nodes.
-fn apart_node(ax: &[i32], ay: &[i32], bx: &[i32], by: &[i32], aid: &[u32], start: &[u32], list: &[u32]) -> usize
+fn apart_node(
+    ax: &[i32],
+    ay: &[i32],
+    bx: &[i32],
+    by: &[i32],
+    aid: &[u32],
+    start: &[u32],
+    list: &[u32],
+) -> usize
     requires { ⌜ Points (now ax) (now ay) (now bx) (now by) (length (now aid)) ⌝ }
     requires { ⌜ Rising (now start) (now list) ⌝ }
     requires { ⌜ Entries (now start) (now list) (length (now aid)) ⌝ }
@@ -333,7 +394,17 @@ fn apart_node(ax: &[i32], ay: &[i32], bx: &[i32], by: &[i32], aid: &[u32], start
 }
 
 // ---- Check 7, of one band: whether links e and f are unskipped and run from node v in one direction.
-fn alike(ax: &[i32], ay: &[i32], bx: &[i32], by: &[i32], aid: &[u32], state: &[u8], v: usize, e: usize, f: usize) -> bool
+fn alike(
+    ax: &[i32],
+    ay: &[i32],
+    bx: &[i32],
+    by: &[i32],
+    aid: &[u32],
+    state: &[u8],
+    v: usize,
+    e: usize,
+    f: usize,
+) -> bool
     requires { ⌜ Points (now ax) (now ay) (now bx) (now by) (length (now aid)) ⌝ }
     requires { ⌜ Grids (now ax) (now ay) (now bx) (now by) (length (now aid)) ⌝ }
     requires { ⌜ length (now state) ≡ length (now aid) ⌝ }
@@ -343,11 +414,23 @@ fn alike(ax: &[i32], ay: &[i32], bx: &[i32], by: &[i32], aid: &[u32], state: &[u
     if (state[e] == 1) | (state[f] == 1) {
         return false;
     }
-    same_direction(away(ax, ay, bx, by, aid, v, e), away(ax, ay, bx, by, aid, v, f))
+    same_direction(
+        away(ax, ay, bx, by, aid, v, e),
+        away(ax, ay, bx, by, aid, v, f),
+    )
 }
 
 // The lowest node that check 7 refuses, or the number of nodes: over nodes and pairs of entries, up to the first pair alike.
-fn alike_node(ax: &[i32], ay: &[i32], bx: &[i32], by: &[i32], aid: &[u32], start: &[u32], list: &[u32], state: &[u8]) -> usize
+fn alike_node(
+    ax: &[i32],
+    ay: &[i32],
+    bx: &[i32],
+    by: &[i32],
+    aid: &[u32],
+    start: &[u32],
+    list: &[u32],
+    state: &[u8],
+) -> usize
     requires { ⌜ Points (now ax) (now ay) (now bx) (now by) (length (now aid)) ⌝ }
     requires { ⌜ Grids (now ax) (now ay) (now bx) (now by) (length (now aid)) ⌝ }
     requires { ⌜ length (now state) ≡ length (now aid) ⌝ }
@@ -377,7 +460,17 @@ fn alike_node(ax: &[i32], ay: &[i32], bx: &[i32], by: &[i32], aid: &[u32], start
 }
 
 // ---- The order of the checks: what checks 5, 6 and 7 say.
-fn check_nodes(ax: &[i32], ay: &[i32], bx: &[i32], by: &[i32], aid: &[u32], bid: &[u32], start: &[u32], list: &[u32], state: &[u8]) -> Checked
+fn check_nodes(
+    ax: &[i32],
+    ay: &[i32],
+    bx: &[i32],
+    by: &[i32],
+    aid: &[u32],
+    bid: &[u32],
+    start: &[u32],
+    list: &[u32],
+    state: &[u8],
+) -> Checked
     requires { ⌜ Points (now ax) (now ay) (now bx) (now by) (length (now aid)) ⌝ }
     requires { ⌜ Grids (now ax) (now ay) (now bx) (now by) (length (now aid)) ⌝ }
     requires { ⌜ length (now state) ≡ length (now aid) ⌝ }
@@ -386,22 +479,42 @@ fn check_nodes(ax: &[i32], ay: &[i32], bx: &[i32], by: &[i32], aid: &[u32], bid:
     ensures { λ r. ⌜ r ≡ checkedNodes (lent (now (ax .entry)) (now (ay .entry)) (now (bx .entry)) (now (by .entry)) (now (aid .entry)) (now (bid .entry)) (now (start .entry)) (now (list .entry))) (now (state .entry)) ⌝ }
 {
     if bad_nodes(aid, bid, start, list) {
-        return Checked::Refused { number: 5, place: 0 };
+        return Checked::Refused {
+            number: 5,
+            place: 0,
+        };
     }
     let m = start.len() - 1;
     let v = apart_node(ax, ay, bx, by, aid, start, list);
     if v < m {
-        return Checked::Refused { number: 6, place: v };
+        return Checked::Refused {
+            number: 6,
+            place: v,
+        };
     }
     let w = alike_node(ax, ay, bx, by, aid, start, list, state);
     if w < m {
-        return Checked::Refused { number: 7, place: w };
+        return Checked::Refused {
+            number: 7,
+            place: w,
+        };
     }
     Checked::Fine
 }
 
 // What checks 3 to 7 say.
-fn check_links(ax: &[i32], ay: &[i32], bx: &[i32], by: &[i32], aid: &[u32], bid: &[u32], start: &[u32], list: &[u32], top: &[u8], state: &[u8]) -> Checked
+fn check_links(
+    ax: &[i32],
+    ay: &[i32],
+    bx: &[i32],
+    by: &[i32],
+    aid: &[u32],
+    bid: &[u32],
+    start: &[u32],
+    list: &[u32],
+    top: &[u8],
+    state: &[u8],
+) -> Checked
     requires { ⌜ Even (lent (now ax) (now ay) (now bx) (now by) (now aid) (now bid) (now start) (now list)) ⌝ }
     requires { ⌜ (length (now top) ≡ length (now aid)) × (length (now state) ≡ length (now aid)) ⌝ }
     requires { ⌜ 1 ≤ length (now start) ⌝ }
@@ -410,30 +523,57 @@ fn check_links(ax: &[i32], ay: &[i32], bx: &[i32], by: &[i32], aid: &[u32], bid:
     let n = aid.len();
     let k = bad_link(ax, ay, bx, by, aid, bid, start, list, top, state);
     if k < n {
-        return Checked::Refused { number: 3, place: k };
+        return Checked::Refused {
+            number: 3,
+            place: k,
+        };
     }
     let l = out_of_order(ax, ay);
     if l < n {
-        return Checked::Refused { number: 4, place: l };
+        return Checked::Refused {
+            number: 4,
+            place: l,
+        };
     }
     check_nodes(ax, ay, bx, by, aid, bid, start, list, state)
 }
 
 // What checks 1 to 7 say of a lent graph, its tops and states, and the room for its answer: a buffer of so many numbers for the points, two to a point,
 // and the lengths of the contour table's three lists.
-pub fn check_graph(ax: &[i32], ay: &[i32], bx: &[i32], by: &[i32], aid: &[u32], bid: &[u32], start: &[u32], list: &[u32], top: &[u8], state: &[u8], points: usize, firsts: usize, lens: usize, kinds: usize) -> Checked
+pub fn check_graph(
+    ax: &[i32],
+    ay: &[i32],
+    bx: &[i32],
+    by: &[i32],
+    aid: &[u32],
+    bid: &[u32],
+    start: &[u32],
+    list: &[u32],
+    top: &[u8],
+    state: &[u8],
+    points: usize,
+    firsts: usize,
+    lens: usize,
+    kinds: usize,
+) -> Checked
     ensures { λ r. ⌜ r ≡ checked (lent (now (ax .entry)) (now (ay .entry)) (now (bx .entry)) (now (by .entry)) (now (aid .entry)) (now (bid .entry)) (now (start .entry)) (now (list .entry))) (now (top .entry)) (now (state .entry)) (room points firsts lens kinds) ⌝ }
 {
     let n = aid.len();
     if MAX_LINKS < n {
-        return Checked::Refused { number: 1, place: 0 };
+        return Checked::Refused {
+            number: 1,
+            place: 0,
+        };
     }
     if unlike(ax, ay, bx, by, aid, bid, start, list)
         | few_points(n, points)
         | unlike_band(n, top, state)
         | few_contours(n, firsts, lens, kinds)
     {
-        return Checked::Refused { number: 2, place: 0 };
+        return Checked::Refused {
+            number: 2,
+            place: 0,
+        };
     }
     check_links(ax, ay, bx, by, aid, bid, start, list, top, state)
 }

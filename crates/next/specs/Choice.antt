@@ -1,17 +1,16 @@
 -- What the next link is (rule 3): unvisited and at the node; at a `Cross` no other unvisited link there is met before it; at a `Bridge` the other entry.
-use Prim.Native.Nat.{ℕ, zero, suc, _<_}
+use Prim.Native.Nat.{ℕ}
 use native.Mathlib.Omega.{arith}
 use mathlib.Core.Path.{_≡_, refl, sym, ap, _∙_, subst}
 use mathlib.Core.Logic.{_⊎_, inl, inr, ⊎-elim}
 use mathlib.Core.Bool.{Bool, true, false}
 use mathlib.Core.List.{List, [], _∷_, List·Memᴰ, List·Memᴰ·head, List·Memᴰ·tail, List·Memᴰ·cases-cons, List·Memᴰ·not-nil}
 use lib.Dec.{eqb}
-use lib.ListN.{length, getD}
+use lib.ListN.{length}
 use borrow.Author.Tests.{eq-eqb, ne-eqb}
-use Rattle.laws.specs.Test.{pick, pick-ind, Is, is-true, true-is, true≢false, not-true}
+use Rattle.laws.specs.Test.{pick, pick-ind, Is, is-true, true-is, true≢false}
 use Rattle.turn.specs.Angular.{irreflexive, transitive}
 use Rattle.graph.specs.Graph.{Graph}
-use Rattle.next.specs.declared.Next.{Next}
 use Rattle.next.specs.declared.Next.the-variants.{Link, Nothing}
 use Rattle.next.specs.Next.{isOpen, opens, onlyOpen, Node, bridge, crossing, nodeOf, runs, metFirst, best, firstMet, nextAt, nextLink}
 use Rattle.next.specs.Known.{Unvisited}

@@ -3,7 +3,7 @@ use Prim.Native.Nat.{ℕ, _+_, _-_, _≤_, _<_}
 use native.Mathlib.Omega.{arith}
 use mathlib.Core.Path.{_≡_, sym, ap, _∙_, subst}
 use mathlib.Core.Logic.{_⊎_, ⊎-elim}
-use mathlib.Core.Bool.{Bool, true, false}
+use mathlib.Core.Bool.{true, false}
 use mathlib.Core.List.{List}
 use lib.ListN.{length, getD}
 use lib.Seq.{getD-take, getD-drop}
@@ -15,7 +15,6 @@ use Rattle.graph.specs.Checks.{Room}
 use Rattle.graph.specs.Fine.{FineGraph, part-length}
 use Rattle.next.specs.Next.{isOpen, topmost}
 use Rattle.next.specs.Known.{Links, Nodes}
-use Rattle.next.specs.States.{open-below}
 use Rattle.next.specs.Choice.{Mem}
 use Rattle.next.specs.Topmost.{Starts, Topmost, first-topmost}
 

@@ -1,16 +1,16 @@
 -- What the first link is (rule 1): at a `Bridge` as the rule says; at a `Cross` always a link, unvisited where k is, with no unvisited link strictly counterclockwise of it among those that start there.
-use Prim.Native.Nat.{ℕ, zero, suc}
+use Prim.Native.Nat.{ℕ}
 use native.Mathlib.Omega.{arith}
-use mathlib.Core.Path.{_≡_, refl, sym, ap, _∙_, subst}
+use mathlib.Core.Path.{_≡_, refl, sym, ap, _∙_}
 use mathlib.Core.Logic.{_⊎_, inl, inr, ⊎-elim}
-use mathlib.Core.Bool.{Bool, true, false, not, _&&_, _||_}
+use mathlib.Core.Bool.{Bool, true, false, not, _&&_}
 use mathlib.Core.List.{List, [], _∷_, List·Memᴰ·head, List·Memᴰ·tail, List·Memᴰ·cases-cons, List·Memᴰ·not-nil}
 use lib.Dec.{eqb}
 use lib.IntN.{ℤ, pos, negℤ, _-ℤ_, _*ℤ_}
 use lib.Signed.{ltZ}
 use lib.ListN.{length}
 use borrow.Author.Tests.{eqb-true, not-false}
-use Rattle.laws.specs.Test.{pick, pick-ind, Is, yes!, is-true, true-is, true≢false, not-is, or-true, and-true, and-false, _⇒_, mp}
+use Rattle.laws.specs.Test.{pick, pick-ind, Is, yes!, true≢false, not-is, or-true, and-true, and-false, _⇒_, mp}
 use Rattle.laws.specs.Ring.{ring, var, _:+_, _:-_, _:*_}
 use Rattle.laws.specs.Sign.{Sgn, mns, zer, pls, sgn, flip, _⊗_, is-mns, eqS, plusOk, all6, sgn-mul, sgn-neg, sgn-add, three, ltZ-sgn, gtZ-sgn}
 use Rattle.laws.specs.Order.{lin, sub-parts, ltZ-true, ltZ-false, false-ltZ, <-sgn}
@@ -19,8 +19,7 @@ use Rattle.turn.specs.declared.Vector.{Vector}
 use Rattle.turn.specs.Points.{before, fromTo, cross, turn, clockwise}
 use Rattle.turn.specs.Directions.{cross-anti, cross-self}
 use Rattle.graph.specs.Graph.{Graph}
-use Rattle.next.specs.declared.Next.{Next}
-use Rattle.next.specs.declared.Next.the-variants.{Link, Nothing}
+use Rattle.next.specs.declared.Next.the-variants.{Link}
 use Rattle.next.specs.Next.{isOpen, onlyOpen, Node, bridge, crossing, nodeOf, replaces, topmost, firstAt, firstLink}
 use Rattle.next.specs.Known.{Unvisited}
 use Rattle.next.specs.States.{open-unvisited, only-unvisited}

@@ -5,13 +5,12 @@ ghost use mathlib.Core.Path.{_≡_};
 ghost use mathlib.Core.Bool.{true};
 ghost use mathlib.Core.List.{List, []};
 ghost use Prim.Native.Nat.{ℕ, _+_, _<_, _≤_};
-ghost use lib.Dec.{eqb};
 ghost use lib.ListN.{length, getD};
 ghost use Rattle.laws.specs.Test.{pick};
 ghost use Rattle.turn.specs.Points.{Short, clockwise};
 ghost use Rattle.turn.specs.Angle.{metBefore};
 ghost use Rattle.graph.specs.Graph.{lent, graphOf, pointAt};
-ghost use Rattle.next.specs.Next.{isOpen, opens, onlyOpen, runs, metFirst, best, firstMet, nextLink, replaces, topmost, firstLink};
+ghost use Rattle.next.specs.Next.{isOpen, opens, onlyOpen, metFirst, best, firstMet, nextLink, replaces, topmost, firstLink};
 ghost use Rattle.next.specs.Known.{Links, Nodes, Numbers, Unvisited, linksOf, stretch, rayOf, sideOf};
 ghost use Rattle.next.specs.Passed.{Passed};
 
@@ -34,6 +33,7 @@ struct Side {
     b: Point,
 }
 
+// A 32-bit number as an index.
 fn wide(x: u32) -> usize
     ensures { λ r. ⌜ r ≡ x ⌝ }
 {
@@ -48,6 +48,7 @@ fn number(list: &[u32], i: usize) -> usize
     wide(list[i])
 }
 
+// The point that two lists of coordinates have at k.
 fn point(x: &[i32], y: &[i32], k: usize) -> Point
     requires { ⌜ (k < length (now x)) × (k < length (now y)) ⌝ }
     ensures { λ r. ⌜ r ≡ pointAt (now (x .entry)) (now (y .entry)) k ⌝ }

@@ -5,7 +5,8 @@ use mathlib.Core.List.{List, [], _∷_, _++_}
 use native.Mathlib.Nat.{add-assoc, add-zero}
 use native.Mathlib.Numerals.{add-one}
 use native.Mathlib.Omega.{arith}
-use lib.ListN.{length, set, length-append, length-set}
+use lib.ListN.{length, set, take, length-append, length-set}
+use lib.Seq.{length-take-le}
 use Rattle.format.specs.Put.{put, put-none, put-put, put-set, set-put, length-put}
 
 pub record Wrote (old new : List ℕ) (at after : ℕ) (t : List ℕ) : Type 0 where
@@ -31,6 +32,16 @@ wrote-none a p = record { next = sym (add-zero p); bytes = sym (put-none a p) }
 -- the length stays
 pub wrote-long : {a b : List ℕ} {p q : ℕ} {t : List ℕ} → p + length t ≤ length a → Wrote a b p q t → length b ≡ length a
 wrote-long {a} {b} {p} {q} {t} h x = ap length (x .bytes) ∙ length-put a p t h
+
+-- n counts bytes at the start of l; the second part follows from the first, and is stated so that a caller's `&out[..n]` needs no proof
+abbrev pub Counts : ℕ → List ℕ → Type 0
+Counts n l = (n ≤ length l) × (n ≡ length (take n l))
+
+pub counted : {old new : List ℕ} {next : ℕ} {t : List ℕ} → length t ≤ length old → Wrote old new 0 next t → Counts next new
+counted {old} {new} {next} {t} h w =
+    let e = wrote-long {p = 0} (omega arith) w in
+    let k : next ≤ length new = omega (arith, w .next) in
+    (k, sym (length-take-le next new k))
 
 -- ---- writing piece after piece: what is written of `whole`, from `at` on, up to `next`, and what is left of it
 

@@ -8,7 +8,7 @@ ghost use Prim.Native.Nat.{ℕ, _+_, _*_, _<_, _≤_};
 ghost use lib.ListN.{length, getD};
 ghost use Rattle.print.specs.Text.{text};
 ghost use Rattle.print.specs.Decimal.{decimal, decimalZ};
-ghost use Rattle.print.specs.Write.{Wrote};
+ghost use Rattle.print.specs.Write.{Wrote, Counts};
 ghost use Rattle.print.specs.Room.{answerBytes, refusalBytes, Ranges, Printable};
 ghost use Rattle.print.specs.Answer.{said, header, roleText, contourLine, pointLine, pointLines, contourLines, contoursFrom, table, printed, printedRefusal};
 
@@ -202,6 +202,7 @@ pub fn write_answer(
     requires { ⌜ Printable (table (now points) (now first) (now len) (now kind) (now owner)) totals ⌝ }
     requires { ⌜ answerBytes ≤ length (now out) ⌝ }
     ensures { λ r. ⌜ Wrote (now (out .entry)) (now (out .exit)) 0 r (printed (table (now (points .entry)) (now (first .entry)) (now (len .entry)) (now (kind .entry)) (now (owner .entry))) totals) ⌝ }
+    ensures { λ r. ⌜ Counts r (now (out .exit)) ⌝ }
 {
     let contours = totals.contours;
     let next = write_header(totals, out);
@@ -211,6 +212,7 @@ pub fn write_answer(
 pub fn write_refusal(number: u32, place: usize, out: &mut [u8]) -> usize
     requires { ⌜ refusalBytes ≤ length (now out) ⌝ }
     ensures { λ r. ⌜ Wrote (now (out .entry)) (now (out .exit)) 0 r (printedRefusal number place) ⌝ }
+    ensures { λ r. ⌜ Counts r (now (out .exit)) ⌝ }
 {
     let a = write_said(b"refused ", number as u64, out, 0);
     let b = write_said(b" at ", place as u64, out, a);

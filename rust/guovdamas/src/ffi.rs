@@ -10,11 +10,11 @@ use crate::lent::{Buffers, Table};
 #[repr(C)]
 pub(crate) struct Extraction {
     pub(crate) number: u32,
-    pub(crate) place: u32,
-    pub(crate) contours: u32,
-    pub(crate) points: u32,
-    pub(crate) rejected: u32,
-    pub(crate) walked: u32,
+    pub(crate) place: usize,
+    pub(crate) contours: usize,
+    pub(crate) points: usize,
+    pub(crate) rejected: usize,
+    pub(crate) walked: usize,
     pub(crate) kept_area: i64,
     pub(crate) rejected_area: i64,
 }

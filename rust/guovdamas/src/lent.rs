@@ -94,10 +94,10 @@ pub struct ContourRecord {
 pub fn extract(lists: Lists<'_>, options: Options, lent: Buffers<'_>) -> Result<Counts, Refusal> {
     let answer = ffi::extract(lists, options.output_direction.is_clockwise(), options.min_output_area, lent);
     let counts = Counts {
-        contours: answer.contours,
-        points: answer.points,
-        rejected: answer.rejected,
-        walked: answer.walked,
+        contours: small(answer.contours),
+        points: small(answer.points),
+        rejected: small(answer.rejected),
+        walked: small(answer.walked),
         kept_area: answer.kept_area,
         rejected_area: answer.rejected_area,
     };
@@ -105,7 +105,12 @@ pub fn extract(lists: Lists<'_>, options: Options, lent: Buffers<'_>) -> Result<
         return Ok(counts);
     }
     debug_assert_eq!(counts, Counts::default(), "a refusal counts nothing");
-    Err(Refusal::new(answer.number, answer.place))
+    Err(Refusal::new(answer.number, small(answer.place)))
+}
+
+/// A count or a place of extraction: past check 1 none is above the 4,096 links, and before it each is 0.
+fn small(number: usize) -> u32 {
+    u32::try_from(number).expect("at most 4,096")
 }
 
 /// Writes the owner of every contour: a hull's own shape number, the number of the shape that a hole belongs to, or 65,535 for a

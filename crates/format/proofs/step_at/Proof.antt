@@ -46,11 +46,11 @@ returns-3 c = let a = c .before .before .before .before .before .before .before 
     (c .before .before .head-number .ensures)
     (c .refused .result) (c .before .if3 .taken) (c .refused .ensures)
 
+add-body : tie.Need-add-body
+add-body c = search needs
+
 sub-if4 : tie.Need-sub-if4
 sub-if4 c = search needs
-
-sub-if4-2 : tie.Need-sub-if4-2
-sub-if4-2 c = search needs
 
 returns-4 : tie.Need-returns-4
 returns-4 c = let a = c .before .before .before .before .before .before .before .before .args in
@@ -60,14 +60,11 @@ returns-4 c = let a = c .before .before .before .before .before .before .before 
     (c .before .before .head-number .ensures)
     (c .before .if3 .left) (omega arith)
 
+add-t9 : tie.Need-add-t9
+add-t9 c = search needs
+
 add-t8 : tie.Need-add-t8
 add-t8 c = search needs
-
-add-t7 : tie.Need-add-t7
-add-t7 c = search needs
-
-add-t12 : tie.Need-add-t12
-add-t12 c = search needs
 
 add-t14 : tie.Need-add-t14
 add-t14 c = search needs
@@ -94,11 +91,10 @@ step-at-spec =
     head-number-requires
     refused-requires
     returns-3
+    add-body
     sub-if4
-    sub-if4-2
     returns-4
+    add-t9
     add-t8
-    add-t7
-    add-t12
     add-t14
     returns-5)

@@ -1,4 +1,3 @@
-use mathlib.Core.Path.{refl}
 use Rattle.format.specs.Bytes.{u32At}
 use borrow.Author.Needs.{needs}
 use Rattle.format.proofs.u32_at.Statement.{statement}

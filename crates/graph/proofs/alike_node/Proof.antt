@@ -1,21 +1,16 @@
+-- `graph::alike_node` meets its contract: the lowest node with two entries alike, over nodes, entries j and entries i below j; each loop has found none so far, and the way out by the label has found one.
 use Rattle.graph.proofs.alike_node.Statement.{statement}
 use Rattle.graph.proofs.alike_node.Tie as tie
-use Rattle.graph.proofs.alike_node.Reads as reads
-use Rattle.graph.proofs.alike_node.Lts as lts
-use Rattle.graph.proofs.alike.Reads as alike-reads
-use Rattle.graph.proofs.entries.Reads as entries-reads
-use Rattle.graph.proofs.wide.Reads as wide-reads
-use Prim.Native.Nat.{ℕ, _≤_, _<_, _-_, _+_}
-use mathlib.Core.Path.{_≡_, refl, sym, ap, _∙_}
+use Prim.Native.Nat.{ℕ, _≤_, _-_}
+use mathlib.Core.Path.{_≡_, sym, _∙_}
 use native.Mathlib.Omega.{arith}
 use borrow.Author.Needs.{needs}
 use lib.ListN.{length, getD}
 use borrow.Author.Count.{below-none, below-more}
-use Rattle.laws.specs.Lowest.{lowest, some, None, none, found, some-yes, some-no}
+use Rattle.laws.specs.Lowest.{some, None, none, found, some-no}
 use Rattle.graph.specs.Graph.{pointAt, part}
 use Rattle.graph.specs.Checks.{nodeAt, alike, alikeAt}
 use mathlib.Core.Bool.{Bool}
-use Rattle.graph.specs.Checks.{nodeAt, alike, alikeAt, someTwo}
 use Rattle.graph.specs.Known.{Below}
 use Rattle.graph.proofs.Ends.{pair-found, no-pair}
 
@@ -51,102 +46,79 @@ test c s t =
 pair : (c : tie.After-alike Inv-loop2 μ-loop2 Inv-loop μ-loop Inv-search μ-search) → c .alike .result ≡ test (c .before .before .before .before .before .before .before .before .before) (c .before .before .before .before .loop2 .i) (c .before .before .before .before .before .before .before .before .loop .j)
 pair c = c .alike .ensures ∙ simp (c .before .wide2 .ensures, c .before .before .before .before .before .wide .ensures)
 
--- src/lib.rt:358:13
 sub-m : tie.Need-sub-m Inv-loop2 μ-loop2 Inv-loop μ-loop Inv-search μ-search
 sub-m c = omega arith
 
--- src/lib.rt:360:5
 search-holds : tie.Need-search-holds Inv-loop2 μ-loop2 Inv-loop μ-loop Inv-search μ-search
 search-holds c = (search needs, below-none _)
 
--- src/lib.rt:361:13
 entries-requires : tie.Need-entries-requires Inv-loop2 μ-loop2 Inv-loop μ-loop Inv-search μ-search
 entries-requires c κs = search needs
 
--- src/lib.rt:363:9
 loop-holds : tie.Need-loop-holds Inv-loop2 μ-loop2 Inv-loop μ-loop Inv-search μ-search
 loop-holds c = (omega arith, below-none _)
 
--- src/lib.rt:364:26
 mul-wide : tie.Need-mul-wide Inv-loop2 μ-loop2 Inv-loop μ-loop Inv-search μ-search
 mul-wide c = omega arith
 
--- src/lib.rt:364:26
 shared-slice-read-wide :
     tie.Need-shared-slice-read-wide Inv-loop2 μ-loop2 Inv-loop μ-loop Inv-search μ-search
 shared-slice-read-wide c = omega arith
 
--- src/lib.rt:364:17
 wide-requires : tie.Need-wide-requires Inv-loop2 μ-loop2 Inv-loop μ-loop Inv-search μ-search
 wide-requires c κs = search needs
 
--- src/lib.rt:366:13
 loop2-holds : tie.Need-loop2-holds Inv-loop2 μ-loop2 Inv-loop μ-loop Inv-search μ-search
 loop2-holds c = (omega arith, below-none _)
 
--- src/lib.rt:367:62
 mul-wide-2 : tie.Need-mul-wide-2 Inv-loop2 μ-loop2 Inv-loop μ-loop Inv-search μ-search
 mul-wide-2 c = omega arith
 
--- src/lib.rt:367:62
 shared-slice-read-wide-2 :
     tie.Need-shared-slice-read-wide-2 Inv-loop2 μ-loop2 Inv-loop μ-loop Inv-search μ-search
 shared-slice-read-wide-2 c = omega arith
 
--- src/lib.rt:367:57
 wide-requires-2 : tie.Need-wide-requires-2 Inv-loop2 μ-loop2 Inv-loop μ-loop Inv-search μ-search
 wide-requires-2 c κs = search needs
 
--- src/lib.rt:367:20
 alike-requires : tie.Need-alike-requires Inv-loop2 μ-loop2 Inv-loop μ-loop Inv-search μ-search
-alike-requires c κs = 
+alike-requires c κs =
     let p = c .before .before .before .before .before .before .before .before .before .before .before .before .before .before .before .pre in
     let h = links (c .before .before .before .before .before .before .before .before) in
     (p .0, (p .1 .0, (p .1 .1 .0, (omega (arith, h (c .before .before .before .loop2 .i) (omega arith)), omega (arith, h (c .before .before .before .before .before .before .before .loop .j) (omega arith))))))
 
--- src/lib.rt:370:17
 add-i : tie.Need-add-i Inv-loop2 μ-loop2 Inv-loop μ-loop Inv-search μ-search
 add-i c = omega arith
 
--- src/lib.rt:366:13
 loop2-less : tie.Need-loop2-less Inv-loop2 μ-loop2 Inv-loop μ-loop Inv-search μ-search
 loop2-less c = omega arith
 
--- src/lib.rt:366:13
 loop2-again : tie.Need-loop2-again Inv-loop2 μ-loop2 Inv-loop μ-loop Inv-search μ-search
 loop2-again c = (omega arith, below-more _ _ (c .before .before .before .before .before .loop2 .inv .1) (sym (pair (c .before)) ∙ c .if1 .left))
 
--- src/lib.rt:372:13
 add-j : tie.Need-add-j Inv-loop2 μ-loop2 Inv-loop μ-loop Inv-search μ-search
 add-j c = omega arith
 
--- src/lib.rt:363:9
 loop-less : tie.Need-loop-less Inv-loop2 μ-loop2 Inv-loop μ-loop Inv-search μ-search
 loop-less c = omega arith
 
--- src/lib.rt:363:9
 loop-again : tie.Need-loop-again Inv-loop2 μ-loop2 Inv-loop μ-loop Inv-search μ-search
 loop-again c = (omega arith, below-more _ _ (c .before .before .before .before .before .loop .inv .1) (some-no _ _ (λ k l. c .before .loop2 .inv .1 k (omega arith))))
 
--- src/lib.rt:374:9
 add-v : tie.Need-add-v Inv-loop2 μ-loop2 Inv-loop μ-loop Inv-search μ-search
 add-v c = omega arith
 
--- src/lib.rt:360:5
 search-less : tie.Need-search-less Inv-loop2 μ-loop2 Inv-loop μ-loop Inv-search μ-search
 search-less c = omega arith
 
--- src/lib.rt:360:5
 search-again : tie.Need-search-again Inv-loop2 μ-loop2 Inv-loop μ-loop Inv-search μ-search
 search-again c = (omega arith, below-more _ _ (c .before .before .before .before .search .inv .1) (rw (c .before .before .entries .ensures) at (no-pair (test (c .before .before)) (length (c .before .before .entries .result .now)) (λ k l. c .before .loop .inv .1 k (omega arith)))))
 
--- src/lib.rt:350:1
 returns : tie.Need-returns Inv-loop2 μ-loop2 Inv-loop μ-loop Inv-search μ-search
 returns c = let e : c .before .search .v ≡ length (c .before .before .before .before .before .before .args .start .now) - 1 = omega arith in e ∙ sym (none _ _ (λ k l. c .before .search .inv .1 k (omega arith)))
 
--- src/lib.rt:350:1
 returns-2 : tie.Need-returns-2 Inv-loop2 μ-loop2 Inv-loop μ-loop Inv-search μ-search
-returns-2 c = 
+returns-2 c =
     let d = c .before .before .before .before .before .before .before .before .before .before in
     sym
     (found _ _ _ (omega arith) (c .before .before .before .before .before .before .before .before .before .before .before .before .search .inv .1)

@@ -1,16 +1,13 @@
+-- `graph::any_missed` meets its contract: some link is missed; the invariant: none below k is.
 use Rattle.graph.proofs.any_missed.Statement.{statement}
 use Rattle.graph.proofs.any_missed.Tie as tie
-use Rattle.graph.proofs.any_missed.Reads as reads
-use Rattle.graph.proofs.any_missed.Lts as lts
-use Rattle.graph.proofs.not_once.Reads as not-once-reads
-use Rattle.graph.proofs.wide.Reads as wide-reads
-use Prim.Native.Nat.{ℕ, _≤_, _<_, _-_, _+_}
-use mathlib.Core.Path.{_≡_, refl, sym, ap, _∙_}
+use Prim.Native.Nat.{_≤_, _-_}
+use mathlib.Core.Path.{sym}
 use native.Mathlib.Omega.{arith}
 use borrow.Author.Needs.{needs}
-use lib.ListN.{length, getD}
+use lib.ListN.{length}
 use borrow.Author.Count.{below-none, below-more}
-use Rattle.laws.specs.Lowest.{lowest, some, None, none, found, some-yes, some-no}
+use Rattle.laws.specs.Lowest.{None, some-yes, some-no}
 use Rattle.graph.specs.Checks.{missed}
 
 abbrev Inv-loop : tie.InvT-loop
@@ -19,59 +16,45 @@ Inv-loop aid bid start list k₀ k = (k ≤ length aid) × None (missed aid bid 
 abbrev μ-loop : tie.MeasureT-loop
 μ-loop aid bid start list k₀ k = length aid - k
 
--- src/lib.rt:254:5
 loop-holds : tie.Need-loop-holds Inv-loop μ-loop
 loop-holds c = (search needs, below-none _)
 
--- src/lib.rt:255:42
 mul-wide : tie.Need-mul-wide Inv-loop μ-loop
 mul-wide c = omega arith
 
--- src/lib.rt:255:42
 shared-slice-read-wide : tie.Need-shared-slice-read-wide Inv-loop μ-loop
 shared-slice-read-wide c = omega arith
 
--- src/lib.rt:255:37
 wide-requires : tie.Need-wide-requires Inv-loop μ-loop
 wide-requires c κs = search needs
 
--- src/lib.rt:255:12
 not-once-requires : tie.Need-not-once-requires Inv-loop μ-loop
 not-once-requires c κs = let s = c .before .before .before .before .before .before .before .before in (s .pre .0, omega (arith, s .pre .1 .a-below (c .before .before .before .loop .k) (omega arith)))
 
--- src/lib.rt:255:83
 mul-wide-2 : tie.Need-mul-wide-2 Inv-loop μ-loop
 mul-wide-2 c = omega arith
 
--- src/lib.rt:255:83
 shared-slice-read-wide-2 : tie.Need-shared-slice-read-wide-2 Inv-loop μ-loop
 shared-slice-read-wide-2 c = omega arith
 
--- src/lib.rt:255:78
 wide-requires-2 : tie.Need-wide-requires-2 Inv-loop μ-loop
 wide-requires-2 c κs = search needs
 
--- src/lib.rt:255:53
 not-once-requires-2 : tie.Need-not-once-requires-2 Inv-loop μ-loop
 not-once-requires-2 c κs = let s = c .before .before .before .before .before .before .before .before .before .before .before in (s .pre .0, omega (arith, s .pre .1 .b-below (c .before .before .before .before .before .before .loop .k) (omega arith)))
 
--- src/lib.rt:256:13
 returns : tie.Need-returns Inv-loop μ-loop
 returns c = sym (some-yes _ _ _ (omega arith) (c .before .before .before .before .before .before .before .before .loop .inv .1) (rw (c .before .before .before .before .not-once .ensures, c .before .before .before .before .before .wide .ensures, c .before .not-once2 .ensures, c .before .before .wide2 .ensures) at (c .if1 .taken)))
 
--- src/lib.rt:258:9
 add-k : tie.Need-add-k Inv-loop μ-loop
 add-k c = omega arith
 
--- src/lib.rt:254:5
 loop-less : tie.Need-loop-less Inv-loop μ-loop
 loop-less c = omega arith
 
--- src/lib.rt:254:5
 loop-again : tie.Need-loop-again Inv-loop μ-loop
 loop-again c = (omega arith, below-more _ _ (c .before .before .before .before .before .before .before .before .loop .inv .1) (rw (c .before .before .before .before .not-once .ensures, c .before .before .before .before .before .wide .ensures, c .before .not-once2 .ensures, c .before .before .wide2 .ensures) at (c .if1 .left)))
 
--- src/lib.rt:248:1
 returns-2 : tie.Need-returns-2 Inv-loop μ-loop
 returns-2 c = sym (some-no _ _ (λ k l. c .before .loop .inv .1 k (omega arith)))
 

@@ -1,15 +1,12 @@
+-- `graph::any_short` meets its contract: some start falls or leaves its node short; the invariant: none below v does.
 use Rattle.graph.proofs.any_short.Statement.{statement}
 use Rattle.graph.proofs.any_short.Tie as tie
-use Rattle.graph.proofs.any_short.Reads as reads
-use Rattle.graph.proofs.any_short.Lts as lts
-use Rattle.graph.proofs.short.Reads as short-reads
-use Prim.Native.Nat.{ℕ, _≤_, _<_, _-_, _+_}
-use mathlib.Core.Path.{_≡_, refl, sym, ap, _∙_}
+use Prim.Native.Nat.{_≤_, _-_}
+use mathlib.Core.Path.{sym, _∙_}
 use native.Mathlib.Omega.{arith}
 use borrow.Author.Needs.{needs}
-use lib.ListN.{length, getD}
 use borrow.Author.Count.{below-none, below-more}
-use Rattle.laws.specs.Lowest.{lowest, some, None, none, found, some-yes, some-no}
+use Rattle.laws.specs.Lowest.{None, some-yes, some-no}
 use Rattle.graph.specs.Checks.{short}
 
 abbrev Inv-loop : tie.InvT-loop
@@ -18,55 +15,42 @@ Inv-loop start m v₀ v = (v ≤ m) × None (short start) v
 abbrev μ-loop : tie.MeasureT-loop
 μ-loop start m v₀ v = m - v
 
--- src/lib.rt:149:13
 sub-m : tie.Need-sub-m Inv-loop μ-loop
 sub-m c = omega arith
 
--- src/lib.rt:151:5
 loop-holds : tie.Need-loop-holds Inv-loop μ-loop
 loop-holds c = (search needs, below-none _)
 
--- src/lib.rt:152:18
 mul-short : tie.Need-mul-short Inv-loop μ-loop
 mul-short c = omega arith
 
--- src/lib.rt:152:18
 shared-slice-read-short : tie.Need-shared-slice-read-short Inv-loop μ-loop
 shared-slice-read-short c = omega arith
 
--- src/lib.rt:152:34
 add-short : tie.Need-add-short Inv-loop μ-loop
 add-short c = omega arith
 
--- src/lib.rt:152:28
 mul-short-2 : tie.Need-mul-short-2 Inv-loop μ-loop
 mul-short-2 c = omega arith
 
--- src/lib.rt:152:28
 shared-slice-read-short-2 : tie.Need-shared-slice-read-short-2 Inv-loop μ-loop
 shared-slice-read-short-2 c = omega arith
 
--- src/lib.rt:152:12
 short-requires : tie.Need-short-requires Inv-loop μ-loop
 short-requires c κs = search needs
 
--- src/lib.rt:153:13
 returns : tie.Need-returns Inv-loop μ-loop
 returns c = sym (some-yes _ _ _ (omega arith) (c .before .before .before .before .before .loop .inv .1) (sym (c .before .short .ensures) ∙ c .if1 .taken))
 
--- src/lib.rt:155:9
 add-v : tie.Need-add-v Inv-loop μ-loop
 add-v c = omega arith
 
--- src/lib.rt:151:5
 loop-less : tie.Need-loop-less Inv-loop μ-loop
 loop-less c = omega arith
 
--- src/lib.rt:151:5
 loop-again : tie.Need-loop-again Inv-loop μ-loop
 loop-again c = (omega arith, below-more _ _ (c .before .before .before .before .before .loop .inv .1) (sym (c .before .short .ensures) ∙ c .if1 .left))
 
--- src/lib.rt:145:1
 returns-2 : tie.Need-returns-2 Inv-loop μ-loop
 returns-2 c = sym (some-no _ _ (λ k l. c .before .loop .inv .1 k (omega arith)))
 

@@ -1,37 +1,27 @@
+-- `graph::away` meets its contract: both ends lie within the bounds.
 use borrow.Author.Needs.{needs}
 use Rattle.graph.proofs.away.Statement.{statement}
 use Rattle.graph.proofs.away.Tie as tie
-use Rattle.graph.proofs.away.Reads as reads
-use Rattle.graph.proofs.away.Lts as lts
-use Rattle.graph.proofs.end_at.Reads as end-at-reads
-use Rattle.turn.proofs.between.Reads as between-reads
-use Prim.Native.Nat.{ℕ, _≤_, _<_, _-_, _+_}
-use mathlib.Core.Path.{_≡_, refl, sym, ap, _∙_}
-use native.Mathlib.Omega.{arith}
-use lib.ListN.{length, getD}
-use Rattle.graph.specs.Graph.{pointAt, part}
-use Rattle.graph.specs.Checks.{nodeAt, endAt, apart, alike, alikeAt}
-use Rattle.graph.proofs.Ends.{none-apart, one-apart, self, end-on-grid}
+use Rattle.graph.specs.Graph.{pointAt}
+use Rattle.graph.specs.Checks.{nodeAt}
+use Rattle.graph.proofs.Ends.{end-on-grid}
 
--- src/lib.rt:294:13
 end-at-requires : tie.Need-end-at-requires
 end-at-requires c κs = search needs
 
--- src/lib.rt:294:48
 end-at-requires-2 : tie.Need-end-at-requires-2
 end-at-requires-2 c κs = search needs
 
--- src/lib.rt:294:5
 between-requires : tie.Need-between-requires
-between-requires c κs = 
+between-requires c κs =
     let s = c .before .before .before in
     let x = s .args in
     let a = s .pre .1 .0 .a-grid (x .k) (s .pre .1 .1) in
-    let b = s .pre .1 .0 .b-grid (x .k) (s .pre .1 .1) in
-    (rw (c .before .end-at .ensures) (end-on-grid (pointAt (x .ax .now) (x .ay .now)) (pointAt (x .bx .now) (x .by .now)) (nodeAt (x .aid .now)) (x .v) (x .k) a b),
-    rw (c .end-at2 .ensures) (end-on-grid (pointAt (x .bx .now) (x .by .now)) (pointAt (x .ax .now) (x .ay .now)) (nodeAt (x .aid .now)) (x .v) (x .k) b a))
+    let b = s .pre .1 .0 .b-grid (x .k) (s .pre .1 .1) in (
+      rw (c .before .end-at .ensures) (end-on-grid (pointAt (x .ax .now) (x .ay .now)) (pointAt (x .bx .now) (x .by .now)) (nodeAt (x .aid .now)) (x .v) (x .k) a b),
+      rw (c .end-at2 .ensures) (end-on-grid (pointAt (x .bx .now) (x .by .now)) (pointAt (x .ax .now) (x .ay .now)) (nodeAt (x .aid .now)) (x .v) (x .k) b a),
+    )
 
--- src/lib.rt:288:1
 returns : tie.Need-returns
 returns c = (rw (c .before .before .end-at .ensures, c .before .end-at2 .ensures) at (c .between .ensures .0), c .between .ensures .1)
 

@@ -1,48 +1,32 @@
+-- `graph::check_graph` meets its contract: checks 1 and 2, then those of the links.
 use borrow.Author.Needs.{needs}
 use Rattle.graph.proofs.check_graph.Statement.{statement}
 use Rattle.graph.proofs.check_graph.Tie as tie
-use Rattle.graph.proofs.check_graph.Reads as reads
-use Rattle.graph.proofs.check_graph.Lts as lts
-use Rattle.graph.proofs.check_links.Reads as check-links-reads
-use Rattle.graph.proofs.few_contours.Reads as few-contours-reads
-use Rattle.graph.proofs.few_points.Reads as few-points-reads
-use Rattle.graph.proofs.unlike.Reads as unlike-reads
-use Rattle.graph.proofs.unlike_band.Reads as unlike-band-reads
-use Prim.Native.Nat.{ℕ, _≤_, _<_, _-_, _+_}
-use mathlib.Core.Path.{_≡_, refl, sym, ap, _∙_}
-use native.Mathlib.Omega.{arith}
-use lib.ListN.{length, getD}
+use mathlib.Core.Path.{_≡_}
+use lib.ListN.{length}
 use borrow.Author.Tests.{lt-ltb, le-ltb}
-use mathlib.Core.Bool.{false}
-use Rattle.laws.specs.Lowest.{lowest, None, none-of}
-use Rattle.graph.specs.Graph.{lent, linkCount}
-use mathlib.Core.Bool.{_||_}
+use mathlib.Core.Bool.{false, _||_}
+use Rattle.graph.specs.Graph.{lent}
 use Rattle.laws.specs.Test.{or-false}
 use Rattle.graph.specs.Checks.{unlike, fewPoints, unlikeBand, fewContours, checked}
 use Rattle.graph.specs.Tests.{even, band-even}
 
--- src/lib.rt:429:9
 returns : tie.Need-returns
 unfolding checked
 returns c = simp (lt-ltb _ _ (c .if1 .taken))
 
--- src/lib.rt:431:8
 unlike-requires : tie.Need-unlike-requires
 unlike-requires c κs = search needs
 
--- src/lib.rt:432:11
 few-points-requires : tie.Need-few-points-requires
 few-points-requires c κs = search needs
 
--- src/lib.rt:433:11
 unlike-band-requires : tie.Need-unlike-band-requires
 unlike-band-requires c κs = search needs
 
--- src/lib.rt:434:11
 few-contours-requires : tie.Need-few-contours-requires
 few-contours-requires c κs = search needs
 
--- src/lib.rt:436:9
 returns-2 : tie.Need-returns-2
 unfolding checked
 returns-2 c = simp (le-ltb _ _ (c .before .before .before .before .before .if1 .left), rw (c .before .before .before .before .unlike .ensures, c .before .before .before .few-points .ensures, c .before .before .unlike-band .ensures, c .before .few-contours .ensures) at (c .if2 .taken))
@@ -57,14 +41,12 @@ right c = rw (c .before .before .before .before .unlike .ensures, c .before .bef
 fit : (c : tie.Else2) → let x = c .before .before .before .before .before .before .before .before .before .before .before .before .args in (unlike (lent (x .ax .now) (x .ay .now) (x .bx .now) (x .by .now) (x .aid .now) (x .bid .now) (x .start .now) (x .list .now)) ≡ false) × (unlikeBand (length (x .aid .now)) (x .top .now) (x .state .now) ≡ false)
 fit c = let h = or-false _ _ (or-false _ _ (right c) .0) in (or-false _ _ (h .0) .0, h .1)
 
--- src/lib.rt:438:5
 check-links-requires : tie.Need-check-links-requires
-check-links-requires c κs = 
+check-links-requires c κs =
     let x = c .before .before .before .before .before .before .before .before .before .before .before .before .args in
     let e = even (lent (x .ax .now) (x .ay .now) (x .bx .now) (x .by .now) (x .aid .now) (x .bid .now) (x .start .now) (x .list .now)) .to (fit c .0) in
     (e .0, (band-even (length (x .aid .now)) (x .top .now) (x .state .now) .to (fit c .1), e .1))
 
--- src/lib.rt:424:1
 returns-3 : tie.Need-returns-3
 unfolding checked
 returns-3 c = simp (le-ltb _ _ (c .before .before .before .before .before .before .if1 .left), right (c .before), c .check-links .ensures)

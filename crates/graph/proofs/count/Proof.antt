@@ -1,14 +1,11 @@
+-- `graph::count` meets its contract: the invariant: n is how often x stands in the first i entries.
 use Rattle.graph.proofs.count.Statement.{statement}
 use Rattle.graph.proofs.count.Tie as tie
-use Rattle.graph.proofs.count.Reads as reads
-use Rattle.graph.proofs.count.Lts as lts
-use Rattle.graph.proofs.wide.Reads as wide-reads
-use Prim.Native.Nat.{ℕ, _≤_, _<_, _-_, _+_}
+use Prim.Native.Nat.{ℕ, _≤_, _-_}
 use mathlib.Core.Path.{_≡_, refl, sym, ap, _∙_}
 use native.Mathlib.Omega.{arith}
 use borrow.Author.Needs.{needs}
-use lib.ListN.{length, getD}
-use lib.ListN.{take}
+use lib.ListN.{length, take}
 use lib.Seq.{take-all}
 use mathlib.Core.Bool.{Bool}
 use mathlib.Core.Logic.{⊎-elim}
@@ -22,38 +19,30 @@ Inv-loop list x n₀ i₀ n i = (i ≤ length list) × (n ≤ i) × (n ≡ count
 abbrev μ-loop : tie.MeasureT-loop
 μ-loop list x n₀ i₀ n i = length list - i
 
--- src/lib.rt:229:5
 loop-holds : tie.Need-loop-holds Inv-loop μ-loop
 unfolding count
 loop-holds c = (omega arith, omega arith, refl)
 
--- src/lib.rt:230:17
 mul-wide : tie.Need-mul-wide Inv-loop μ-loop
 mul-wide c = omega arith
 
--- src/lib.rt:230:17
 shared-slice-read-wide : tie.Need-shared-slice-read-wide Inv-loop μ-loop
 shared-slice-read-wide c = omega arith
 
--- src/lib.rt:230:12
 wide-requires : tie.Need-wide-requires Inv-loop μ-loop
 wide-requires c κs = search needs
 
--- src/lib.rt:231:13
 add-n : tie.Need-add-n Inv-loop μ-loop
 add-n c = omega arith
 
--- src/lib.rt:233:9
 add-i : tie.Need-add-i Inv-loop μ-loop
 add-i c = omega arith
 
--- src/lib.rt:229:5
 loop-less : tie.Need-loop-less Inv-loop μ-loop
 loop-less c = omega arith
 
--- src/lib.rt:229:5
 loop-again : tie.Need-loop-again Inv-loop μ-loop
-loop-again c = 
+loop-again c =
     let x = c .before .before .before .before .before .before .args in
     let m = count-more (x .x) (x .list .now) (c .before .before .before .before .loop .i) (omega arith) in
     ⊎-elim
@@ -61,7 +50,6 @@ loop-again c =
     (λ w. (omega arith, omega arith, omega (arith, m, ap {B = ℕ} (λ (t : Bool). pick t 1 0) (ne-eqb _ _ (λ e. w .0 .left (c .before .wide .ensures ∙ e))))))
     (c .if1 .came)
 
--- src/lib.rt:224:1
 returns : tie.Need-returns Inv-loop μ-loop
 returns c = c .before .loop .inv .2 ∙ simp (take-all (c .before .loop .i) (c .before .before .before .args .list .now) (c .loop-test .left))
 

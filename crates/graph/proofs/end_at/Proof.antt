@@ -1,42 +1,29 @@
+-- `graph::end_at` meets its contract: by whether the a end is at node v.
 use borrow.Author.Needs.{needs}
 use Rattle.graph.proofs.end_at.Statement.{statement}
 use Rattle.graph.proofs.end_at.Tie as tie
-use Rattle.graph.proofs.end_at.Reads as reads
-use Rattle.graph.proofs.end_at.Lts as lts
-use Rattle.graph.proofs.point_at.Reads as point-at-reads
-use Rattle.graph.proofs.wide.Reads as wide-reads
-use Prim.Native.Nat.{ℕ, _≤_, _<_, _-_, _+_}
-use mathlib.Core.Path.{_≡_, refl, sym, ap, _∙_}
-use native.Mathlib.Omega.{arith}
-use lib.ListN.{length, getD}
+use mathlib.Core.Path.{sym, _∙_}
 use borrow.Author.Tests.{eq-eqb, ne-eqb}
 use Rattle.laws.specs.Test.{pick-true, pick-false}
 
--- src/lib.rt:281:13
 mul-wide : tie.Need-mul-wide
 mul-wide c = search needs
 
--- src/lib.rt:281:13
 shared-slice-read-wide : tie.Need-shared-slice-read-wide
 shared-slice-read-wide c = search needs
 
--- src/lib.rt:281:8
 wide-requires : tie.Need-wide-requires
 wide-requires c κs = search needs
 
--- src/lib.rt:282:9
 point-at-requires : tie.Need-point-at-requires
 point-at-requires c κs = search needs
 
--- src/lib.rt:282:9
 returns : tie.Need-returns
 returns c = c .point-at .ensures ∙ sym (pick-true _ _ (eq-eqb _ _ (sym (c .before .before .wide .ensures) ∙ c .before .if1 .taken)))
 
--- src/lib.rt:284:5
 point-at-requires-2 : tie.Need-point-at-requires-2
 point-at-requires-2 c κs = search needs
 
--- src/lib.rt:276:1
 returns-2 : tie.Need-returns-2
 returns-2 c = c .point-at2 .ensures ∙ sym (pick-false _ _ (ne-eqb _ _ (λ e. c .before .if1 .left (c .before .before .wide .ensures ∙ e))))
 

@@ -1,40 +1,30 @@
+-- `graph::entries` meets its contract: the part of the list lies within it, since the starts rise.
 use borrow.Author.Needs.{needs}
 use Rattle.graph.proofs.entries.Statement.{statement}
 use Rattle.graph.proofs.entries.Tie as tie
-use Rattle.graph.proofs.entries.Reads as reads
-use Rattle.graph.proofs.entries.Lts as lts
-use Rattle.graph.proofs.wide.Reads as wide-reads
-use Prim.Native.Nat.{ℕ, _≤_, _<_, _-_, _+_}
-use mathlib.Core.Path.{_≡_, refl, sym, ap, _∙_}
+use Prim.Native.Nat.{_≤_, _+_}
 use native.Mathlib.Omega.{arith}
-use lib.ListN.{length, getD}
+use lib.ListN.{length}
 use Rattle.graph.specs.Fine.{starts-within}
 
--- src/lib.rt:175:21
 mul-wide : tie.Need-mul-wide
 mul-wide c = search needs
 
--- src/lib.rt:175:21
 shared-slice-read-wide : tie.Need-shared-slice-read-wide
 shared-slice-read-wide c = search needs
 
--- src/lib.rt:175:9
 wide-requires : tie.Need-wide-requires
 wide-requires c κs = search needs
 
--- src/lib.rt:176:25
 add-wide : tie.Need-add-wide
 add-wide c = search needs
 
--- src/lib.rt:176:19
 mul-wide-2 : tie.Need-mul-wide-2
 mul-wide-2 c = search needs
 
--- src/lib.rt:176:19
 shared-slice-read-wide-2 : tie.Need-shared-slice-read-wide-2
 shared-slice-read-wide-2 c = search needs
 
--- src/lib.rt:176:9
 wide-requires-2 : tie.Need-wide-requires-2
 wide-requires-2 c κs = search needs
 
@@ -46,23 +36,18 @@ bounds c =
     let k = starts-within (s .pre .0) (s .args .v + 1) (omega arith) in
     (omega arith, omega arith)
 
--- src/lib.rt:177:5
 mul-result : tie.Need-mul-result
 mul-result c = let h = bounds c in omega arith
 
--- src/lib.rt:177:5
 sub-result : tie.Need-sub-result
 sub-result c = bounds c .0
 
--- src/lib.rt:177:5
 part-result-start : tie.Need-part-result-start
 part-result-start c = bounds c .0
 
--- src/lib.rt:177:5
 part-result-end : tie.Need-part-result-end
 part-result-end c = bounds c .1
 
--- src/lib.rt:170:1
 returns : tie.Need-returns
 returns c = simp (c .before .wide2 .ensures, c .before .before .before .wide .ensures)
 

@@ -1,25 +1,16 @@
+-- `graph::off_grid` meets its contract: `outside` of each coordinate: a field of a struct is read back from its bits.
 use borrow.Author.Needs.{needs}
 use Rattle.graph.proofs.off_grid.Statement.{statement}
 use Rattle.graph.proofs.off_grid.Tie as tie
-use Rattle.graph.proofs.off_grid.Reads as reads
-use Rattle.graph.proofs.off_grid.Lts as lts
-use Rattle.turn.proofs.outside.Reads as outside-reads
-use Prim.Native.Nat.{ℕ, _≤_, _<_, _-_, _+_}
-use mathlib.Core.Path.{_≡_, refl, sym, ap, _∙_}
-use native.Mathlib.Omega.{arith}
-use lib.ListN.{length, getD}
 use mir.ValLaws.{toZ-ofZ}
 use mir.Syntax.{w32}
 
--- src/lib.rt:75:5
 outside-requires : tie.Need-outside-requires
 outside-requires c κs = search needs
 
--- src/lib.rt:75:20
 outside-requires-2 : tie.Need-outside-requires-2
 outside-requires-2 c κs = search needs
 
--- src/lib.rt:72:1
 returns : tie.Need-returns
 returns c =
     let p = c .before .before .before .before .args .p in

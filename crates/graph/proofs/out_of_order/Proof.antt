@@ -1,16 +1,12 @@
+-- `graph::out_of_order` meets its contract: the lowest link out of order; the invariant: none below k is.
 use Rattle.graph.proofs.out_of_order.Statement.{statement}
 use Rattle.graph.proofs.out_of_order.Tie as tie
-use Rattle.graph.proofs.out_of_order.Reads as reads
-use Rattle.graph.proofs.out_of_order.Lts as lts
-use Rattle.graph.proofs.point_at.Reads as point-at-reads
-use Rattle.turn.proofs.before.Reads as before-reads
-use Prim.Native.Nat.{ℕ, _≤_, _<_, _-_, _+_}
-use mathlib.Core.Path.{_≡_, refl, sym, ap, _∙_}
+use Prim.Native.Nat.{_≤_, _-_}
+use mathlib.Core.Path.{_≡_, refl, sym, _∙_}
 use native.Mathlib.Omega.{arith}
 use borrow.Author.Needs.{needs}
-use lib.ListN.{length, getD}
 use borrow.Author.Count.{below-none, below-more}
-use Rattle.laws.specs.Lowest.{lowest, some, None, none, found, some-yes, some-no}
+use Rattle.laws.specs.Lowest.{None, none, found}
 use borrow.Author.Tests.{lt-ltb}
 use Rattle.graph.specs.Graph.{pointAt}
 use Rattle.graph.specs.Checks.{outOfOrder}
@@ -21,23 +17,18 @@ Inv-loop ax ay n k₀ k = (1 ≤ k) × None (outOfOrder (pointAt ax ay)) k
 abbrev μ-loop : tie.MeasureT-loop
 μ-loop ax ay n k₀ k = n - k
 
--- src/lib.rt:128:5
 loop-holds : tie.Need-loop-holds Inv-loop μ-loop
 loop-holds c = (search needs, below-more _ 0 (below-none _) refl)
 
--- src/lib.rt:129:19
 point-at-requires : tie.Need-point-at-requires Inv-loop μ-loop
 point-at-requires c κs = search needs
 
--- src/lib.rt:129:57
 sub-point-at : tie.Need-sub-point-at Inv-loop μ-loop
 sub-point-at c = omega arith
 
--- src/lib.rt:129:40
 point-at-requires-2 : tie.Need-point-at-requires-2 Inv-loop μ-loop
 point-at-requires-2 c κs = search needs
 
--- src/lib.rt:129:12
 before-requires : tie.Need-before-requires Inv-loop μ-loop
 before-requires c κs = search needs
 
@@ -49,23 +40,18 @@ here :
 here c =
     c .before2 .ensures ∙ simp (lt-ltb 0 (c .before .before .before .before .loop .k) (omega arith), c .before .before .point-at .ensures, c .before .point-at2 .ensures)
 
--- src/lib.rt:130:13
 returns : tie.Need-returns Inv-loop μ-loop
 returns c = sym (found _ _ _ (omega arith) (c .before .before .before .before .before .loop .inv .1) (sym (here (c .before)) ∙ c .if1 .taken))
 
--- src/lib.rt:132:9
 add-k : tie.Need-add-k Inv-loop μ-loop
 add-k c = omega arith
 
--- src/lib.rt:128:5
 loop-less : tie.Need-loop-less Inv-loop μ-loop
 loop-less c = omega arith
 
--- src/lib.rt:128:5
 loop-again : tie.Need-loop-again Inv-loop μ-loop
 loop-again c = (omega arith, below-more _ _ (c .before .before .before .before .before .loop .inv .1) (sym (here (c .before)) ∙ c .if1 .left))
 
--- src/lib.rt:122:1
 returns-2 : tie.Need-returns-2 Inv-loop μ-loop
 returns-2 c = sym (none _ _ (λ k l. c .before .loop .inv .1 k (omega arith)))
 

@@ -1,44 +1,30 @@
+-- `graph::stray` meets its contract: by whether e is a link at all.
 use borrow.Author.Needs.{needs}
 use Rattle.graph.proofs.stray.Statement.{statement}
 use Rattle.graph.proofs.stray.Tie as tie
-use Rattle.graph.proofs.stray.Reads as reads
-use Rattle.graph.proofs.stray.Lts as lts
-use Rattle.graph.proofs.wide.Reads as wide-reads
-use Prim.Native.Nat.{ℕ, _≤_, _<_, _-_, _+_}
-use mathlib.Core.Path.{_≡_, refl, sym, ap, _∙_}
-use native.Mathlib.Omega.{arith}
-use lib.ListN.{length, getD}
 use borrow.Author.Tests.{le-leb, lt-leb}
 
--- src/lib.rt:186:9
 returns : tie.Need-returns
 returns c = simp (le-leb _ _ (c .if1 .taken))
 
--- src/lib.rt:188:12
 mul-wide : tie.Need-mul-wide
 mul-wide c = search needs
 
--- src/lib.rt:188:12
 shared-slice-read-wide : tie.Need-shared-slice-read-wide
 shared-slice-read-wide c = search needs
 
--- src/lib.rt:188:7
 wide-requires : tie.Need-wide-requires
 wide-requires c κs = search needs
 
--- src/lib.rt:188:35
 mul-wide-2 : tie.Need-mul-wide-2
 mul-wide-2 c = search needs
 
--- src/lib.rt:188:35
 shared-slice-read-wide-2 : tie.Need-shared-slice-read-wide-2
 shared-slice-read-wide-2 c = search needs
 
--- src/lib.rt:188:30
 wide-requires-2 : tie.Need-wide-requires-2
 wide-requires-2 c κs = search needs
 
--- src/lib.rt:181:1
 returns-2 : tie.Need-returns-2
 returns-2 c = simp (lt-leb _ _ (c .before .before .before .before .if1 .left), c .before .before .wide .ensures, c .wide2 .ensures)
 

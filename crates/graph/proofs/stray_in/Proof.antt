@@ -1,16 +1,13 @@
+-- `graph::stray_in` meets its contract: some entry is stray; the invariant: none below i is.
 use Rattle.graph.proofs.stray_in.Statement.{statement}
 use Rattle.graph.proofs.stray_in.Tie as tie
-use Rattle.graph.proofs.stray_in.Reads as reads
-use Rattle.graph.proofs.stray_in.Lts as lts
-use Rattle.graph.proofs.stray.Reads as stray-reads
-use Rattle.graph.proofs.wide.Reads as wide-reads
-use Prim.Native.Nat.{ℕ, _≤_, _<_, _-_, _+_}
-use mathlib.Core.Path.{_≡_, refl, sym, ap, _∙_}
+use Prim.Native.Nat.{_≤_, _-_}
+use mathlib.Core.Path.{sym, _∙_}
 use native.Mathlib.Omega.{arith}
 use borrow.Author.Needs.{needs}
 use lib.ListN.{length, getD}
 use borrow.Author.Count.{below-none, below-more}
-use Rattle.laws.specs.Lowest.{lowest, some, None, none, found, some-yes, some-no}
+use Rattle.laws.specs.Lowest.{None, some-yes, some-no}
 use Rattle.graph.specs.Checks.{stray}
 
 abbrev Inv-loop : tie.InvT-loop
@@ -19,43 +16,33 @@ Inv-loop aid bid here v i₀ i = (i ≤ length here) × None (λ j. stray aid bi
 abbrev μ-loop : tie.MeasureT-loop
 μ-loop aid bid here v i₀ i = length here - i
 
--- src/lib.rt:197:5
 loop-holds : tie.Need-loop-holds Inv-loop μ-loop
 loop-holds c = (search needs, below-none _)
 
--- src/lib.rt:198:36
 mul-wide : tie.Need-mul-wide Inv-loop μ-loop
 mul-wide c = omega arith
 
--- src/lib.rt:198:36
 shared-slice-read-wide : tie.Need-shared-slice-read-wide Inv-loop μ-loop
 shared-slice-read-wide c = omega arith
 
--- src/lib.rt:198:31
 wide-requires : tie.Need-wide-requires Inv-loop μ-loop
 wide-requires c κs = search needs
 
--- src/lib.rt:198:12
 stray-requires : tie.Need-stray-requires Inv-loop μ-loop
 stray-requires c κs = search needs
 
--- src/lib.rt:199:13
 returns : tie.Need-returns Inv-loop μ-loop
 returns c = sym (some-yes _ _ _ (omega arith) (c .before .before .before .before .before .loop .inv .1) (rw (c .before .before .wide .ensures) at (sym (c .before .stray .ensures) ∙ c .if1 .taken)))
 
--- src/lib.rt:201:9
 add-i : tie.Need-add-i Inv-loop μ-loop
 add-i c = omega arith
 
--- src/lib.rt:197:5
 loop-less : tie.Need-loop-less Inv-loop μ-loop
 loop-less c = omega arith
 
--- src/lib.rt:197:5
 loop-again : tie.Need-loop-again Inv-loop μ-loop
 loop-again c = (omega arith, below-more _ _ (c .before .before .before .before .before .loop .inv .1) (rw (c .before .before .wide .ensures) at (sym (c .before .stray .ensures) ∙ c .if1 .left)))
 
--- src/lib.rt:192:1
 returns-2 : tie.Need-returns-2 Inv-loop μ-loop
 returns-2 c = sym (some-no _ _ (λ k l. c .before .loop .inv .1 k (omega arith)))
 

@@ -1,7 +1,7 @@
 use native.Mathlib.Nat.{le-trans}
 use native.Mathlib.Omega.{arith}
 use Rattle.print.specs.Answer.{table, header, contoursFrom, printed}
-use Rattle.print.specs.Write.{left-from-0, left-after, left-last, piece-fits, last-fits}
+use Rattle.print.specs.Write.{left-from-0, left-after, left-last, piece-fits, last-fits, counted}
 use Rattle.print.proofs.Lengths.{answer-short}
 use borrow.Author.Needs.{needs}
 use Rattle.print.proofs.write_answer.Statement.{statement}
@@ -39,7 +39,8 @@ returns c =
     let p = header (a .totals) in
     let q = contoursFrom t 0 (a .totals .contours) in
     let l0 = left-from-0 (a .out .now) (printed t (a .totals)) (le-trans (answer-short t (a .totals) (c .before .before .before .before .before .before .before .before .before .before .before .before .before .pre .0) (c .before .before .before .before .before .before .before .before .before .shared-slice-known4 .given)) (c .before .before .before .before .before .before .before .before .before .before .before .before .before .pre .1)) in
-    left-last q (left-after p q l0 (c .before .before .before .before .before .before .write-header .ensures)) (c .before .before .write-contours .ensures)
+    let w = left-last q (left-after p q l0 (c .before .before .before .before .before .before .write-header .ensures)) (c .before .before .write-contours .ensures) in
+    (w, counted (le-trans (answer-short t (a .totals) (c .before .before .before .before .before .before .before .before .before .before .before .before .before .pre .0) (c .before .before .before .before .before .before .before .before .before .shared-slice-known4 .given)) (c .before .before .before .before .before .before .before .before .before .before .before .before .before .pre .1)) w)
 
 pub write-answer-spec : {M : Type 1} → statement M
 write-answer-spec =

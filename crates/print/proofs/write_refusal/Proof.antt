@@ -3,7 +3,7 @@ use native.Mathlib.Nat.{le-trans}
 use Rattle.print.proofs.Lengths.{refusal-short}
 use Rattle.print.specs.Text.{text}
 use Rattle.print.specs.Answer.{said, printedRefusal}
-use Rattle.print.specs.Write.{Left, left-from-0, left-after, left-last, piece-fits, last-fits}
+use Rattle.print.specs.Write.{Left, left-from-0, left-after, left-last, piece-fits, last-fits, counted}
 use borrow.Author.Needs.{needs}
 use Rattle.print.proofs.write_refusal.Statement.{statement}
 use Rattle.print.proofs.write_refusal.Tie as tie
@@ -54,7 +54,8 @@ returns c = let a = c .before .before .before .before .before .before .before .b
     let p = said (text "refused ") (a .number) in
     let q = said (text " at ") (a .place) in
     let l = left-from-0 (a .out .now) (printedRefusal (a .number) (a .place)) (le-trans (refusal-short (a .number) (a .place) (c .before .before .before .before .before .before .before .before .before .before .before .before .before .before .before .before .fits .number .fits) (c .before .before .before .before .before .before .before .before .before .before .before .before .before .before .before .before .fits .place .fits)) (c .before .before .before .before .before .before .before .before .before .before .before .before .before .before .before .before .pre)) in
-    left-last (text "\n") (left-after q (text "\n") (left-after p (q ++ text "\n") l (c .before .before .before .before .before .before .before .before .before .before .before .before .write-said .ensures)) (c .before .before .before .before .before .before .before .write-said2 .ensures)) (c .before .before .write-text .ensures)
+    let w = left-last (text "\n") (left-after q (text "\n") (left-after p (q ++ text "\n") l (c .before .before .before .before .before .before .before .before .before .before .before .before .write-said .ensures)) (c .before .before .before .before .before .before .before .write-said2 .ensures)) (c .before .before .write-text .ensures) in
+    (w, counted (le-trans (refusal-short (a .number) (a .place) (c .before .before .before .before .before .before .before .before .before .before .before .before .before .before .before .before .fits .number .fits) (c .before .before .before .before .before .before .before .before .before .before .before .before .before .before .before .before .fits .place .fits)) (c .before .before .before .before .before .before .before .before .before .before .before .before .before .before .before .before .pre)) w)
 
 pub write-refusal-spec : {M : Type 1} → statement M
 write-refusal-spec =

@@ -1,0 +1,9 @@
+-- The theorems.
+pub mod Places
+pub mod Rounds
+pub mod Sizes
+pub mod Anchors
+pub mod Leads
+pub mod Fit
+pub mod Enclosed
+pub mod Found

@@ -1,0 +1,2 @@
+-- The table that is printed.
+pub mod Answer
