@@ -1,20 +1,18 @@
 -- The loops that write owners one by one: copies, fills, and the hulls' own numbers.
-use Prim.Native.Nat.{ℕ, zero, suc, _+_, _≤_, _<_}
+use Prim.Native.Nat.{ℕ, _+_, _≤_, _<_}
 use mathlib.Core.Path.{_≡_, refl, sym, ap, _∙_}
-use mathlib.Core.Bool.{true, false}
-use mathlib.Core.List.{List, [], _∷_, _++_, append-nil}
+use mathlib.Core.List.{List}
 use native.Mathlib.Omega.{arith}
 use native.Mathlib.Numerals.{add-one}
-use native.Mathlib.Nat.{zero-add, not-suc-le-zero, le-of-suc-le-suc}
-use lib.ListN.{length, getD, set, take, drop, drop-of-length-le, length-set, replicate, length-replicate, getD-replicate}
+use native.Mathlib.Nat.{zero-add, not-suc-le-zero}
+use lib.ListN.{length, getD, set, take, length-set, replicate, length-replicate, getD-replicate}
 use lib.Seq.{paste, paste-zero, paste-suc, take-all, ext-getD}
-use lib.Dec.{eqb}
 use borrow.Author.Tests.{eq-eqb, ne-eqb}
-use Rattle.laws.specs.Test.{pick}
 use Rattle.table.specs.Table.{hulls, droppedOwner}
 use Rattle.table.specs.TableLaws.{hulls-more, no-hulls}
 use Rattle.nearest.proofs.Put.{put-below}
 use Rattle.bind.specs.Owners.{firstOwner, listOf, written}
+use Rattle.bind.specs.OwnerLaws.{list-length, list-at}
 
 -- ---- `copy`: the first i numbers of `from` stand in front of the old tail
 pub record Copying (old new from : List ℕ) (i : ℕ) : Type 0 where
@@ -38,26 +36,11 @@ module _ (old new from : List ℕ) (i : ℕ) (c : Copying old new from i) where
       let q : i ≡ length from = omega (arith, c .on) in
       c .is ∙ rw (q, zero-add (length from), take-all (length from) from (omega arith))
 
--- a list that is as long as what is copied into it
-pub written-whole : (from to new : List ℕ) → length to ≡ length from → new ≡ written from to → new ≡ from
-written-whole from to new l e = let h : length to ≤ length from = omega arith in e ∙ rw (drop-of-length-le to h) (append-nil from)
-
 -- ---- `fill`: as a copy of n times one number
 pub fill-more : (old new : List ℕ) (n v i : ℕ) → Copying old new (replicate n v) i → i < length old → i < n → Copying old (set new i v) (replicate n v) (i + 1)
 fill-more old new n v i c h k = rw (getD-replicate n i v 0 k) at (copy-more old new (replicate n v) i c h (rw (length-replicate n v) k))
 
 -- ---- `number_hulls`
-pub list-length : (f : ℕ → ℕ) (n : ℕ) → length (listOf f n) ≡ n
-unfolding listOf
-list-length f zero = refl
-list-length f (suc n) = ap suc (list-length (λ k. f (suc k)) n)
-
-pub list-at : (f : ℕ → ℕ) (n i : ℕ) → i < n → getD (listOf f n) i 0 ≡ f i
-unfolding listOf
-list-at f zero i h = absurd (not-suc-le-zero h)
-list-at f (suc n) zero h = refl
-list-at f (suc n) (suc i) h = list-at (λ k. f (suc k)) n i (le-of-suc-le-suc h)
-
 pub record Numbering (kind old new : List ℕ) (shape c : ℕ) : Type 0 where
   pub on : c ≤ length kind
   pub len : length new ≡ length old

@@ -1,16 +1,15 @@
 -- Gathering the holes with their anchors, contour by contour.
-use Prim.Native.Nat.{ℕ, zero, suc, _+_, _*_, _≤_, _<_}
-use mathlib.Core.Path.{_≡_, refl, sym, ap, _∙_, subst}
+use Prim.Native.Nat.{ℕ, _+_, _≤_, _<_}
+use mathlib.Core.Path.{_≡_, refl, sym, ap, _∙_}
 use mathlib.Core.Bool.{Bool, true, false}
 use mathlib.Core.List.{List, [], _∷_, _++_}
 use native.Mathlib.Omega.{arith}
 use native.Mathlib.Numerals.{add-one}
 use native.Mathlib.Nat.{not-suc-le-zero}
-use native.Mathlib.Decide.{decLe, ℕ-discrete}
+use native.Mathlib.Decide.{ℕ-discrete}
 use lib.ListN.{length, getD, set, length-set, length-append, List·getD-append}
 use lib.Seq.{getD-set-same, getD-set-other, getD-at}
-use lib.Dec.{eqb}
-use lib.IntN.{ℤ, pos}
+use lib.IntN.{pos}
 use borrow.Author.Tests.{eq-eqb, ne-eqb}
 use Rattle.laws.specs.Test.{pick}
 use Rattle.turn.specs.declared.Point.{Point}
@@ -20,8 +19,8 @@ use Rattle.table.specs.Table.{Table, contourCount, pointAt, firstOf, endOf, kin
 use Rattle.table.specs.TableLaws.{grid-point, anchor-low, anchor-high}
 use Rattle.table.specs.Passing.{ranges-within, next-within, previous-within}
 use Rattle.table.specs.Sound.{Sound}
-use Rattle.table.specs.Anchor.{anchorIn, anchorEdge, lowerEnd}
-use Rattle.nearest.specs.Lists.{Anchors, anchors, anchorAt}
+use Rattle.table.specs.Anchor.{anchorIn, anchorEdge}
+use Rattle.nearest.specs.Lists.{Anchors, anchorAt}
 use Rattle.bind.specs.HoleOrder.{holesBelow}
 use Rattle.bind.specs.Steps.{withAnchor, Room, Gathered}
 
@@ -52,8 +51,10 @@ on-either false p q h k = h
 module _ (t : Table) (s : Sound t) (cw : Bool) (c : ℕ) (l : c < contourCount t) where
   abbrev from : ℕ
   from = firstOf t c
+
   abbrev to : ℕ
   to = endOf t c
+
   abbrev at : ℕ
   at = anchorIn from cw
 

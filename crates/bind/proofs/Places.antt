@@ -1,6 +1,6 @@
 -- The place of a refusal is 0 or a contour that stands after few others, so it fits 32 bits.
 use Prim.Native.Nat.{ℕ, zero, suc, _≤_, _<_}
-use mathlib.Core.Path.{_≡_, refl, sym}
+use mathlib.Core.Path.{_≡_, refl}
 use mathlib.Core.Bool.{Bool, true, false, _||_}
 use native.Mathlib.Omega.{arith}
 use lib.ListN.{length}
@@ -35,12 +35,15 @@ table-place t owners n p e =
   where
     first : Refused 10 0 ≡ Refused n p → p ≤ maxLinks
     first q = let z : _≡_ {A = ℕ} 0 p = cc in omega arith
+
     lowest-one : pointCount t ≤ maxLinks → None (badContour t) (lowest (badContour t) (contourCount t)) → Refused 10 (lowest (badContour t) (contourCount t)) ≡ Refused n p → p ≤ maxLinks
     lowest-one k o q =
         let z : lowest (badContour t) (contourCount t) ≡ p = cc in
         omega (arith, few-before t (lowest (badContour t) (contourCount t)) o (lowest (badContour t) (contourCount t)) (omega arith) k)
+
     none : Fine ≡ Refused n p → p ≤ maxLinks
     none q = let z : _≡_ {A = ℕ} 0 1 = cc in omega arith
+
     go : (b : Bool) → misfit (length (t .points)) (length (t .first)) (length (t .len)) (length (t .kind)) owners || unended t ≡ b → (d : Bool) → some (badContour t) (contourCount t) ≡ d
         → pick b (Refused 10 0) (pick d (Refused 10 (lowest (badContour t) (contourCount t))) Fine) ≡ Refused n p → p ≤ maxLinks
     go true f d h q = first q
@@ -55,8 +58,10 @@ anchors-place t cw n p k e = go (some (badAnchor t cw) (contourCount t)) refl e
   where
     at : lowest (badAnchor t cw) (contourCount t) < contourCount t → Refused 11 (lowest (badAnchor t cw) (contourCount t)) ≡ Refused n p → p ≤ maxLinks
     at l q = let z : lowest (badAnchor t cw) (contourCount t) ≡ p = cc in omega arith
+
     none : Fine ≡ Refused n p → p ≤ maxLinks
     none q = let z : _≡_ {A = ℕ} 0 1 = cc in omega arith
+
     go : (b : Bool) → some (badAnchor t cw) (contourCount t) ≡ b → pick b (Refused 11 (lowest (badAnchor t cw) (contourCount t))) Fine ≡ Refused n p → p ≤ maxLinks
     go true h q = at (some-of (badAnchor t cw) (contourCount t) h .within) q
     go false h q = none q
@@ -66,6 +71,7 @@ place-few t owners cw n p e = go (tableChecked t owners) refl e
   where
     same : (m q : ℕ) → tableChecked t owners ≡ Refused m q → Refused m q ≡ Refused n p → p ≤ maxLinks
     same m q f g = let z : q ≡ p = cc in omega (arith, table-place t owners m q f)
+
     go : (r : Checked) → tableChecked t owners ≡ r → followedBy r (anchorsChecked t cw) ≡ Refused n p → p ≤ maxLinks
     go Fine f g = anchors-place t cw n p (contours-few t (passes-sound t owners .to f .0)) g
     go (Refused m q) f g = same m q f g

@@ -1,44 +1,40 @@
 -- The parts joined: the checks, the search over lists and the search of the definition, and the outcome.
-use Prim.Native.Nat.{ℕ, zero, suc, _+_, _*_, _-_, _≤_, _<_}
+use Prim.Native.Nat.{ℕ, zero, suc, _≤_, _<_}
 use mathlib.Core.Path.{_≡_, refl, sym, ap, ap₂, _∙_, subst}
-use mathlib.Core.Bool.{Bool, true, false, not, _&&_, _||_}
-use mathlib.Core.List.{List, [], _∷_}
+use mathlib.Core.Bool.{Bool, true, false}
+use mathlib.Core.List.{List}
 use native.Mathlib.Omega.{arith}
-use native.Mathlib.Nat.{not-suc-le-zero}
-use native.Mathlib.Decide.{decLe, ℕ-discrete}
-use lib.ListN.{length, getD, take, drop, replicate}
-use lib.Seq.{take-all, length-take-le, getD-take, ext-getD}
-use lib.Dec.{eqb, ltb}
+use native.Mathlib.Decide.{ℕ-discrete}
+use lib.ListN.{length, getD, take, replicate}
+use lib.Seq.{take-all, length-take-le, getD-take}
 use lib.IntN.{ℤ, pos}
 use lib.Signed.{ltZ, _≤ℤ_, ≤ℤ-refl}
-use borrow.Author.Tests.{eq-eqb, ne-eqb, ltb-true}
-use Rattle.laws.specs.Test.{pick, or-false}
-use Rattle.laws.specs.Lowest.{lowest, some, None, some-of}
+use borrow.Author.Tests.{ne-eqb}
+use Rattle.laws.specs.Test.{or-false}
 use Rattle.turn.specs.declared.Point.{Point}
 use Rattle.turn.specs.Limits.{maxLinks}
 use Rattle.turn.specs.Points.{before, OnGrid}
 use Rattle.table.specs.declared.Anchor.{Anchor}
 use Rattle.table.specs.declared.Checked.{Checked}
 use Rattle.table.specs.declared.Checked.the-variants.{Fine, Refused as AtFault}
-use Rattle.table.specs.Table.{Table, pointCount, contourCount, firstOf, lenOf, endOf, kindOf, isHole, hulls, hullCount, droppedOwner}
-use Rattle.table.specs.TableChecks.{misfit, startIn, unended, badContour, badAnchor, tableChecked, anchorsChecked, followedBy, bothChecked}
+use Rattle.table.specs.Table.{Table, contourCount, hulls, hullCount, droppedOwner}
+use Rattle.table.specs.TableChecks.{tableChecked, anchorsChecked, followedBy, bothChecked}
 use Rattle.table.specs.Anchor.{anchorEdge}
-use Rattle.table.specs.Tests.{fitting, contour-right}
 use Rattle.table.specs.Sound.{Sound, Anchored}
 use Rattle.table.specs.Passing.{passes-sound}
 use Rattle.table.specs.Anchoring.{passes-anchored}
-use Rattle.nearest.specs.Search.{rightward, edge, contourUnder, searchUnder}
-use Rattle.nearest.specs.Lists.{Anchors, anchors, anchorAt, giving, Placed}
+use Rattle.nearest.specs.Search.{rightward, searchUnder}
+use Rattle.nearest.specs.Lists.{Anchors, anchorAt, giving, Placed}
 use Rattle.nearest.specs.Compare.{lt-no}
 use Rattle.nearest.proofs.Same.{contours-few, under-few}
 use Rattle.bind.specs.declared.Binding.the-variants.{Bound, Refused}
 use Rattle.bind.specs.declared.Given.{Given}
 use Rattle.bind.specs.declared.Given.the-variants.{All, Stuck}
-use Rattle.bind.specs.HoleOrder.{goesBefore, precedes, sorted, holesBelow, holes, hole, bindingOrder}
+use Rattle.bind.specs.HoleOrder.{goesBefore, precedes, sorted, holes, hole, bindingOrder}
 use Rattle.bind.specs.HoleLaws.{Rising, holes-rising, holes-are}
 use Rattle.bind.specs.Owners.{everyContour, contourBelow, firstOwner, listOf, Owned, owned, giveEach, searchedOwners, ownersOf, droppedOf, Outcome, outcome, written, handed, boundAfter, bound}
 use Rattle.bind.specs.Steps.{Room, Gathered, Bounded, byAnchor, Ordered, giveListed, Listed, delivered}
-use Rattle.bind.proofs.Insertions.{sorted-length, sorted-image, entries}
+use Rattle.bind.specs.Insertion.{sorted-length, sorted-image, entries}
 use Rattle.bind.proofs.Gathers.{anchor-on-grid, end-on-grid, room-for}
 use Rattle.bind.proofs.Gives.{give-same}
 
@@ -96,6 +92,7 @@ module _ (t : Table) (s : Sound t) (cw : Bool) (a : Anchored t cw) (m : ℕ) (wh
       where
         x-at : (j : ℕ) → j < m → getD (h .x) j (pos 0) ≡ anchorEdge t cw (hole t j) .at .x
         x-at j k = ap (λ (w : Anchor). w .at .x) (g .at j k)
+
         go : Dec (p ≡ q) → getD (h .x) p (pos 0) ≤ℤ getD (h .x) q (pos 0)
         go (yes e) = rw e (≤ℤ-refl (getD (h .x) q (pos 0)))
         go (no e) =
@@ -115,10 +112,10 @@ module _ (t : Table) (s : Sound t) (cw : Bool) (a : Anchored t cw) (m : ℕ) (wh
       sorted = in-order;
     }
 
-  module _ (under ord own : List ℕ) (u : (j : ℕ) → j < m → getD under j 0 ≡ searchUnder t true cw (giving (replicate 4096 0)) (anchorAt h j)) (o : Ordered h who m ord) where
+  module _ (under ord own : List ℕ) (u : (j : ℕ) → j < m → getD under j 0 ≡ searchUnder t true cw (giving (replicate maxLinks 0)) (anchorAt h j)) (o : Ordered h who m ord) where
     under-is : (j : ℕ) → j < m → getD under j 0 ≡ contourBelow t cw (hole t j)
     under-is j l =
-        u j l ∙ ap (λ (e : ℕ → Bool). searchUnder t true cw e (anchorAt h j)) (every-gives 4096)
+        u j l ∙ ap (λ (e : ℕ → Bool). searchUnder t true cw e (anchorAt h j)) (every-gives maxLinks)
         ∙ ap (searchUnder t true cw everyContour) (g .at j l)
 
     low : (i : ℕ) → i < m → getD ord i 0 < m
@@ -148,6 +145,7 @@ module _ (t : Table) (s : Sound t) (cw : Bool) (a : Anchored t cw) (m : ℕ) (wh
       where
         taken : length (take m ord) ≡ m
         taken = length-take-le m ord (omega (arith, few-holes))
+
         pair : (i : ℕ) → i < m → getD (bindingOrder t cw) i 0 ≡ hole t (getD (take m ord) i 0)
         pair i l =
             ap (λ (n : ℕ). getD (sorted (precedes t cw) (hole t) n) i 0) (sym (g .all))

@@ -1,8 +1,8 @@
 -- E9 and E10, and what binding answers of tables near them.
 use mathlib.Core.Path.{_≡_, refl}
-use mathlib.Core.Bool.{Bool, true, false}
-use mathlib.Core.List.{List, [], _∷_, _++_}
-use lib.IntN.{ℤ, pos}
+use mathlib.Core.Bool.{true, false}
+use mathlib.Core.List.{[], _∷_, _++_}
+use lib.IntN.{pos}
 use Rattle.laws.specs.Lowest.{lowest}
 use Rattle.table.specs.Table.{Table, table, hulls, holeBefore}
 use Rattle.table.specs.TableChecks.{tableChecked, anchorsChecked}

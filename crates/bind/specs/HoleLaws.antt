@@ -1,6 +1,6 @@
 -- The holes in contour order: each below the contours looked at, each a hole, and rising.
-use Prim.Native.Nat.{ℕ, zero, suc, _+_, _≤_, _<_}
-use mathlib.Core.Path.{_≡_, refl, sym, ap, _∙_, subst}
+use Prim.Native.Nat.{ℕ, zero, suc, _≤_, _<_}
+use mathlib.Core.Path.{_≡_, refl, sym, subst}
 use mathlib.Core.Bool.{Bool, true, false}
 use mathlib.Core.List.{List, [], _∷_, _++_}
 use native.Mathlib.Omega.{arith}
@@ -41,6 +41,7 @@ rising-more l n r = record {
     low : (j : ℕ) → j < suc (length l) → Dec (j ≡ length l) → getD (l ++ (n ∷ [])) j 0 < suc n
     low j h (yes e) = rw (last l n j e) (omega arith)
     low j h (no e) = rw (old l n j (omega arith)) (omega (arith, r .below j (omega arith)))
+
     up : (i j : ℕ) → i < j → j < suc (length l) → Dec (j ≡ length l) → getD (l ++ (n ∷ [])) i 0 < getD (l ++ (n ∷ [])) j 0
     up i j h k (yes e) = rw (old l n i (omega arith), last l n j e) (r .below i (omega arith))
     up i j h k (no e) = rw (old l n i (omega arith), old l n j (omega arith)) (r .rises i j h (omega arith))
@@ -62,6 +63,7 @@ holes-are t (suc n) j h = go (isHole t n) refl (holes-are t n j) h
     at : isHole t n ≡ true → (j < length (holesBelow t n) → isHole t (getD (holesBelow t n) j 0) ≡ true) → j < suc (length (holesBelow t n)) → Dec (j ≡ length (holesBelow t n)) → isHole t (getD (holesBelow t n ++ (n ∷ [])) j 0) ≡ true
     at q r k (yes e) = subst (λ (c : ℕ). isHole t c ≡ true) (sym (last (holesBelow t n) n j e)) q
     at q r k (no e) = subst (λ (c : ℕ). isHole t c ≡ true) (sym (old (holesBelow t n) n j (omega arith))) (r (omega arith))
+
     go : (b : Bool) → isHole t n ≡ b → (j < length (holesBelow t n) → isHole t (getD (holesBelow t n) j 0) ≡ true) → j < length (pick b (holesBelow t n ++ (n ∷ [])) (holesBelow t n))
         → isHole t (getD (pick b (holesBelow t n ++ (n ∷ [])) (holesBelow t n)) j 0) ≡ true
     go true q r k = at q r (omega (arith, longer (holesBelow t n) n)) (ℕ-discrete j (length (holesBelow t n)))

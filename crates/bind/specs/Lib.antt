@@ -3,4 +3,7 @@ pub mod HoleOrder
 pub mod Owners
 pub mod Examples
 pub mod Steps
+pub mod Insertion
 pub mod HoleLaws
+pub mod OrderLaws
+pub mod OwnerLaws

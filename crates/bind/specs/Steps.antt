@@ -1,5 +1,5 @@
 -- What the parts of the code find, in parallel lists over the holes.
-use Prim.Native.Nat.{ℕ, _+_, _≤_, _<_}
+use Prim.Native.Nat.{ℕ, _≤_, _<_}
 use mathlib.Core.Path.{_≡_}
 use mathlib.Core.Bool.{Bool}
 use mathlib.Core.List.{List, [], _∷_}
@@ -43,13 +43,6 @@ pub record Bounded (who : List ℕ) (h : Anchors) (m : ℕ) : Type 0 where
 -- which of two holes goes first
 abbrev pub byAnchor : Anchors → List ℕ → ℕ → ℕ → Bool
 byAnchor h who i j = goesBefore (anchorAt h i) (anchorAt h j) (getD who i 0) (getD who j 0)
-
--- c stands at place p among m; what was from p on has moved by one
-pub record Inserted (old new : List ℕ) (m p c : ℕ) : Type 0 where
-  pub within : p ≤ m
-  pub below : (i : ℕ) → i < p → getD new i 0 ≡ getD old i 0
-  pub here : getD new p 0 ≡ c
-  pub above : (i : ℕ) → p ≤ i → i < m → getD new (i + 1) 0 ≡ getD old i 0
 
 abbrev pub placeOf : Anchors → List ℕ → List ℕ → ℕ → ℕ
 placeOf h who ord j = place (λ p. byAnchor h who j (getD ord p 0)) j

@@ -1,7 +1,6 @@
 // Binding: checks 10 to 12, the holes in binding's order, and the owner of every contour.
 use table::Anchor;
 use table::Checked;
-
 ghost use mathlib.Core.Path.{_≡_};
 ghost use Prim.Native.Nat.{ℕ, suc, _<_, _≤_};
 ghost use lib.ListN.{length, getD, take, replicate};
@@ -13,7 +12,8 @@ ghost use Rattle.table.specs.Sound.{Sound, Anchored};
 ghost use Rattle.nearest.specs.Lists.{anchors};
 ghost use Rattle.bind.specs.HoleOrder.{goesBefore, bindingOrder};
 ghost use Rattle.bind.specs.Owners.{owned, firstOwner, listOf, given, giveEach, contourBelow, searchedOwners, outcome, written, handed, ownersOf, bound};
-ghost use Rattle.bind.specs.Steps.{withAnchor, Room, Gathered, Bounded, Inserted, placeOf, Ordered, giveListed, Listed, delivered};
+ghost use Rattle.bind.specs.Insertion.{Inserted};
+ghost use Rattle.bind.specs.Steps.{withAnchor, Room, Gathered, Bounded, placeOf, Ordered, giveListed, Listed, delivered};
 
 // What binding answers: how many shapes there are and how many holes were dropped, or the number and the place of a refusal.
 pub enum Binding {
@@ -28,14 +28,7 @@ pub enum Given {
 }
 
 // Anchor j is a.
-fn put_anchor(
-    a: Anchor,
-    j: usize,
-    x: &mut [i32],
-    y: &mut [i32],
-    to_x: &mut [i32],
-    to_y: &mut [i32],
-)
+fn put_anchor(a: Anchor, j: usize, x: &mut [i32], y: &mut [i32], to_x: &mut [i32], to_y: &mut [i32])
     requires { ⌜ (OnGrid (a .at)) × (OnGrid (a .to)) ⌝ }
     requires { ⌜ (j < length (now x)) × (j < length (now y)) × (j < length (now «to_x»)) × (j < length (now «to_y»)) ⌝ }
     ensures { λ _. ⌜ anchors (now (x .exit)) (now (y .exit)) (now («to_x» .exit)) (now («to_y» .exit)) ≡ withAnchor (anchors (now (x .entry)) (now (y .entry)) (now («to_x» .entry)) (now («to_y» .entry))) j a ⌝ }
@@ -74,7 +67,12 @@ fn gather_holes(
             c += 1;
             continue;
         }
-        let a = table::left_bottom_segment_from(points, first[c] as usize, len[c] as usize, clockwise);
+        let a = table::left_bottom_segment_from(
+            points,
+            first[c] as usize,
+            len[c] as usize,
+            clockwise,
+        );
         who[m] = c as u32;
         put_anchor(a, m, x, y, to_x, to_y);
         m += 1;
@@ -94,23 +92,12 @@ fn goes_before(a: Anchor, b: Anchor, c: u32, d: u32) -> bool
     if turn::before(b.at, a.at) {
         return false;
     }
-    let angle = turn::cross_product(
-        turn::between(a.at, a.to),
-        turn::between(b.at, b.to),
-    );
+    let angle = turn::cross_product(turn::between(a.at, a.to), turn::between(b.at, b.to));
     (0 < angle) | (!(angle < 0) & (c < d))
 }
 
 // Hole j goes among the first j of `ord`, in front of those at the end that it goes before.
-fn insert(
-    who: &[u32],
-    x: &[i32],
-    y: &[i32],
-    to_x: &[i32],
-    to_y: &[i32],
-    ord: &mut [u32],
-    j: usize,
-)
+fn insert(who: &[u32], x: &[i32], y: &[i32], to_x: &[i32], to_y: &[i32], ord: &mut [u32], j: usize)
     requires { ⌜ (Bounded (now who) (anchors (now x) (now y) (now «to_x») (now «to_y»)) (suc j)) × (j < maxLinks) ⌝ }
     requires { ⌜ (j < length (now ord)) × ((i : ℕ) → i < j → getD (now ord) i 0 < j) ⌝ }
     ensures { λ _. ⌜ Inserted (now (ord .entry)) (now (ord .exit)) j (placeOf (anchors (now (x .entry)) (now (y .entry)) (now («to_x» .entry)) (now («to_y» .entry))) (now (who .entry)) (now (ord .entry)) j) j ⌝ }
@@ -214,20 +201,41 @@ fn search_owners(
     requires { ⌜ (Sound (table (now points) (now first) (now len) (now kind))) × (Anchored (table (now points) (now first) (now len) (now kind)) clockwise) × (length (now own) ≡ length (now first)) ⌝ }
     ensures { λ r. ⌜ owned r (now (own .exit)) ≡ giveEach (contourBelow (table (now (points .entry)) (now (first .entry)) (now (len .entry)) (now (kind .entry))) clockwise) (bindingOrder (table (now (points .entry)) (now (first .entry)) (now (len .entry)) (now (kind .entry))) clockwise) (now (own .entry)) ⌝ }
 {
-    let mut who = [0u32; 4096];
-    let mut x = [0i32; 4096];
-    let mut y = [0i32; 4096];
-    let mut to_x = [0i32; 4096];
-    let mut to_y = [0i32; 4096];
+    let mut who = [0u32; turn::MAX_LINKS];
+    let mut x = [0i32; turn::MAX_LINKS];
+    let mut y = [0i32; turn::MAX_LINKS];
+    let mut to_x = [0i32; turn::MAX_LINKS];
+    let mut to_y = [0i32; turn::MAX_LINKS];
     let m = gather_holes(
-        points, first, len, kind, clockwise, &mut who, &mut x, &mut y, &mut to_x, &mut to_y,
+        points,
+        first,
+        len,
+        kind,
+        clockwise,
+        &mut who,
+        &mut x,
+        &mut y,
+        &mut to_x,
+        &mut to_y,
     );
-    let mute = [0u8; 4096];
-    let mut under = [0u32; 4096];
+    let mute = [0u8; turn::MAX_LINKS];
+    let mut under = [0u32; turn::MAX_LINKS];
     nearest::contours_under(
-        points, first, len, kind, true, clockwise, &mute, &x, &y, &to_x, &to_y, m, &mut under,
+        points,
+        first,
+        len,
+        kind,
+        true,
+        clockwise,
+        &mute,
+        &x,
+        &y,
+        &to_x,
+        &to_y,
+        m,
+        &mut under,
     );
-    let mut ord = [0u32; 4096];
+    let mut ord = [0u32; turn::MAX_LINKS];
     order_holes(&who, &x, &y, &to_x, &to_y, m, &mut ord);
     give_owners(&ord, &who, &under, m, own)
 }
@@ -293,7 +301,7 @@ fn bind_holes(
     ensures { λ r. ⌜ owned r (now (owner .exit)) ≡ delivered (searchedOwners (table (now (points .entry)) (now (first .entry)) (now (len .entry)) (now (kind .entry))) clockwise) (now (owner .entry)) ⌝ }
 {
     let n = first.len();
-    let mut own = [0u16; 4096];
+    let mut own = [0u16; turn::MAX_LINKS];
     bind_in(points, first, len, kind, clockwise, &mut own[..n], owner)
 }
 
@@ -313,15 +321,27 @@ fn bind_sound(
     let hulls = table::hulls_before(kind, n);
     if hulls == 0 {
         fill(owner, n, table::DROPPED);
-        return Binding::Bound { shapes: 0, dropped: n as u32 };
+        return Binding::Bound {
+            shapes: 0,
+            dropped: n as u32,
+        };
     }
     if hulls == 1 {
         fill(owner, n, 0);
-        return Binding::Bound { shapes: 1, dropped: 0 };
+        return Binding::Bound {
+            shapes: 1,
+            dropped: 0,
+        };
     }
     match bind_holes(points, first, len, kind, clockwise, owner) {
-        Given::All => Binding::Bound { shapes: hulls as u32, dropped: 0 },
-        Given::Stuck(c) => Binding::Refused { number: 12, place: c },
+        Given::All => Binding::Bound {
+            shapes: hulls as u32,
+            dropped: 0,
+        },
+        Given::Stuck(c) => Binding::Refused {
+            number: 12,
+            place: c,
+        },
     }
 }
 
@@ -338,7 +358,10 @@ fn check(
 {
     match table::check_table(points, first, len, kind, owners) {
         Checked::Fine => table::check_anchors(points, first, len, kind, clockwise),
-        Checked::Refused { number, place } => Checked::Refused { number: number, place: place },
+        Checked::Refused { number, place } => Checked::Refused {
+            number: number,
+            place: place,
+        },
     }
 }
 
@@ -355,6 +378,9 @@ pub fn bind(
 {
     match check(points, first, len, kind, clockwise, owner.len()) {
         Checked::Fine => bind_sound(points, first, len, kind, clockwise, owner),
-        Checked::Refused { number, place } => Binding::Refused { number: number, place: place as u32 },
+        Checked::Refused { number, place } => Binding::Refused {
+            number: number,
+            place: place as u32,
+        },
     }
 }

@@ -43,7 +43,7 @@ module _ (g : Graph) where
   range (w ∷ ks) (suc c) h =
       let n : ℕ = length (w .steps) in
       let e : getD (firsts (0 + n) (lens ks)) c 0 ≡ length (points g w) + getD (firsts 0 (lens ks)) c 0 =
-          omega (arith, firsts-from (0 + n) (lens ks) c (rw (lens-length ks) (omega arith)), length-map (w .steps) (left g)) in
+      omega (arith, firsts-from (0 + n) (lens ks) c (rw (lens-length ks) (omega arith)), length-map (w .steps) (left g)) in
       ap (λ i. take (getD (lens ks) c 0) (drop i (points g w ++ allPoints g ks))) e
       ∙ ap (take (getD (lens ks) c 0)) (drop-append-add (points g w) (allPoints g ks) (getD (firsts 0 (lens ks)) c 0))
       ∙ range ks c (omega arith)

@@ -163,6 +163,7 @@ module _ (g : Lent) (top : List ℕ) (cw : Bool) (minimum : ℕ) (b b′ : Buffe
   pub extraction-passes : (owners : ℕ) → c .contours ≤ owners → extractedAs (Done c) b′ ≡ extracted g top cw minimum b
       → (tableChecked (writtenTable c b′) owners ≡ table.Fine) × (anchorsChecked (writtenTable c b′) cw ≡ table.Fine)
   extraction-passes owners l h =
-      let q = ran h in
-      (subst (λ t. tableChecked t owners ≡ table.Fine) (sym (q .table-is)) (passes-10 g top (b .state) rooms (q .fine-graph) cw minimum (q .all) (q .states) (q .scanned-as) owners (subst (λ k. k ≤ owners) (q .contours-are) l)),
-      subst (λ t. anchorsChecked t cw ≡ table.Fine) (sym (q .table-is)) (passes-11 g top (b .state) rooms (q .fine-graph) cw minimum (q .all) (q .states) (q .scanned-as)))
+      let q = ran h in (
+        subst (λ t. tableChecked t owners ≡ table.Fine) (sym (q .table-is)) (passes-10 g top (b .state) rooms (q .fine-graph) cw minimum (q .all) (q .states) (q .scanned-as) owners (subst (λ k. k ≤ owners) (q .contours-are) l)),
+        subst (λ t. anchorsChecked t cw ≡ table.Fine) (sym (q .table-is)) (passes-11 g top (b .state) rooms (q .fine-graph) cw minimum (q .all) (q .states) (q .scanned-as)),
+      )

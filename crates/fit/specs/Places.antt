@@ -109,7 +109,7 @@ module _ (g : Graph) where
   all-at (w ∷ ks) (suc c) i h l =
       let n : ℕ = length (w .steps) in
       let e : getD (firsts (0 + n) (lens ks)) c 0 + i ≡ length (points g w) + (getD (firsts 0 (lens ks)) c 0 + i) =
-          omega (arith, firsts-from (0 + n) (lens ks) c (rw (lens-length ks) (omega arith)), length-map (w .steps) (left g)) in
+      omega (arith, firsts-from (0 + n) (lens ks) c (rw (lens-length ks) (omega arith)), length-map (w .steps) (left g)) in
       ap (λ p. getD (points g w ++ allPoints g ks) p origin) e ∙ getD-append-add (points g w) (allPoints g ks) (getD (firsts 0 (lens ks)) c 0 + i) origin
       ∙ all-at ks c i (omega arith) l
 

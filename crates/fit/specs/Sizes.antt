@@ -143,8 +143,8 @@ module _ (g : Lent) (top st : List ℕ) (r : Room) (e : checked g top st r ≡ F
       let here : point t p ≡ getD (points G (walkAt ks c)) (p - firstOf t c) origin = ap (point t) (sym at) ∙ point-at G ks c (p - firstOf t c) k i in
       let d = round (walkAt ks c) (at-walks c k) (p - firstOf t c) i in
       elim (ℕ-discrete (p + 1) (endOf t c)) [
-        yes q ↦ ap₂ differ here (ap (point t) (next-last (firstOf t c) (endOf t c) p q ∙ zero-more (firstOf t c)) ∙ point-at G ks c 0 k (omega arith)) ∙ d .1 (omega (arith, n))
-      | no m ↦ ap₂ differ here (ap (point t) (next-inside (firstOf t c) (endOf t c) p (less m) ∙ one-more) ∙ point-at G ks c (suc (p - firstOf t c)) k (inside m n)) ∙ d .0 (inside m n)
+        | yes q ↦ ap₂ differ here (ap (point t) (next-last (firstOf t c) (endOf t c) p q ∙ zero-more (firstOf t c)) ∙ point-at G ks c 0 k (omega arith)) ∙ d .1 (omega (arith, n))
+        | no m ↦ ap₂ differ here (ap (point t) (next-inside (firstOf t c) (endOf t c) p (less m) ∙ one-more) ∙ point-at G ks c (suc (p - firstOf t c)) k (inside m n)) ∙ d .0 (inside m n)
       ]
     where
       zero-more : (x : ℕ) → x ≡ x + 0

@@ -1,11 +1,11 @@
 -- The loop that fills the starts and the entries, node by node.
-use Prim.Native.Nat.{ℕ, zero, suc, _+_, _-_, _*_, _/_, _%_, _≤_, _<_}
-use mathlib.Core.Path.{_≡_, refl, sym, ap, ap₂, _∙_, subst}
-use mathlib.Core.List.{List, [], _∷_, _++_}
+use Prim.Native.Nat.{ℕ, zero, suc, _+_, _-_, _/_, _%_, _≤_, _<_}
+use mathlib.Core.Path.{_≡_, refl, sym, ap, _∙_, subst}
+use mathlib.Core.List.{List}
 use native.Mathlib.Nat.{add-assoc}
 use native.Mathlib.Omega.{arith}
 use lib.ListN.{length, set, length-set}
-use Rattle.format.specs.Put.{put, over, put-none, put-put, put-cons, set-put, length-put}
+use Rattle.format.specs.Put.{put, over, put-none, put-put, put-cons, set-put}
 use Rattle.format.specs.Bytes.{u16At}
 use Rattle.format.specs.Limits.{maxEntries}
 use Rattle.format.specs.Records.{lengthAt, endAt}

@@ -1,15 +1,14 @@
 -- The definitions at work on small files: E1's and E2's, and each sort of refusal.
 use Prim.Native.Nat.{ℕ}
 use mathlib.Core.Path.{_≡_, refl}
-use mathlib.Core.Bool.{true, false}
+use mathlib.Core.Bool.{false}
 use mathlib.Core.List.{List, [], _∷_, _++_}
-use lib.IntN.{ℤ, pos, negsuc}
-use lib.ListN.{length, take, drop, set}
-use Rattle.format.specs.declared.Step.the-variants.{Next, Other, Fault}
-use Rattle.format.specs.declared.FileRead.the-variants as answer
+use lib.IntN.{pos, negsuc}
+use lib.ListN.{take, set}
+use Rattle.format.specs.declared.Step.the-variants.{Next, Fault}
 use Rattle.format.specs.Bytes.{u16At, u32At, u64At, signed, i32At}
 use Rattle.format.specs.Records.{refusal, run, stepAt, recordNumber, runFrom, settingsRight, formOf}
-use Rattle.format.specs.File.{File, graph, refusedFile, fileOf, every, listOf, startsOf}
+use Rattle.format.specs.File.{graph, refusedFile, fileOf, every, listOf, startsOf}
 
 -- E1: no links, no nodes; only the record of kind 3
 e1 : List ℕ
@@ -56,7 +55,6 @@ square = refl
 
 abbrev refused-at : List ℕ → ℕ → ℕ → Type 0
 refused-at s number at = fileOf s ≡ refusedFile (refusal number at)
-
 
 -- no record at all
 nothing : refused-at ([]) 13 0

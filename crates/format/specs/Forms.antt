@@ -1,20 +1,17 @@
 -- What a file of right form holds: where its links and nodes stand, how many they are, and that the lists read there are those of the definition.
-use Prim.Native.Nat.{ℕ, zero, suc, _+_, _-_, _*_, _/_, _%_, _≤_, _<_}
-use mathlib.Core.Path.{_≡_, refl, sym, ap, ap₂, _∙_, subst}
-use mathlib.Core.Bool.{Bool, true, false}
-use mathlib.Core.List.{List, [], _∷_, _++_, map}
-use native.Mathlib.Nat.{add-assoc}
+use Prim.Native.Nat.{ℕ, zero, suc, _+_, _-_, _*_, _/_, _≤_}
+use mathlib.Core.Path.{_≡_, refl, sym, ap, ap₂, _∙_}
+use mathlib.Core.Bool.{true, false}
+use mathlib.Core.List.{List, [], _∷_}
 use native.Mathlib.Omega.{arith}
-use borrow.Author.Tests.{eq-eqb, ne-eqb, eqb-true, leb-true}
-use lib.Dec.{eqb, leb}
-use lib.ListN.{length, getD, take, drop, length-take, length-drop, length-append, length-map}
-use lib.Seq.{getD-take, getD-drop}
-use Rattle.laws.specs.Test.{pick, pick-ind, and-true}
-use Rattle.format.specs.Bytes.{u16At, u32At, i32At, signed}
-use Rattle.format.specs.Limits.{maxLinks, maxNodes, maxEntries}
-use Rattle.format.specs.Records.{lengthAt, kindAt, bodyAt, endAt, refusal, run, past, Ran, ran, fault, runFrom, runAt, looks, Form, form, refused, onRan, nodesAfter, formOf, settingsRight}
-use Rattle.format.specs.File.{every, entriesOf, listOf, startsOf}
-use Rattle.format.specs.Shape.{endOf, shapeOf, entriesFrom, startsFrom, NodesStand}
+use borrow.Author.Tests.{eq-eqb, ne-eqb, leb-true}
+use lib.Dec.{leb}
+use lib.ListN.{length, length-take, length-drop, length-append}
+use Rattle.laws.specs.Test.{and-true}
+use Rattle.format.specs.Bytes.{u16At}
+use Rattle.format.specs.Records.{lengthAt, bodyAt, refusal, run, past, Ran, ran, fault, runAt, looks, form, nodesAfter, formOf, settingsRight}
+use Rattle.format.specs.File.{every, entriesOf, listOf}
+use Rattle.format.specs.Shape.{endOf, shapeOf}
 use Rattle.format.specs.Steps.{Told, link-zero, node-zero, count-below}
 use Rattle.format.specs.Runs.{Stands, stands}
 use Rattle.format.specs.declared.Run.{Run}

@@ -1,4 +1,5 @@
 -- The file of document 01 and what is read from it, leaves first.
+
 pub mod Put
 pub mod Bytes
 pub mod Limits
@@ -11,4 +12,7 @@ pub mod Forms
 pub mod Lists
 pub mod Encoded
 pub mod RoundTrip
+pub mod Accepted
+pub mod Decided
+pub mod Once
 pub mod Examples

@@ -1,25 +1,25 @@
 -- The lists that are read where the records of a file of right form stand are the definition's.
-use Prim.Native.Nat.{ℕ, zero, suc, _+_, _-_, _*_, _/_, _%_, _≤_, _<_}
+use Prim.Native.Nat.{ℕ, zero, suc, _+_, _-_, _*_, _/_, _≤_, _<_}
 use mathlib.Core.Path.{_≡_, refl, sym, ap, ap₂, _∙_, subst}
-use mathlib.Core.Bool.{Bool, true, false}
+use mathlib.Core.Bool.{Bool, true}
 use mathlib.Core.List.{List, [], _∷_, _++_, map}
 use native.Mathlib.Nat.{add-assoc, add-zero}
 use native.Mathlib.Omega.{arith}
 use borrow.Author.Tests.{eqb-true}
 use lib.Dec.{eqb}
 use lib.IntN.{ℤ}
-use lib.ListN.{length, getD, take, drop, length-map}
+use lib.ListN.{length, getD, drop, length-map}
 use lib.Seq.{getD-take, getD-drop}
 use Rattle.laws.specs.Test.{pick, pick-ind}
 use Rattle.format.specs.Put.{over}
 use Rattle.format.specs.Bytes.{u16At, u32At, u64At, i32At, signed}
 use Rattle.format.specs.Limits.{maxLinks, maxNodes, maxEntries}
 use Rattle.format.specs.Records.{lengthAt, bodyAt, endAt, refusal, run, past, Ran, ran, fault, runAt, looks, Form, form, refused, onRan, nodesAfter, formOf, settingsRight}
-use Rattle.format.specs.File.{every, entriesOf, listOf, startsOf, graphOf, fileFrom, fileOf, Buffers, buffers, filled, reading, readInto}
+use Rattle.format.specs.File.{every, listOf, startsOf, fileOf, Buffers, buffers, filled, reading, readInto}
 use Rattle.format.specs.Shape.{shapeOf, Columns, columns, column, linksInto, entriesFrom, startsFrom, NodesStand}
-use Rattle.format.specs.Steps.{Told, link-zero, node-zero}
+use Rattle.format.specs.Steps.{link-zero, node-zero}
 use Rattle.format.specs.Runs.{Stands, stands}
-use Rattle.format.specs.Forms.{length-every, length-body, stands-count, stands-few, stands-inside, stands-links, stands-nodes, settings-long}
+use Rattle.format.specs.Forms.{length-body, stands-count, stands-few, stands-inside, stands-links, settings-long}
 use Rattle.format.specs.declared.Run.{Run}
 use Rattle.format.specs.declared.Refusal.{Refusal}
 use Rattle.format.specs.declared.FileRead.the-variants as answer
@@ -196,13 +196,21 @@ module _ (s : List ℕ) (n m e : ℕ) (f : Formed s n m e) where
 
   pub links-few : n ≤ maxLinks
   links-few =
-      omega (arith, f .n-is, stands-count 1 s (f .links) (run 15 0 0) (is-placed .between) (is-placed .links-stand),
-      stands-few 1 s (f .links) (run 15 0 0) (is-placed .between) (omega arith) (is-placed .links-stand))
+      omega (
+        arith,
+        f .n-is,
+        stands-count 1 s (f .links) (run 15 0 0) (is-placed .between) (is-placed .links-stand),
+        stands-few 1 s (f .links) (run 15 0 0) (is-placed .between) (omega arith) (is-placed .links-stand),
+      )
 
   pub nodes-few : m ≤ maxNodes
   nodes-few =
-      omega (arith, f .m-is, stands-count 2 s (f .nodes) (run (is-placed .between .at) 0 0) (is-placed .last) (is-placed .nodes-stand),
-      stands-few 2 s (f .nodes) (run (is-placed .between .at) 0 0) (is-placed .last) (omega arith) (is-placed .nodes-stand))
+      omega (
+        arith,
+        f .m-is,
+        stands-count 2 s (f .nodes) (run (is-placed .between .at) 0 0) (is-placed .last) (is-placed .nodes-stand),
+        stands-few 2 s (f .nodes) (run (is-placed .between .at) 0 0) (is-placed .last) (omega arith) (is-placed .nodes-stand),
+      )
 
   pub nodes-fit : NodesStand s maxEntries m (15 + 28 * n) 0
   nodes-fit =

@@ -1,6 +1,6 @@
 -- The form of the file: "four-byte length of the body, two-byte kind, body"; one record of kind 3, then any of kind 1, then any of kind 2.
 use Prim.Native.Nat.{ℕ, zero, suc, _+_, _*_, _%_}
-use mathlib.Core.Bool.{Bool, true, false, _&&_}
+use mathlib.Core.Bool.{Bool, _&&_}
 use mathlib.Core.List.{List, [], _∷_}
 use lib.Dec.{eqb, ltb, leb}
 use lib.ListN.{length, getD, take, drop}

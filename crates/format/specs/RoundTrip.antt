@@ -1,25 +1,24 @@
 -- Writing the file of a graph and reading it gives the graph back.
-use Prim.Native.Nat.{ℕ, zero, suc, _+_, _-_, _*_, _/_, _%_, _^_, _≤_, _<_}
+use Prim.Native.Nat.{ℕ, zero, suc, _+_, _-_, _*_, _/_, _%_, _≤_, _<_}
 use mathlib.Core.Path.{_≡_, refl, sym, ap, ap₂, _∙_, subst}
-use mathlib.Core.Bool.{Bool, true, false, _&&_}
+use mathlib.Core.Bool.{Bool, true, false}
 use mathlib.Core.List.{List, [], _∷_, _++_, map, append-assoc, append-nil}
 use native.Mathlib.Nat.{add-assoc, add-zero}
 use native.Mathlib.Omega.{arith}
 use borrow.Author.Tests.{lt-ltb, le-ltb, le-leb, eq-eqb}
-use lib.Dec.{eqb, ltb, leb}
+use lib.Dec.{eqb}
 use lib.IntN.{ℤ, pos, negsuc}
 use lib.ListN.{length, getD, take, drop, length-append, length-map, List·getD-append}
 use lib.Seq.{getD-append-add, drop-append-add, take-append-seam}
 use lib.Signed.{mag}
 use Rattle.laws.specs.Test.{pick, true-and}
 use Rattle.format.specs.Bytes.{u16At, u32At, u64At, i32At, signed}
-use Rattle.format.specs.Limits.{maxLinks, maxNodes, maxEntries}
-use Rattle.format.specs.Records.{lengthAt, kindAt, bodyAt, endAt, headNumber, linkNumber, nodeNumber, refusal, run, past, stepAt, Ran, ran, with, runFrom, runAt, looks, settingsRight, Form, form, onRan, nodesAfter, formOf}
-use Rattle.format.specs.File.{Graph, every, entriesOf, listOf, startsOf, graphOf, File, graph, fileOf}
+use Rattle.format.specs.Records.{lengthAt, kindAt, bodyAt, headNumber, nodeNumber, run, past, stepAt, ran, with, runFrom, looks, settingsRight, form, formOf}
+use Rattle.format.specs.File.{every, entriesOf, listOf, startsOf, graph, fileOf}
 use Rattle.format.specs.Encoded.{little, bitsOf, recordOf, recordsOf, Link, linkBody, nodeBody, settingsBody, encoded, joined, positions, listsOf, LinkFits, LinksFit, NodeFits, NodesFit, FileFits}
 use Rattle.format.specs.Steps.{step-cut, step-kind, step-next}
 use Rattle.format.specs.declared.Run.{Run}
-use Rattle.format.specs.declared.Step.the-variants.{Next, Other, Fault}
+use Rattle.format.specs.declared.Step.the-variants.{Next, Other}
 
 -- ---- numbers read where they were written
 
@@ -110,8 +109,8 @@ module _ (kind : ℕ) (k : kind < 65536) (s : List ℕ) (place : ℕ) (stop : (r
       let l = length-there kind b rest k (g .1) s before (r .at) p e′ in
       let long = long-enough kind b rest k (g .1) s before (r .at) p e′ in
       let step = step-next kind s r (omega arith) (kind-there kind b rest k (g .1) s before (r .at) p e′)
-            (ap (headNumber kind (r .count) (r .size)) l ∙ g .0)
-            (omega arith) in
+      (ap (headNumber kind (r .count) (r .size)) l ∙ g .0)
+      (omega arith) in
       one-step (suc n) r b bs step (body-there kind b rest k (g .1) s before (r .at) p e′)
       (reaches bs n (before ++ recordOf kind b) after (past s r) (omega arith)
       (subst (λ z. Goes kind (r .count + 1) (r .size + z) bs) (sym l) (g .2))
@@ -275,8 +274,7 @@ unfolding joined
 nodes-go [] count size h r = tt
 nodes-go (n ∷ ns) count size h r =
     let l = length-node n in
-    let j = length-append n (joined ns) in
-    (
+    let j = length-append n (joined ns) in (
       right-head (length (nodeBody n)) (omega arith) (omega arith),
       omega arith,
       nodes-go ns (count + 1) (size + length (nodeBody n)) (omega arith) (omega arith),

@@ -1,17 +1,16 @@
 -- What a whole run is: the loop that finds its end, and where its records stand.
-use Prim.Native.Nat.{ℕ, zero, suc, _+_, _-_, _*_, _/_, _%_, _≤_, _<_}
+use Prim.Native.Nat.{ℕ, zero, suc, _+_, _-_, _≤_, _<_}
 use mathlib.Core.Path.{_≡_, refl, sym, ap, _∙_, subst}
-use mathlib.Core.List.{List, [], _∷_, _++_}
+use mathlib.Core.List.{List, [], _∷_}
 use native.Mathlib.Omega.{arith}
-use lib.ListN.{length, take, drop, length-take, length-drop}
-use Rattle.format.specs.Records.{lengthAt, bodyAt, endAt, run, past, stepAt, Ran, ran, fault, with, onStep, runFrom, runAt, looks}
+use lib.ListN.{length}
+use Rattle.format.specs.Records.{lengthAt, bodyAt, run, past, stepAt, Ran, ran, fault, with, onStep, runFrom, runAt, looks}
 use Rattle.format.specs.Shape.{endOf}
 use Rattle.format.specs.Steps.{Told, next-tells, count-below}
 use Rattle.format.specs.declared.Run.{Run}
 use Rattle.format.specs.declared.Refusal.{Refusal}
 use Rattle.format.specs.declared.Step.{Step}
 use Rattle.format.specs.declared.Step.the-variants.{Next, Other, Fault}
-use Rattle.format.specs.declared.RunEnd.{RunEnd}
 use Rattle.format.specs.declared.RunEnd.the-variants as end
 
 -- ---- the loop that looks for a run's end

@@ -1,15 +1,13 @@
 -- What the steps of the reading promise each other: the counts of a file of right form, and the lists read where its records stand.
-use Prim.Native.Nat.{ℕ, zero, suc, _+_, _*_, _/_, _%_, _≤_}
+use Prim.Native.Nat.{ℕ, zero, suc, _+_, _/_, _%_, _≤_}
 use mathlib.Core.List.{List, [], _∷_, _++_}
 use mathlib.Core.Path.{_≡_}
 use lib.ListN.{length, getD}
 use lib.IntN.{ℤ}
-use Rattle.format.specs.Put.{put, over}
-use Rattle.format.specs.Bytes.{u16At, u32At, i32At}
-use Rattle.format.specs.Limits.{maxLinks, maxNodes, maxEntries}
-use Rattle.format.specs.Records.{Ran, ran, fault, Form, form, refused, endAt, lengthAt, runAt}
-use Rattle.format.specs.File.{every, listOf, Buffers}
-use Rattle.format.specs.declared.Run.{Run}
+use Rattle.format.specs.Put.{over}
+use Rattle.format.specs.Bytes.{u16At, i32At}
+use Rattle.format.specs.Records.{Ran, ran, fault, Form, form, refused, endAt, lengthAt}
+use Rattle.format.specs.File.{every, listOf}
 use Rattle.format.specs.declared.RunEnd.{RunEnd}
 use Rattle.format.specs.declared.RunEnd.the-variants as end
 use Rattle.format.specs.declared.Shape.{Shape}

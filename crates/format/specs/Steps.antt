@@ -2,17 +2,16 @@
 use Prim.Native.Nat.{ℕ, zero, suc, _+_, _*_, _%_, _≤_, _<_}
 use mathlib.Core.Path.{_≡_, refl, sym, ap, _∙_}
 use mathlib.Core.Bool.{Bool, true, false, _&&_}
-use mathlib.Core.List.{List, [], _∷_}
+use mathlib.Core.List.{List}
 use native.Mathlib.Omega.{arith}
-use borrow.Author.Tests.{lt-ltb, le-ltb, le-leb, lt-leb, eq-eqb, ne-eqb, ltb-true, leb-true, eqb-true}
+use borrow.Author.Tests.{le-leb, lt-leb, eq-eqb, ne-eqb, ltb-true, leb-true, eqb-true}
 use lib.Dec.{eqb, ltb, leb}
 use lib.ListN.{length}
-use Rattle.laws.specs.Test.{pick, pick-ind, and-true, true-and}
+use Rattle.laws.specs.Test.{pick, pick-ind, and-true}
 use Rattle.format.specs.Limits.{maxLinks, maxNodes, maxEntries}
 use Rattle.format.specs.Records.{lengthAt, kindAt, endAt, headed, linkNumber, nodeNumber, headNumber, bodyNumber, firstNumber, recordNumber, refusal, run, past, stepAt}
 use Rattle.format.specs.declared.Run.{Run}
 use Rattle.format.specs.declared.Refusal.{Refusal}
-use Rattle.format.specs.declared.Step.{Step}
 use Rattle.format.specs.declared.Step.the-variants.{Next, Other, Fault}
 
 -- ---- forward: the tests decide the step

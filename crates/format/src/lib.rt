@@ -12,11 +12,11 @@ ghost use Rattle.format.specs.Limits.{maxEntries};
 ghost use Rattle.format.specs.Records.{headNumber, refusal, stepAt, runAt, settingsRight, formOf, nodesAfter};
 ghost use Rattle.format.specs.File.{every, fileOf, Room, buffers, reading, readInto};
 ghost use Rattle.format.specs.Shape.{endOf, shapeOf, columns, LinkRoom, linksInto, entriesFrom, startsFrom, NodesStand};
-
 use turn::MAX_LINKS;
 
 // "a 4,097th node or 8,193rd list entry" ends the reading with 5, as a link past MAX_LINKS does with 1.
 pub const MAX_NODES: usize = 4096;
+
 pub const MAX_ENTRIES: usize = 8192;
 
 // The bytes that decide every input: the settings, as many links, nodes and entries as may be, and one head more.
@@ -163,7 +163,10 @@ fn step_at(s: &[u8], kind: u32, r: Run) -> Step
     }
     let body = at + 6;
     if s.len() - body < len {
-        return Step::Fault(Refusal { number: 13, place: at });
+        return Step::Fault(Refusal {
+            number: 13,
+            place: at,
+        });
     }
     Step::Next(Run {
         at: body + len,

@@ -1,5 +1,5 @@
 -- The table of `show_answer` may be printed.
-use Prim.Native.Nat.{ℕ, zero, suc, _+_, _*_, _≤_, _<_, suc-le-suc}
+use Prim.Native.Nat.{ℕ, zero, suc, _+_, _*_, _≤_, _<_}
 use mathlib.Core.Path.{_≡_, refl}
 use mathlib.Core.Bool.{Bool, true, _&&_}
 use mathlib.Core.List.{List, [], _∷_}
@@ -8,12 +8,12 @@ use native.Mathlib.Nat.{le-of-suc-le-suc}
 use borrow.Author.Tests.{leb-true}
 use lib.Dec.{leb}
 use lib.IntN.{ℤ, pos, negsuc, natAbs}
-use lib.ListN.{length, getD}
+use lib.ListN.{getD}
 use Rattle.laws.specs.Test.{and-true}
 use Rattle.turn.specs.Limits.{maxCoordinate}
 use Rattle.turn.specs.Points.{Grid}
 use Rattle.print.specs.Answer.{Table, table}
-use Rattle.print.specs.Room.{Ranges, Printable}
+use Rattle.print.specs.Room.{Printable}
 use Rattle.print.specs.declared.Totals.{Totals}
 
 abbrev points : List ℤ

@@ -1,2 +1,3 @@
 -- The table that is printed.
+
 pub mod Answer

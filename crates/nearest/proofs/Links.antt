@@ -1,7 +1,6 @@
 -- The loops that link every point to its contour and to the next point round it.
-use Prim.Native.Nat.{ℕ, zero, suc, _+_, _≤_, _<_}
-use mathlib.Core.Path.{_≡_, refl, sym, ap, _∙_}
-use mathlib.Core.Bool.{true, false}
+use Prim.Native.Nat.{ℕ, _+_, _≤_, _<_}
+use mathlib.Core.Path.{_≡_, refl, sym, _∙_}
 use mathlib.Core.List.{List}
 use native.Mathlib.Omega.{arith}
 use native.Mathlib.Nat.{not-suc-le-zero}
@@ -11,7 +10,7 @@ use lib.Dec.{ltb}
 use borrow.Author.Tests.{lt-ltb, le-ltb}
 use Rattle.laws.specs.Test.{pick}
 use Rattle.table.specs.Table.{Table, firstOf, endOf, contourOf, nextIn, next}
-use Rattle.table.specs.Passing.{Located, apart, contour-is}
+use Rattle.table.specs.Passing.{apart, contour-is}
 use Rattle.nearest.specs.Lists.{Ranges, ranges, Linked, Round}
 use Rattle.nearest.proofs.Put.{put-below}
 
@@ -78,6 +77,7 @@ module _ (first len : List ℕ) (r : Ranges first len) where
           let f′ : firstOf t c ≤ k = rw q at f in let e′ : k < endOf t c = rw q at e in
           n .of-in k f′ e′ ∙ sym (at-home c k h f′ e′)
       at-of b k l f e (no q) = n .of-below k (omega (arith, apart t (r .follow) c b h (omega arith))) ∙ o .of-is b k (omega arith) f e
+
       at-next : (b k : ℕ) → b < c + 1 → firstOf t b ≤ k → k < endOf t b → Dec (b ≡ c) → getD next₁ k 0 ≡ next t (contourOf t k) k
       at-next b k l f e (yes q) =
           let f′ : firstOf t c ≤ k = rw q at f in let e′ : k < endOf t c = rw q at e in

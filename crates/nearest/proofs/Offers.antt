@@ -1,6 +1,6 @@
 -- An edge offered to the anchors that it spans is as good as offered to all: one that does not span an anchor leaves things as they are.
 use Prim.Native.Nat.{ℕ, zero, suc, _+_, _-_, _^_, _≤_, _<_}
-use mathlib.Core.Path.{_≡_, refl, sym, ap, _∙_}
+use mathlib.Core.Path.{_≡_, refl, ap, _∙_}
 use mathlib.Core.Bool.{Bool, true, false, _&&_, _||_}
 use mathlib.Core.List.{List}
 use native.Mathlib.Omega.{arith}
@@ -11,18 +11,18 @@ use lib.ListN.{length, getD, set, length-set}
 use lib.Dec.{eqb}
 use borrow.Author.Tests.{eq-eqb, ne-eqb}
 use lib.IntN.{ℤ, pos}
-use lib.Signed.{mag, ltZ, leZ, _<ℤ_, _≤ℤ_}
+use lib.Signed.{mag, leZ, _<ℤ_, _≤ℤ_}
 use mir.Syntax.{w32}
 use mir.Val.{toZ, ofZ}
-use Rattle.laws.specs.Test.{pick}
-use Rattle.laws.specs.Order.{lin, ≤-trans}
+use Rattle.laws.specs.Test.{pick-ind}
+use Rattle.laws.specs.Order.{≤-trans}
 use Rattle.turn.specs.declared.Point.{Point}
 use Rattle.turn.specs.Points.{Coord, OnGrid}
 use Rattle.table.specs.declared.Anchor.{Anchor}
 use Rattle.table.specs.Table.{pointAt}
 use Rattle.nearest.specs.declared.Edge.{Edge}
 use Rattle.nearest.specs.Edges.{spans, liesUnder, nearer}
-use Rattle.nearest.specs.Search.{edgeOf, kept, offered, keep, nearest}
+use Rattle.nearest.specs.Search.{kept, offered, keep, nearest}
 use Rattle.nearest.specs.Lists.{Lists, listedEdge, Anchors, anchorAt, giving, Placed, Parted, Numbers, Offered, Nearests}
 use Rattle.nearest.specs.Compare.{yes-lt, no-lt, yes-le, no-le, le-yes, le-no}
 use Rattle.nearest.proofs.Num.{coord32}
@@ -134,6 +134,7 @@ module _ (g : Lists) (h : Anchors) (m k : ℕ) (e : Edge) (from : ℕ) (hs : Pla
       where
         past : e .right .x ≤ℤ getD (h .x) j (pos 0)
         past = le-yes _ _ (rw (coord32 (e .right .x) (x .right), num (getD (h .x) j (pos 0)) f) at t)
+
         at : Dec (j ≤ i) → getD new i 0 ≡ offered (listedEdge g) (anchorAt h i) k (getD old i 0)
         at (no u) = o .done i (omega arith)
         at (yes u) =
@@ -158,23 +159,21 @@ module _ (g : Lists) (h : Anchors) (m k : ℕ) (e : Edge) (from : ℕ) (hs : Pla
       where
         begun : e .left .x ≤ℤ getD (h .x) j (pos 0)
         begun = rw (coord32 (e .left .x) (x .left)) at (part .above j (o .on) l)
+
         before : getD (h .x) j (pos 0) <ℤ e .right .x
         before = le-no _ _ (rw (coord32 (e .right .x) (x .right), num (getD (h .x) j (pos 0)) f) at t)
 
 -- ---- the loop of `nearest_edges`: every anchor has the nearest of the first k edges
-pick-le : (b : Bool) (m n x : ℕ) → m ≤ x → n ≤ x → pick b m n ≤ x
-pick-le true m n x p q = p
-pick-le false m n x p q = q
-
 -- an edge's number and 1, or 0
 pub nearest-le : (edge : ℕ → Edge) (gives : ℕ → Bool) (a : Anchor) (k : ℕ) → nearest edge gives a k ≤ k
 unfolding nearest keep offered kept
 nearest-le edge gives a zero = omega arith
 nearest-le edge gives a (suc k) =
     let r = nearest-le edge gives a k in
-    pick-le (gives (edge k .contour)) _ (nearest edge gives a k) (suc k)
-    (pick-le (spans (a .at .x) (edge k)) _ (nearest edge gives a k) (suc k)
-    (pick-le (liesUnder a (edge k) && (eqb (nearest edge gives a k) 0 || nearer a (edge k) (edge (nearest edge gives a k - 1)))) (k + 1) (nearest edge gives a k) (suc k) (omega arith) (omega arith)) (omega arith)) (omega arith)
+    pick-ind (gives (edge k .contour)) (offered edge a k (nearest edge gives a k)) (nearest edge gives a k) (λ (b : ℕ). b ≤ suc k)
+    (λ _. pick-ind (spans (a .at .x) (edge k)) (kept edge a k (nearest edge gives a k)) (nearest edge gives a k) (λ (b : ℕ). b ≤ suc k)
+    (λ _. pick-ind (liesUnder a (edge k) && (eqb (nearest edge gives a k) 0 || nearer a (edge k) (edge (nearest edge gives a k - 1)))) (k + 1) (nearest edge gives a k) (λ (b : ℕ). b ≤ suc k)
+    (λ _. omega arith) (λ _. omega arith)) (λ _. omega arith)) (λ _. omega arith)
 
 nearest-more : (edge : ℕ → Edge) (gives : ℕ → Bool) (a : Anchor) (k : ℕ) → keep edge gives a k (nearest edge gives a k) ≡ nearest edge gives a (k + 1)
 unfolding nearest

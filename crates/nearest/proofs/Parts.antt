@@ -25,6 +25,7 @@ bracket-start l m x = record { low-le = omega arith; high-le = omega arith; belo
   where
     none : (k : ℕ) → k < 0 → ⊥
     none k h = omega arith
+
     past : (k : ℕ) → m ≤ k → k < m → ⊥
     past k h j = omega arith
 

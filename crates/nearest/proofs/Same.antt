@@ -1,7 +1,7 @@
 -- The search looks at the first n edges alone, and the lists that the code has made give a sound table's edges there.
-use Prim.Native.Nat.{ℕ, zero, suc, _+_, _*_, _-_, _≤_, _<_}
-use mathlib.Core.Path.{_≡_, refl, sym, ap, _∙_}
-use mathlib.Core.Bool.{Bool, true, false}
+use Prim.Native.Nat.{ℕ, zero, suc, _+_, _-_, _≤_, _<_}
+use mathlib.Core.Path.{_≡_, refl, ap, _∙_}
+use mathlib.Core.Bool.{Bool}
 use mathlib.Core.List.{List}
 use native.Mathlib.Omega.{arith}
 use lib.ListN.{length, getD}
@@ -11,10 +11,9 @@ use Rattle.laws.specs.Test.{pick}
 use Rattle.turn.specs.Limits.{maxLinks}
 use Rattle.table.specs.declared.Anchor.{Anchor}
 use Rattle.table.specs.Table.{Table, pointCount, contourCount, firstOf, endOf, contourOf, next}
-use Rattle.table.specs.Passing.{Located, located, sound-follows, few-contours, next-within}
+use Rattle.table.specs.Passing.{located, sound-follows, few-contours, next-within}
 use Rattle.table.specs.Sound.{Sound}
 use Rattle.nearest.specs.declared.Edge.{Edge}
-use Rattle.nearest.specs.Edges.{spans, liesUnder, nearer}
 use Rattle.nearest.specs.Search.{kept, offered, keep, nearest, contourUnder, edge}
 use Rattle.nearest.specs.Lists.{Lists, lists, listedEdge, Anchors, anchorAt, giving, named, Fit, Flags, Numbers, Ranges, ranges, Round, Nearests}
 use Rattle.nearest.proofs.Offers.{nearest-le, contour-is}

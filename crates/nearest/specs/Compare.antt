@@ -1,13 +1,13 @@
 -- Comparisons that decide level by level (`lower`, `lowerN`), by the sign of a difference: a comparison that is strict, transitive and total at every level is so as a whole.
-use Prim.Native.Nat.{ℕ, zero, suc, _+_, _≤_, _<_}
+use Prim.Native.Nat.{ℕ, suc, _<_}
 use mathlib.Core.Path.{_≡_, refl, sym, ap, _∙_}
-use mathlib.Core.Bool.{Bool, true, false, not, _&&_, _||_}
-use mathlib.Core.List.{List, [], _∷_}
+use mathlib.Core.Bool.{Bool, true, false}
+use mathlib.Core.List.{[], _∷_}
 use mathlib.Core.Logic.{_⊎_, inl, inr}
 use native.Mathlib.Omega.{arith}
 use native.Mathlib.Nat.{le-refl}
 use native.Mathlib.Decide.{decLe}
-use lib.Dec.{T, ltb}
+use lib.Dec.{T}
 use borrow.Author.Tests.{lt-ltb, le-ltb}
 use lib.IntN.{ℤ, pos, negℤ, _-ℤ_}
 use lib.Signed.{ltZ, leZ, _<ℤ_, _≤ℤ_, ≤ℤ-refl, ltZ-no}
@@ -50,6 +50,7 @@ le-no x y e = go (tricho x y)
   where
     no : x ≤ℤ y → ⊥
     no l = true≢false (yes-le l) e
+
     go : (x <ℤ y) ⊎ ((x ≡ y) ⊎ (y <ℤ x)) → y <ℤ x
     go (inl l) = absurd (no (omega lin))
     go (inr (inl q)) = absurd (no (rw q (≤ℤ-refl y)))

@@ -1,6 +1,6 @@
 -- One edge and one anchor (document 01, "Binding"): when the edge spans the anchor, when it lies under, and which of two edges is nearer.
 use Prim.Native.Nat.{ℕ, _*_}
-use mathlib.Core.Bool.{Bool, true, false, not, _&&_, _||_}
+use mathlib.Core.Bool.{Bool, not, _&&_, _||_}
 use lib.Dec.{ltb}
 use lib.IntN.{ℤ, pos, _*ℤ_}
 use lib.Signed.{ltZ, leZ}

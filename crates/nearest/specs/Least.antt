@@ -1,21 +1,20 @@
 -- `nearer` is a strict order of the candidate edges up to their contour; and what `nearest` names counts, and no edge that counts is nearer.
-use Prim.Native.Nat.{ℕ, zero, suc, _+_, _-_, _≤_, _<_}
-use mathlib.Core.Path.{_≡_, refl, sym, ap, _∙_, subst}
-use mathlib.Core.Bool.{Bool, true, false, _&&_, _||_}
+use Prim.Native.Nat.{ℕ, zero, suc, _+_, _-_, _<_}
+use mathlib.Core.Path.{_≡_, refl, sym, _∙_, subst}
+use mathlib.Core.Bool.{Bool, true, false, _&&_}
 use native.Mathlib.Omega.{arith}
 use native.Mathlib.Nat.{le-refl}
 use native.Mathlib.Numerals.{add-one}
 use native.Mathlib.Decide.{decLe}
-use mathlib.Core.Logic.{_⊎_, inl, inr}
 use lib.Dec.{T, eqb, ltb, ltb→lt, lt→ltb}
-use borrow.Author.Tests.{ne-eqb, eq-eqb, le-ltb, ltb-false}
+use borrow.Author.Tests.{ne-eqb, le-ltb, ltb-false}
 use lib.IntN.{ℤ, pos, _*ℤ_}
 use lib.Signed.{ltZ, leZ, _<ℤ_, _≤ℤ_}
-use Rattle.laws.specs.Test.{pick, Is, is-true, true-is, true≢false, not-true, and-true, true-and}
+use Rattle.laws.specs.Test.{pick, is-true, true-is, true≢false, not-true, and-true}
 use Rattle.laws.specs.Order.{lin, sub-pos}
 use Rattle.table.specs.declared.Anchor.{Anchor}
 use Rattle.nearest.specs.declared.Edge.{Edge}
-use Rattle.nearest.specs.Edges.{along, run, rise, spans, height, lower, lowerN, liesUnder, winsTie, nearer}
+use Rattle.nearest.specs.Edges.{run, rise, spans, height, liesUnder, winsTie, nearer}
 use Rattle.nearest.specs.Search.{kept, offered, keep, nearest, contourUnder}
 use Rattle.nearest.specs.Compare.{lt-yes, le-yes, lower-trans, lowerN-trans, lower-same, lowerN-same, lower-neither, lowerN-neither}
 use Rattle.nearest.specs.Gaps.{rising, falling}
@@ -160,6 +159,7 @@ module _ (edge : ℕ → Edge) (gives : ℕ → Bool) (a : Anchor) where
         next b c false e r =
             let q : suc b - 1 ≡ b = omega arith in
             subst (Best edge gives a (suc n)) (pick-lost (gives (edge n .contour)) (spans (a .at .x) (edge n)) (liesUnder a (edge n)) _ (n + 1) (suc b) (rw (ne-eqb (suc b) 0 (λ z. omega arith), q) e)) (lost b e r)
+
         go : (c : Bool) → counts edge gives a n ≡ c → (b : ℕ) → Best edge gives a n b → Best edge gives a (suc n) (keep edge gives a n b)
         go false c b r = subst (Best edge gives a (suc n)) (pick-skip (gives (edge n .contour)) (spans (a .at .x) (edge n)) (liesUnder a (edge n)) _ (n + 1) b c) (skip c b r)
         go true c zero r = subst (Best edge gives a (suc n)) (sym (add-one n) ∙ pick-won (gives (edge n .contour)) (spans (a .at .x) (edge n)) (liesUnder a (edge n)) _ (n + 1) 0 c refl) (first c r)

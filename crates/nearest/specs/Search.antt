@@ -2,7 +2,6 @@
 use Prim.Native.Nat.{ℕ, zero, suc, _+_, _-_}
 use mathlib.Core.Bool.{Bool, not, _&&_, _||_}
 use lib.Dec.{eqb}
-use lib.IntN.{ℤ}
 use Rattle.laws.specs.Test.{pick}
 use Rattle.turn.specs.declared.Point.{Point}
 use Rattle.table.specs.Table.{Table, point, pointCount, kindOf, contourOf, next}

@@ -2,7 +2,6 @@
 use table::Anchor;
 use turn::Point;
 use turn::Vector;
-
 ghost use mathlib.Core.Path.{_≡_};
 ghost use Prim.Native.Nat.{ℕ, _<_, _≤_};
 ghost use lib.ListN.{length, getD};
@@ -43,10 +42,7 @@ fn lies_under(a: Anchor, e: Edge) -> bool
     if h < 0 {
         return false;
     }
-    0 < turn::cross_product(
-        turn::between(e.left, e.right),
-        turn::between(a.at, a.to),
-    )
+    0 < turn::cross_product(turn::between(e.left, e.right), turn::between(a.at, a.to))
 }
 
 // A height, or a rise, times a run: below 2^61.
@@ -133,7 +129,10 @@ pub fn anchor_at(x: &[i32], y: &[i32], to_x: &[i32], to_y: &[i32], j: usize) -> 
 {
     Anchor {
         at: Point { x: x[j], y: y[j] },
-        to: Point { x: to_x[j], y: to_y[j] },
+        to: Point {
+            x: to_x[j],
+            y: to_y[j],
+        },
     }
 }
 
@@ -179,11 +178,7 @@ fn kept(
         return k as u32 + 1;
     }
     let f = edge_at(points, next, of, kind, right, n, (b - 1) as usize);
-    if is_nearer(a, e, f) {
-        k as u32 + 1
-    } else {
-        b
-    }
+    if is_nearer(a, e, f) { k as u32 + 1 } else { b }
 }
 
 // Edge k is offered to every anchor that it spans. They stand together: the anchors are in order by x.
@@ -253,7 +248,19 @@ fn nearest_edges(
             continue;
         }
         offer(
-            points, next, of, kind, right, n, x, y, to_x, to_y, m, best, k,
+            points,
+            next,
+            of,
+            kind,
+            right,
+            n,
+            x,
+            y,
+            to_x,
+            to_y,
+            m,
+            best,
+            k,
         );
         k += 1;
     }
@@ -288,7 +295,11 @@ fn follows(k: usize, from: usize, to: usize) -> u32
     requires { ⌜ (from ≤ k) × (k < to) × (to ≤ maxLinks) ⌝ }
     ensures { λ r. ⌜ r ≡ nextIn from to k ⌝ }
 {
-    if k + 1 == to { from as u32 } else { k as u32 + 1 }
+    if k + 1 == to {
+        from as u32
+    } else {
+        k as u32 + 1
+    }
 }
 
 // The points from..to are contour c's.
@@ -341,12 +352,24 @@ pub fn contours_under(
 {
     let n = points.len() / 2;
     let right = (above & !clockwise) | (!above & clockwise);
-    let mut next = [0u32; 4096];
-    let mut of = [0u32; 4096];
-    let mut best = [0u32; 4096];
+    let mut next = [0u32; turn::MAX_LINKS];
+    let mut of = [0u32; turn::MAX_LINKS];
+    let mut best = [0u32; turn::MAX_LINKS];
     link(first, len, &mut next, &mut of);
     nearest_edges(
-        points, &next, &of, kind, right, n, mute, x, y, to_x, to_y, m, &mut best,
+        points,
+        &next,
+        &of,
+        kind,
+        right,
+        n,
+        mute,
+        x,
+        y,
+        to_x,
+        to_y,
+        m,
+        &mut best,
     );
     name_contours(&of, n, &best, m, under);
 }

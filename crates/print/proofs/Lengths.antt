@@ -1,8 +1,7 @@
 -- How long the texts are.
-use Prim.Native.Nat.{ℕ, zero, suc, _+_, _-_, _*_, _/_, _%_, _^_, _≤_, _<_}
-use mathlib.Core.Path.{_≡_, refl, sym, ap, _∙_, subst}
-use mathlib.Core.Bool.{Bool, true, false}
-use mathlib.Core.List.{List, [], _∷_, _++_}
+use Prim.Native.Nat.{ℕ, zero, suc, _+_, _-_, _*_, _^_, _≤_, _<_}
+use mathlib.Core.Path.{_≡_, refl}
+use mathlib.Core.List.{List, _++_}
 use native.Mathlib.Omega.{arith}
 use lib.Dec.{eqb}
 use lib.IntN.{ℤ, pos, negsuc, natAbs}
@@ -70,9 +69,11 @@ points-short : (points : List ℤ) → Grid points → (count p : ℕ) → 2 * (
 unfolding pointLines
 points-short points f zero p h = omega arith
 points-short points f (suc count) p h =
-    omega (arith,
-    both (pointLine (getD points (2 * p) (pos 0)) (getD points (2 * p + 1) (pos 0))) (pointLines points (p + 1) count) 16 (16 * count)
-    (point-short (getD points (2 * p) (pos 0)) (getD points (2 * p + 1) (pos 0)) (f (2 * p) (omega arith)) (f (2 * p + 1) (omega arith))) (points-short points f count (p + 1) (omega arith)))
+    omega (
+      arith,
+      both (pointLine (getD points (2 * p) (pos 0)) (getD points (2 * p + 1) (pos 0))) (pointLines points (p + 1) count) 16 (16 * count)
+          (point-short (getD points (2 * p) (pos 0)) (getD points (2 * p + 1) (pos 0)) (f (2 * p) (omega arith)) (f (2 * p + 1) (omega arith))) (points-short points f count (p + 1) (omega arith)),
+    )
 
 -- the points of so many contours from number i on
 unfoldable pointCount : List ℕ → ℕ → ℕ → ℕ
@@ -105,19 +106,23 @@ module _ (t : Table) (totals : Totals) (p : Printable t totals) where
   contours-short owners zero i h k = omega arith
   contours-short owners (suc n) i h k =
       let len = getD (t .len) i 0 in
-      omega (arith,
-      both (contourLines t i) (contoursFrom t (i + 1) n) (24 + 16 * len) (24 * n + 16 * pointCount (t .len) (i + 1) n)
-      (both (contourLine i (getD (t .kind) i 0) (getD (t .owner) i 0) len) (pointLines (t .points) (getD (t .first) i 0) len) 24 (16 * len)
-      (line-short i (getD (t .kind) i 0) (getD (t .owner) i 0) len (omega (arith, contours-few)) (omega (arith, owners i .fits)) (omega arith))
-      (points-short (t .points) (p .grid) len (getD (t .first) i 0) (p .ranges .points i (omega arith))))
-      (contours-short owners n (i + 1) (omega arith) (omega arith)))
+      omega (
+        arith,
+        both (contourLines t i) (contoursFrom t (i + 1) n) (24 + 16 * len) (24 * n + 16 * pointCount (t .len) (i + 1) n)
+            (both (contourLine i (getD (t .kind) i 0) (getD (t .owner) i 0) len) (pointLines (t .points) (getD (t .first) i 0) len) 24 (16 * len)
+            (line-short i (getD (t .kind) i 0) (getD (t .owner) i 0) len (omega (arith, contours-few)) (omega (arith, owners i .fits)) (omega arith))
+            (points-short (t .points) (p .grid) len (getD (t .first) i 0) (p .ranges .points i (omega arith))))
+            (contours-short owners n (i + 1) (omega arith) (omega arith)),
+      )
 
   -- an answer has room in `answerBytes`
   pub answer-short : ((j : ℕ) → Fits w16 (getD (t .owner) j 0)) → length (printed t totals) ≤ answerBytes
   answer-short owners =
       let few = contours-few in
       let points = count-few (totals .contours) refl in
-      omega (arith,
-      both (header totals) (contoursFrom t 0 (totals .contours)) 51 (24 * totals .contours + 16 * pointCount (t .len) 0 (totals .contours))
-      (header-short totals (omega arith) (omega (arith, p .shapes)) (omega (arith, p .few)) (omega (arith, p .dropped)))
-      (contours-short owners (totals .contours) 0 (omega arith) points))
+      omega (
+        arith,
+        both (header totals) (contoursFrom t 0 (totals .contours)) 51 (24 * totals .contours + 16 * pointCount (t .len) 0 (totals .contours))
+            (header-short totals (omega arith) (omega (arith, p .shapes)) (omega (arith, p .few)) (omega (arith, p .dropped)))
+            (contours-short owners (totals .contours) 0 (omega arith) points),
+      )

@@ -1,4 +1,5 @@
 -- Laws that the proofs cite.
+
 pub mod Copy
 pub mod Numbers
 pub mod Points

@@ -1,10 +1,9 @@
 -- E2's answer as document 01 prints it, and a line of each other sort.
-use Prim.Native.Nat.{ℕ}
 use mathlib.Core.Path.{_≡_, refl}
-use mathlib.Core.List.{List, [], _∷_, _++_}
-use lib.IntN.{ℤ, pos, negsuc}
+use mathlib.Core.List.{[], _∷_}
+use lib.IntN.{pos, negsuc}
 use Rattle.print.specs.Text.{text}
-use Rattle.print.specs.Decimal.{digits, decimal, decimalZ}
+use Rattle.print.specs.Decimal.{digits, decimal}
 use Rattle.print.specs.Answer.{table, header, contourLine, pointLine, pointLines, contoursFrom, printed, printedRefusal}
 
 square : printed

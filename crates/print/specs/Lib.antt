@@ -1,4 +1,5 @@
 -- The printed answer as bytes, leaves first.
+
 pub mod Text
 pub mod Decimal
 pub mod Answer

@@ -1,13 +1,12 @@
 -- What every writer promises: the buffer is the old one with these bytes from a position on, and the answer is the position after them. How writings join.
-use Prim.Native.Nat.{ℕ, zero, suc, _+_, _-_, _*_, _≤_, _<_}
+use Prim.Native.Nat.{ℕ, _+_, _-_, _≤_, _<_}
 use mathlib.Core.Path.{_≡_, refl, sym, ap, ap₂, _∙_}
 use mathlib.Core.List.{List, [], _∷_, _++_}
 use native.Mathlib.Nat.{add-assoc, add-zero}
-use native.Mathlib.Numerals.{add-one}
 use native.Mathlib.Omega.{arith}
-use lib.ListN.{length, set, take, length-append, length-set}
+use lib.ListN.{length, set, take, length-append}
 use lib.Seq.{length-take-le}
-use Rattle.format.specs.Put.{put, put-none, put-put, put-set, set-put, length-put}
+use Rattle.format.specs.Put.{put, put-none, put-put, set-put, length-put}
 
 pub record Wrote (old new : List ℕ) (at after : ℕ) (t : List ℕ) : Type 0 where
   pub next : after ≡ at + length t

@@ -1,33 +1,31 @@
--- What extraction leaves: after a walk that is refused, and after all walks. Assumes nothing.
-use Prim.Native.Nat.{ℕ, zero, suc, _+_, _*_, _-_, _/_, _≤_, _<_}
+-- What extraction leaves: after a walk that is refused, and after all walks.
+use Prim.Native.Nat.{ℕ, zero, suc, _*_, _-_, _≤_}
 use mathlib.Core.Path.{_≡_, refl, sym, ap, _∙_, subst}
-use mathlib.Core.Bool.{Bool, true, false}
-use mathlib.Core.List.{List, [], _∷_, map}
+use mathlib.Core.Bool.{Bool, true, true≢false}
+use mathlib.Core.List.{List, map}
 use native.Mathlib.Omega.{arith}
 use lib.ListN.{length, getD, replicate}
 use lib.IntN.{ℤ, pos}
 use Rattle.laws.specs.Lists.{mapFrom, map-same, map-const}
-use Rattle.graph.specs.Graph.{Graph, Lent, graphOf, linkCount, nodeCount}
+use Rattle.graph.specs.Graph.{Graph, Lent, graphOf, linkCount}
 use Rattle.graph.specs.declared.Checked.{Checked}
 use Rattle.graph.specs.declared.Checked.the-variants as check
 use Rattle.graph.specs.Checks.{room, checked}
 use Rattle.graph.specs.Fine.{FineGraph}
-use Rattle.next.specs.Next.{unvisited}
 use Rattle.next.specs.Fine.{links-known, nodes-known}
 use Rattle.walk.specs.declared.Counts.{Counts}
 use Rattle.walk.specs.declared.Extraction.{Extraction}
 use Rattle.walk.specs.declared.Extraction.the-variants.{Done, Refused}
 use Rattle.walk.specs.Walk.{Walk, Scanned, stopped, walks, scan}
-use Rattle.walk.specs.Outcome.{sum, lens}
-use Rattle.walk.specs.Visits.{Scan, scanned}
-use Rattle.walk.specs.Ledger.{Fits, Finished, finished}
-use Rattle.walk.specs.Extract.{Buffers, buffers, Extracted, extractedAs, zeroed, afterScan, afterChecks, extracted}
+use Rattle.walk.specs.Outcome.{lens}
+use Rattle.walk.specs.Visits.{scanned}
+use Rattle.walk.specs.Ledger.{Fits, finished}
+use Rattle.walk.specs.Extract.{Buffers, buffers, extractedAs, afterScan, afterChecks, extracted}
 use Rattle.walk.specs.Code.{Tables, tables, noCounts, allNoted, ScanLeaves, Shape, Roomy, Kept, unmark}
 use Rattle.walk.proofs.Scans.{unvisited-some}
 
 -- ---- what the checks give the walks
 module _ (g : Lent) (top st : List ℕ) (points firsts lens kinds : ℕ) (f : FineGraph g top st (room points firsts lens kinds)) where
-
   long : linkCount g ≡ length st
   long = sym (f .band .state-long)
 
@@ -63,9 +61,6 @@ module _ (g : Lent) (top st : List ℕ) (points firsts lens kinds : ℕ) (f : Fi
           large : suc (suc x) ≤ 1 → ⊥
           large h = omega arith
 
-zero-one : _≡_ {A = ℕ} 0 1 → ⊥
-zero-one x = omega arith
-
 zeros : {A : Type 0} (z : A) (l l′ l″ : List A) → length l′ ≡ length l → l″ ≡ mapFrom (λ _. z) 0 l′ → l″ ≡ replicate (length l) z
 zeros z l l′ l″ e q = q ∙ map-const z l′ ∙ ap (λ k. replicate k z) e
 
@@ -75,7 +70,7 @@ module _ (g : Graph) (minimum : ℕ) (b : Buffers) (t : Tables) (number place : 
   refused-at (stopped m p) h e =
       let q : Refused m p ≡ Refused number place = sym h ∙ e in
       let x : m ≡ number = cc in let y : p ≡ place = cc in λ i. stopped (x i) (y i)
-  refused-at (walks ws st) h e = let x : _≡_ {A = ℕ} 0 1 = cc in absurd (zero-one x)
+  refused-at (walks ws st) h e = absurd (true≢false (cc))
 
   pub refused : (o : Scanned) → ScanLeaves g minimum t o r st′ pts′ first′ len′ kind′ → r ≡ Refused number place
       → map unmark (b .state) ≡ b .state → Kept (b .state) st′ → length pts′ ≡ length (b .points) → length first′ ≡ length (b .first) → length len′ ≡ length (b .len) → length kind′ ≡ length (b .kind)
@@ -112,7 +107,7 @@ module _ (g : Graph) (cw : Bool) (minimum : ℕ) (b : Buffers) (room : Roomy (le
       → (pts″ : List ℤ) (first″ len″ kind″ : List ℕ) → pts″ ≡ mapFrom (λ _. pos 0) (c .points * 2) pts′
       → first″ ≡ mapFrom (λ _. 0) (c .contours) first′ → len″ ≡ mapFrom (λ _. 0) (c .contours) len′ → kind″ ≡ mapFrom (λ _. 0) (c .contours) kind′
       → extractedAs (Done c) (buffers st′ pts″ first″ len″ kind″) ≡ afterScan g minimum b o
-  finish (stopped number place) e h q pts″ first″ len″ kind″ qp qf ql qk = let x : _≡_ {A = ℕ} 0 1 = cc in absurd (zero-one x)
+  finish (stopped number place) e h q pts″ first″ len″ kind″ qp qf ql qk = absurd (true≢false (cc))
   finish (walks ws after) e h q pts″ first″ len″ kind″ qp qf ql qk =
       let f = finished g minimum ws (b .points) (b .first) (b .len) (b .kind) (fits ws after e) in
       let z : Done c ≡ Done (allNoted g minimum t₀ ws .counts) = sym q ∙ h .0 in

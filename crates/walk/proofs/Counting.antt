@@ -1,6 +1,6 @@
--- The counts of the scan: sums that fit, a walk entered in the table or counted as rejected, and what the counts stay within. Assumes nothing.
-use Prim.Native.Nat.{ℕ, zero, suc, _+_, _*_, _-_, _≤_, _<_}
-use mathlib.Core.Path.{_≡_, refl, sym, ap, _∙_, subst}
+-- The counts of the scan: sums that fit, a walk entered in the table or counted as rejected, and what the counts stay within.
+use Prim.Native.Nat.{ℕ, _+_, _*_, _-_, _≤_, _<_}
+use mathlib.Core.Path.{_≡_, sym, subst}
 use mathlib.Core.Bool.{Bool, true, false}
 use mathlib.Core.List.{List, []}
 use native.Mathlib.Omega.{arith}
@@ -13,7 +13,7 @@ use Rattle.turn.specs.Limits.{maxLinks}
 use Rattle.turn.specs.Area.{wedgeBound}
 use Rattle.turn.specs.Size.{isKept}
 use Rattle.walk.specs.declared.Counts.{Counts}
-use Rattle.walk.specs.Code.{Tables, tables, enter, enterKept, enterLost, Within}
+use Rattle.walk.specs.Code.{Tables, tables, enter, enterKept, enterLost}
 
 -- an area of so many points, and a sum of two
 pub area-fits : (x : ℤ) (n : ℕ) → natAbs x ≤ n * (2 * wedgeBound) → n ≤ maxLinks → natAbs x < 9223372036854775808

@@ -1,16 +1,15 @@
--- A walk of the scan, as the code notes it: what the walk left, its points on the grid, the counts after it. Assumes nothing.
+-- A walk of the scan, as the code notes it: what the walk left, its points on the grid, the counts after it.
 use Prim.Native.Nat.{ℕ, zero, suc, _+_, _*_, _-_, _≤_, _<_}
 use mathlib.Core.Path.{_≡_, refl, sym, ap, _∙_, subst}
-use mathlib.Core.Logic.{_⊎_, inl, inr, ⊎-elim}
-use mathlib.Core.Bool.{Bool, true, false, not, Bool·beq}
+use mathlib.Core.Logic.{_⊎_, ⊎-elim}
+use mathlib.Core.Bool.{Bool, true, false, not, true≢false}
 use mathlib.Core.List.{List, [], _∷_, map, List·Memᴰ, List·Memᴰ·cases-cons, List·Memᴰ·not-nil}
 use native.Mathlib.Omega.{arith}
 use native.Mathlib.Decide.{decLe}
-use lib.ListN.{length, getD, take, drop, length-map, List·getD-eq-default}
+use lib.ListN.{length, take, drop, length-map, List·getD-eq-default}
 use lib.IntN.{ℤ, pos, natAbs}
 use Rattle.laws.specs.Test.{pick, pick-ind}
 use Rattle.turn.specs.declared.Point.{Point}
-use Rattle.turn.specs.Limits.{maxLinks}
 use Rattle.turn.specs.Points.{OnGrid, Grid, Coord}
 use Rattle.turn.specs.Area.{area, pointsOf, wedgeBound}
 use Rattle.turn.specs.Areas.{area-bound}
@@ -25,9 +24,9 @@ use Rattle.walk.specs.declared.Ended.the-variants as ended
 use Rattle.walk.specs.declared.Noted.{Noted}
 use Rattle.walk.specs.declared.Noted.the-variants as noting
 use Rattle.walk.specs.Walk.{Step, Walk, Walked, stuck, done, markOf, senseOf, walkFrom, walkOf}
-use Rattle.walk.specs.Outcome.{left, points, areaOf, coordinates}
+use Rattle.walk.specs.Outcome.{left, points, coordinates}
 use Rattle.walk.specs.Ledger.{paste-part, points-back, kept-three}
-use Rattle.walk.specs.Code.{paste, plain, Shape, Marks, WalkLeaves, Counted, Tables, tables, enter, enterKept, enterLost, withPoints, noted, WalkNoted, FirstNoted, Within, Roomy, Fewer}
+use Rattle.walk.specs.Code.{paste, plain, Shape, Marks, WalkLeaves, Tables, tables, enter, enterKept, enterLost, withPoints, noted, WalkNoted, FirstNoted, Within, Fewer}
 use Rattle.walk.proofs.Steps.{from-tops}
 use Rattle.walk.proofs.Counting.{sum-within}
 
@@ -42,19 +41,16 @@ pub record Finish (g : Graph) (pts : List ℤ) (at : ℕ) (o : Walked) (to : ℕ
   pub end : to ≡ at + length steps
   pub written : pts′ ≡ paste pts at (map (left g) steps)
 
-zero-one : _≡_ {A = ℕ} 0 1 → ⊥
-zero-one x = omega arith
-
 module _ (g : Graph) (pts : List ℤ) (at : ℕ) (r : Ended) (st′ : List ℕ) (pts′ : List ℤ) where
   pub finish : (o : Walked) (to : ℕ) → WalkLeaves g pts at o r st′ pts′ → r ≡ ended.Done to → Finish g pts at o to st′ pts′
-  finish (stuck number) to h e = let x : _≡_ {A = ℕ} 0 1 = cc in absurd (zero-one x)
+  finish (stuck number) to h e = absurd (true≢false (cc))
   finish (done l st) to h e =
       let q : ended.Done to ≡ ended.Done (at + length l) = sym e ∙ h .0 in
       record { steps = l; is = ap (done l) (sym (h .1)); end = cc; written = h .2 }
 
   pub stuck-at : (o : Walked) (number : ℕ) → WalkLeaves g pts at o r st′ pts′ → r ≡ ended.Stuck number → o ≡ stuck number
   stuck-at (stuck k) number h e = let q : ended.Stuck k ≡ ended.Stuck number = sym h ∙ e in let z : k ≡ number = cc in ap stuck z
-  stuck-at (done l st) number h e = let q : ended.Done (at + length l) ≡ ended.Stuck number = sym (h .0) ∙ e in let x : _≡_ {A = ℕ} 0 1 = cc in absurd (zero-one x)
+  stuck-at (done l st) number h e = let q : ended.Done (at + length l) ≡ ended.Stuck number = sym (h .0) ∙ e in absurd (true≢false (cc))
 
 -- ---- the points of a walk are on the grid
 coord-zero : Coord (pos 0)
@@ -176,17 +172,23 @@ module _ (g : Lent) (n : ℕ) (s : Shape g n) (minimum : ℕ) (hole : Bool) (t :
 
     pub walk-noted : WalkNoted (plain g) minimum t hole o (noting.Entered r) st′ pts′ first len kind
     walk-noted =
-        subst (λ x. WalkNoted (plain g) minimum t hole x (noting.Entered r) st′ pts′ first len kind) (sym (f .is))
-        (ap (λ (x : Tables). noting.Entered (x .counts)) entered-is, refl, ap (λ (x : Tables). x .points) entered-is, ap (λ (x : Tables). x .first) entered-is,
-        ap (λ (x : Tables). x .len) entered-is, ap (λ (x : Tables). x .kind) entered-is)
+        subst (λ x. WalkNoted (plain g) minimum t hole x (noting.Entered r) st′ pts′ first len kind) (sym (f .is)) (
+          ap (λ (x : Tables). noting.Entered (x .counts)) entered-is,
+          refl,
+          ap (λ (x : Tables). x .points) entered-is,
+          ap (λ (x : Tables). x .first) entered-is,
+          ap (λ (x : Tables). x .len) entered-is,
+          ap (λ (x : Tables). x .kind) entered-is,
+        )
 
     pub walk-fewer : (m : ℕ) → Within m (unvisited st) (t .counts) → (at + 1 ≤ to) × (to + unvisited st′ ≡ at + unvisited st) → Fewer m st st′ (noting.Entered r)
     walk-fewer m i c =
         let u : unvisited st ≡ (to - at) + unvisited st′ = omega (arith, c .0, c .1) in
-        let q : r ≡ enter minimum hole (to - at) (area (pointsOf part)) (tables pts′ (t .first) (t .len) (t .kind) (t .counts)) .counts = ap (λ (x : Tables). x .counts) e in
-        (omega (arith, c .0, c .1),
-        subst (Within m (unvisited st′)) (sym q)
-        (within-enter minimum hole m (to - at) (unvisited st′) (area (pointsOf part)) (tables pts′ (t .first) (t .len) (t .kind) (t .counts)) (subst (λ k. Within m k (t .counts)) u i) (omega (arith, c .0)) area-within))
+        let q : r ≡ enter minimum hole (to - at) (area (pointsOf part)) (tables pts′ (t .first) (t .len) (t .kind) (t .counts)) .counts = ap (λ (x : Tables). x .counts) e in (
+          omega (arith, c .0, c .1),
+          subst (Within m (unvisited st′)) (sym q)
+              (within-enter minimum hole m (to - at) (unvisited st′) (area (pointsOf part)) (tables pts′ (t .first) (t .len) (t .kind) (t .counts)) (subst (λ k. Within m k (t .counts)) u i) (omega (arith, c .0)) area-within),
+        )
 
 pub stuck-noted : (g : Graph) (minimum : ℕ) (t : Tables) (hole : Bool) (o : Walked) (number : ℕ) (r : Noted) (st′ : List ℕ) (pts′ : List ℤ) (first len kind : List ℕ)
     → o ≡ stuck number → r ≡ noting.Stuck number → WalkNoted g minimum t hole o r st′ pts′ first len kind

@@ -1,17 +1,16 @@
--- The scan's loop: what it keeps, and one law for each way out of a turn. Assumes nothing.
-use Prim.Native.Nat.{ℕ, zero, suc, _+_, _*_, _-_, _≤_, _<_}
-use mathlib.Core.Path.{_≡_, refl, sym, ap, _∙_, subst}
-use mathlib.Core.Bool.{Bool, true, false, not}
+-- The scan's loop: what it keeps, and one law for each way out of a turn.
+use Prim.Native.Nat.{ℕ, suc, _+_, _-_, _≤_, _<_}
+use mathlib.Core.Path.{_≡_, refl, ap, _∙_, subst}
+use mathlib.Core.Bool.{Bool, true, false, true≢false}
 use mathlib.Core.List.{List, [], _∷_}
 use native.Mathlib.Omega.{arith}
-use native.Mathlib.Decide.{ℕ-discrete}
-use lib.ListN.{length, getD}
+use lib.ListN.{length}
 use lib.IntN.{ℤ}
-use lib.Dec.{eqb, ltb}
-use borrow.Author.Tests.{eq-eqb, ne-eqb, lt-ltb, le-ltb}
+use lib.Dec.{eqb}
+use borrow.Author.Tests.{lt-ltb, le-ltb}
 use borrow.Author.Count.{below-more}
-use Rattle.laws.specs.Test.{pick, pick-true, pick-false}
-use Rattle.laws.specs.Lowest.{lowest, None, none, found}
+use Rattle.laws.specs.Test.{pick}
+use Rattle.laws.specs.Lowest.{None, none, found}
 use Rattle.graph.specs.Graph.{Graph}
 use Rattle.next.specs.declared.Next.{Next}
 use Rattle.next.specs.declared.Next.the-variants.{Link, Nothing}
@@ -21,7 +20,7 @@ use Rattle.walk.specs.declared.Noted.{Noted}
 use Rattle.walk.specs.declared.Noted.the-variants as noting
 use Rattle.walk.specs.declared.Extraction.{Extraction}
 use Rattle.walk.specs.declared.Extraction.the-variants.{Done, Refused}
-use Rattle.walk.specs.Walk.{Step, Walk, Walked, stuck, done, walkOf, Scanned, stopped, walks, consWalk, afterWalk, scanAt, lowestOpen, scanOn}
+use Rattle.walk.specs.Walk.{Walk, Walked, stuck, done, walkOf, Scanned, stopped, walks, consWalk, afterWalk, scanAt, lowestOpen, scanOn}
 use Rattle.walk.specs.Enough.{scan-enough}
 use Rattle.walk.specs.Code.{Tables, tables, noted, WalkNoted, FirstNoted, Fewer, ScanLeaves, Within, Kept, noCounts}
 use Rattle.walk.proofs.Steps.{kept-none, kept-then}
@@ -43,15 +42,12 @@ module _ (g : Graph) (cw : Bool) (st : List ℕ) where
       let e : lowestOpen st ≡ length st = none (isOpen st) (length st) h in
       rw (e, le-ltb (length st) (length st) (omega arith))
 
-zero-one : _≡_ {A = ℕ} 0 1 → ⊥
-zero-one x = omega arith
-
 -- ---- one walk, then the others
 module _ (g : Graph) (cw : Bool) (minimum : ℕ) (t : Tables) (st : List ℕ) (k : ℕ) (go : List ℕ → Scanned) (st′ : List ℕ) (pts′ : List ℤ) (first′ len′ kind′ : List ℕ) where
   module _ (number : ℕ) (r : Extraction) (s : List ℕ) (p : List ℤ) (a b c : List ℕ) (q : r ≡ Refused number k) where
     stuck-after : (hole : Bool) (o : Walked) → WalkNoted g minimum t hole o (noting.Stuck number) st′ pts′ first′ len′ kind′ → ScanLeaves g minimum t (afterWalk k hole go o) r s p a b c
     stuck-after hole (stuck m) h = let e : number ≡ m = cc in q ∙ ap (λ x. Refused x k) e
-    stuck-after hole (done l u) h = let x : _≡_ {A = ℕ} 0 1 = cc in absurd (zero-one x)
+    stuck-after hole (done l u) h = absurd (true≢false (cc))
 
     pub scan-stuck : (n : Next) → FirstNoted g cw minimum t st n (noting.Stuck number) st′ pts′ first′ len′ kind′ → ScanLeaves g minimum t (scanAt g cw go st k n) r s p a b c
     scan-stuck Nothing h = let e : number ≡ 8 = cc in q ∙ ap (λ x. Refused x k) e
@@ -64,7 +60,7 @@ module _ (g : Graph) (cw : Bool) (minimum : ℕ) (t : Tables) (st : List ℕ) (k
 
     entered-after : (hole : Bool) (o : Walked) → WalkNoted g minimum t hole o (noting.Entered d) st′ pts′ first′ len′ kind′
         → ScanLeaves g minimum (tables pts′ first′ len′ kind′ d) (go st′) r s p a b c → ScanLeaves g minimum t (afterWalk k hole go o) r s p a b c
-    entered-after hole (stuck m) h i = let x : _≡_ {A = ℕ} 0 1 = cc in absurd (zero-one x)
+    entered-after hole (stuck m) h i = absurd (true≢false (cc))
     entered-after hole (done l u) h i =
         let w : Walk = record { hole = hole; steps = l } in
         let z : noting.Entered d ≡ noting.Entered (noted g minimum t w .counts) = h .0 in
@@ -74,7 +70,7 @@ module _ (g : Graph) (cw : Bool) (minimum : ℕ) (t : Tables) (st : List ℕ) (k
 
     pub scan-entered : (n : Next) → FirstNoted g cw minimum t st n (noting.Entered d) st′ pts′ first′ len′ kind′
         → ScanLeaves g minimum (tables pts′ first′ len′ kind′ d) (go st′) r s p a b c → ScanLeaves g minimum t (scanAt g cw go st k n) r s p a b c
-    scan-entered Nothing h i = let x : _≡_ {A = ℕ} 0 1 = cc in absurd (zero-one x)
+    scan-entered Nothing h i = absurd (true≢false (cc))
     scan-entered (Link f) h i = entered-after (g .top f) (walkOf g cw st f) h i
 
 -- ---- what the loop keeps: what the scan leaves from here it leaves from the loop's start; no link below k is unvisited

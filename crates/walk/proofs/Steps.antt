@@ -1,8 +1,8 @@
--- One step and one walk, as the code goes them: a mark, a point, and what is left of the definition's walk. Assumes nothing.
-use Prim.Native.Nat.{ℕ, zero, suc, _+_, _*_, _≤_, _<_}
-use mathlib.Core.Path.{_≡_, refl, sym, ap, _∙_, subst}
-use mathlib.Core.Bool.{Bool, true, false, not}
-use mathlib.Core.List.{List, [], _∷_, map}
+-- One step and one walk, as the code goes them: a mark, a point, and what is left of the definition's walk.
+use Prim.Native.Nat.{ℕ, zero, suc, _+_, _≤_, _<_}
+use mathlib.Core.Path.{_≡_, refl, sym, ap, _∙_}
+use mathlib.Core.Bool.{Bool, true, false, not, true≢false}
+use mathlib.Core.List.{List, []}
 use native.Mathlib.Omega.{arith}
 use native.Mathlib.Decide.{ℕ-discrete}
 use lib.ListN.{length, getD, set, length-set}
@@ -16,7 +16,6 @@ use Rattle.graph.specs.Graph.{Graph, Lent, graphOf}
 use Rattle.next.specs.declared.Next.{Next}
 use Rattle.next.specs.declared.Next.the-variants.{Link, Nothing}
 use Rattle.next.specs.Next.{isOpen, unvisited, other, Node, bridge, crossing, nodeOf, nextAt, nextLink}
-use Rattle.next.specs.Known.{Unvisited}
 use Rattle.walk.specs.declared.Walker.{Walker}
 use Rattle.walk.specs.declared.Stepped.{Stepped}
 use Rattle.walk.specs.declared.Stepped.the-variants.{Went, Nowhere}
@@ -25,7 +24,7 @@ use Rattle.walk.specs.declared.Ended.the-variants as ended
 use Rattle.walk.specs.Walk.{Step, Walked, stuck, done, consStep, onNext, stepFrom, walkOn, walkFrom}
 use Rattle.walk.specs.Outcome.{left}
 use Rattle.walk.specs.States.{Mark, set-same, set-other, unvisited-set}
-use Rattle.walk.specs.Code.{put, paste, unmark, Kept, Shape, Marks, plain, stepOut, stepBy, stepOf, StepOut, Goes, WalkLeaves, Counted}
+use Rattle.walk.specs.Code.{put, unmark, Kept, Shape, Marks, plain, stepOut, stepBy, stepOf, StepOut, Goes, WalkLeaves, Counted}
 
 -- ---- a mark on an unvisited link
 pub is-mark : (m : ℕ) → Marks m → Mark m
@@ -69,16 +68,12 @@ module _ (g : Lent) (sense : Bool) (mark : ℕ) (st : List ℕ) (pts : List ℤ)
   pub step-nowhere : Nothing ≡ nextLink (plain g) sense st (w .node) (w .link) → stepOut Nowhere st pts ≡ stepOf (plain g) sense mark st pts w
   step-nowhere e = rw (← e)
 
-pick-both : (P : ℕ → Type 0) (b : Bool) (x y : ℕ) → P x → P y → P (pick b x y)
-pick-both P true x y p q = p
-pick-both P false x y p q = q
-
 pub end-there : (g : Lent) (n k : ℕ) (b : Bool) → Shape g n → k < n → (pick b (getD (g .aId) k 0) (getD (g .bId) k 0) + 1 < length (g .start)) × (pick b (getD (g .bId) k 0) (getD (g .aId) k 0) + 1 < length (g .start))
 end-there g n k true s h = (s .nodes .a-node k h, s .b-node k h)
 end-there g n k false s h = (s .b-node k h, s .nodes .a-node k h)
 
 pub other-there : (g : Lent) (n v k : ℕ) → Shape g n → k < n → other (plain g) v k + 1 < length (g .start)
-other-there g n v k s h = pick-both (λ u. u + 1 < length (g .start)) (eqb (getD (g .aId) k 0) v) _ _ (s .b-node k h) (s .nodes .a-node k h)
+other-there g n v k s h = pick-ind (eqb (getD (g .aId) k 0) v) _ _ (λ u. u + 1 < length (g .start)) (λ _. s .b-node k h) (λ _. s .nodes .a-node k h)
 
 -- ---- a walk: one step before it, and its three ends
 module _ (g : Graph) (pts : List ℤ) (at : ℕ) (r : Ended) (st′ : List ℕ) (pts′ : List ℤ) where
@@ -114,10 +109,7 @@ module _ (g : Graph) (sense : Bool) (home last mark : ℕ) (st : List ℕ) (pts 
     module _ (away : w .link ≡ last → ⊥) (st′ : List ℕ) (pts′ : List ℤ) where
       by-nowhere : (go : ℕ → Walked) (n : Next) → stepOut Nowhere st′ pts′ ≡ stepBy g mark st pts w n → r ≡ ended.Stuck 8 → WalkLeaves g pts (w .written) (onNext go n) r s p
       by-nowhere go Nothing e q = q
-      by-nowhere go (Link f) e q = let z : Nowhere ≡ _ = ap (λ (o : StepOut). o .result) e in let x : _≡_ {A = ℕ} 0 1 = cc in absurd (zero-one x)
-        where
-          zero-one : _≡_ {A = ℕ} 0 1 → ⊥
-          zero-one x = omega arith
+      by-nowhere go (Link f) e q = let z : Nowhere ≡ _ = ap (λ (o : StepOut). o .result) e in absurd (true≢false (cc))
 
       pub ends-nowhere : stepOut Nowhere st′ pts′ ≡ stepOf g sense mark st pts w → r ≡ ended.Stuck 8 → WalkLeaves g pts (w .written) (Rest st w) r s p
       ends-nowhere e q =
@@ -127,10 +119,7 @@ module _ (g : Graph) (sense : Bool) (home last mark : ℕ) (st : List ℕ) (pts 
       by-went : (fuel : ℕ) (v : Walker) (n : Next) → stepOut (Went v) st′ pts′ ≡ stepBy g mark st pts w n
           → WalkLeaves g pts′ (v .written) (walkOn fuel g sense home last mark (v .node) (v .link) st′) r s p
           → WalkLeaves g pts (w .written) (onNext (λ f. consStep (stepFrom g (w .node) f) (walkOn fuel g sense home last mark (other g (w .node) f) f (set st f mark))) n) r s p
-      by-went fuel v Nothing e h = let z : Went v ≡ _ = ap (λ (o : StepOut). o .result) e in let x : _≡_ {A = ℕ} 0 1 = cc in absurd (zero-one x)
-        where
-          zero-one : _≡_ {A = ℕ} 0 1 → ⊥
-          zero-one x = omega arith
+      by-went fuel v Nothing e h = let z : Went v ≡ _ = ap (λ (o : StepOut). o .result) e in absurd (true≢false (cc))
       by-went fuel v (Link f) e h =
           let z : Went v ≡ Went (record { link = f; node = other g (w .node) f; written = w .written + 1 }) = ap (λ (o : StepOut). o .result) e in
           let x : v ≡ record { link = f; node = other g (w .node) f; written = w .written + 1 } = cc in
@@ -224,4 +213,4 @@ module _ (g : Lent) (t u : List ℕ) where
       let ahead : ℕ = pick forward (getD (g .bId) s 0) (getD (g .aId) s 0) in
       ap (onNext (λ last. consStep (record { link = s; forward = forward }) (walkOn (suc (unvisited (set st s mark))) (graphOf g t) sense home last mark ahead s (set st s mark)))) (next-tops (not sense) (set st s mark) home s)
       ∙ on-same _ _ (λ last. ap (consStep (record { link = s; forward = forward })) (on-tops (suc (unvisited (set st s mark))) sense home last mark ahead s (set st s mark)))
-        (nextLink (graphOf g u) (not sense) (set st s mark) home s)
+      (nextLink (graphOf g u) (not sense) (set st s mark) home s)

@@ -8,7 +8,6 @@ use Rattle.graph.specs.Graph.{Graph, Lent, graphOf}
 use Rattle.graph.specs.declared.Checked.{Checked}
 use Rattle.graph.specs.declared.Checked.the-variants as check
 use Rattle.graph.specs.Checks.{checked, room}
-use Rattle.walk.specs.declared.Counts.{Counts}
 use Rattle.walk.specs.declared.Extraction.{Extraction}
 use Rattle.walk.specs.declared.Extraction.the-variants.{Done, Refused}
 use Rattle.walk.specs.Walk.{Walk, Scanned, stopped, walks, scan}

@@ -1,26 +1,25 @@
 -- The running tables that the code keeps come to what is read off the walks: points, contour table and counts of the kept walks, and zeros past them.
-use Prim.Native.Nat.{ℕ, zero, suc, _+_, _*_, _-_, _≤_, _<_}
+use Prim.Native.Nat.{ℕ, suc, _+_, _*_, _-_, _≤_, _<_}
 use native.Mathlib.Omega.{arith}
 use native.Mathlib.Numerals.{add-one}
 use mathlib.Core.Path.{_≡_, refl, sym, ap, ap₂, _∙_, subst}
 use mathlib.Core.Bool.{Bool, true, false}
 use mathlib.Core.List.{List, [], _∷_, _++_, map, append-nil, append-assoc}
 use lib.ListN.{length, set, take, drop, replicate, length-set, length-append, length-drop, length-map}
-use lib.Seq.{sets, sets-eq, length-sets, take-set-le, take-suc-set, take-at, drop-at, length-take-le, take-append-le, take-take}
+use lib.Seq.{sets, sets-eq, length-sets, take-set-le, take-suc-set, take-at, drop-at, length-take-le}
 use lib.IntN.{ℤ, pos, _+ℤ_, +ℤ-idl, +ℤ-idr, +ℤ-assoc}
 use borrow.Author.Tests.{leb-true}
-use lib.Dec.{leb, eqb}
+use lib.Dec.{leb}
 use Rattle.laws.specs.Test.{pick, and-true}
 use Rattle.laws.specs.Lists.{mapFrom, map-const}
 use Rattle.turn.specs.declared.Point.{Point}
 use Rattle.turn.specs.Area.{pointsOf}
-use Rattle.turn.specs.Size.{isKept, half}
+use Rattle.turn.specs.Size.{isKept}
 use Rattle.graph.specs.Graph.{Graph}
-use Rattle.walk.specs.declared.Counts.{Counts}
-use Rattle.walk.specs.Walk.{Step, Walk}
-use Rattle.walk.specs.Outcome.{points, areaOf, keeps, kept, rejected, lens, firsts, kinds, allPoints, coordinates, sum, total, areas, countsOf, left}
+use Rattle.walk.specs.Walk.{Walk}
+use Rattle.walk.specs.Outcome.{points, areaOf, kept, rejected, lens, firsts, kinds, allPoints, coordinates, sum, total, areas, countsOf, left}
 use Rattle.walk.specs.Extract.{filled}
-use Rattle.walk.specs.Code.{put, paste, Tables, tables, enter, enterKept, enterLost, withPoints, noted, allNoted, noCounts}
+use Rattle.walk.specs.Code.{put, paste, Tables, tables, enterKept, enterLost, withPoints, allNoted, noCounts}
 
 -- ---- points that are pasted
 pub coordinates-length : (l : List Point) → length (coordinates l) ≡ length l * 2
@@ -150,8 +149,8 @@ module _ (g : Graph) (minimum : ℕ) (t : Tables) (w : Walk) (ks rs ws : List Wa
       let i : t .counts .contours < length (t .first) = omega (arith, three, f .threes, f .first-fit) in
       let room : (t .counts .points + length (points g w)) * 2 ≤ length (t .points) = omega (arith, n, f .points-fit) in
       let p : take ((t .counts .points + size) * 2) (paste (t .points) (t .counts .points) (points g w)) ≡ take (t .counts .points * 2) (t .points) ++ coordinates (points g w) =
-          subst (λ k. take ((t .counts .points + k) * 2) (paste (t .points) (t .counts .points) (points g w)) ≡ take (t .counts .points * 2) (t .points) ++ coordinates (points g w)) n
-          (paste-take (t .points) (t .counts .points) (points g w) room) in
+      subst (λ k. take ((t .counts .points + k) * 2) (paste (t .points) (t .counts .points) (points g w)) ≡ take (t .counts .points * 2) (t .points) ++ coordinates (points g w)) n
+      (paste-take (t .points) (t .counts .points) (points g w) room) in
       record {
         contours = omega (arith, h .contours);
         count = omega (arith, h .count);
@@ -212,8 +211,8 @@ by-size : (g : Graph) (minimum : ℕ) (t : Tables) (w : Walk) (ws : List Walk)
     → ((t′ : Tables) → Fits t′ ws → Entered g t′ (kept g minimum ws) (rejected g minimum ws) ws (allNoted g minimum t′ ws))
     → Fits t (w ∷ ws) → (b : Bool) → isKept (length (w .steps)) (areaOf g w) minimum ≡ b
     → Entered g t (pick b (w ∷ kept g minimum ws) (kept g minimum ws)) (pick b (rejected g minimum ws) (w ∷ rejected g minimum ws)) (w ∷ ws)
-      (allNoted g minimum (pick b (enterKept (w .hole) (length (w .steps)) (areaOf g w) (withPoints t (paste (t .points) (t .counts .points) (points g w))))
-      (enterLost (length (w .steps)) (areaOf g w) (withPoints t (paste (t .points) (t .counts .points) (points g w))))) ws)
+    (allNoted g minimum (pick b (enterKept (w .hole) (length (w .steps)) (areaOf g w) (withPoints t (paste (t .points) (t .counts .points) (points g w))))
+    (enterLost (length (w .steps)) (areaOf g w) (withPoints t (paste (t .points) (t .counts .points) (points g w))))) ws)
 by-size g minimum t w ws h f true e = kept-entered g minimum t w _ _ ws _ e f (h _ (kept-fits g minimum t w [] [] ws e f))
 by-size g minimum t w ws h f false e = lost-entered g minimum t w _ _ ws _ (h _ (lost-fits g minimum t w [] [] ws f))
 

@@ -8,4 +8,5 @@ pub mod Visits
 pub mod Enough
 pub mod Code
 pub mod Ledger
+pub mod Theorems
 pub mod Examples

@@ -1,5 +1,5 @@
 -- Of any graph: what a rule names is unvisited, and the next link is an entry of the node.
-use Prim.Native.Nat.{ℕ, zero, suc}
+use Prim.Native.Nat.{ℕ}
 use mathlib.Core.Path.{_≡_, refl}
 use mathlib.Core.Bool.{Bool, true, not, _&&_}
 use mathlib.Core.List.{List, [], _∷_, List·Memᴰ·head, List·Memᴰ·tail}
@@ -9,7 +9,7 @@ use Rattle.turn.specs.Points.{clockwise}
 use Rattle.graph.specs.Graph.{Graph}
 use Rattle.next.specs.declared.Next.{Next}
 use Rattle.next.specs.declared.Next.the-variants.{Link, Nothing}
-use Rattle.next.specs.Next.{isOpen, opens, onlyOpen, Node, bridge, crossing, nodeOf, metFirst, best, firstMet, nextAt, nextLink, replaces, topmost, firstAt, firstLink}
+use Rattle.next.specs.Next.{isOpen, opens, onlyOpen, crossing, nodeOf, metFirst, best, firstMet, nextAt, nextLink, replaces, topmost, firstAt, firstLink}
 use Rattle.next.specs.Choice.{Mem, opens-of, best-in}
 use Rattle.walk.specs.States.{Open}
 

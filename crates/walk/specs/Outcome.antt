@@ -1,6 +1,6 @@
 -- What is read off the walks: points, areas, kept or not, states, the contour table and the counts (rules 5 and 6).
-use Prim.Native.Nat.{ℕ, zero, suc, _+_}
-use mathlib.Core.Bool.{Bool, true, false}
+use Prim.Native.Nat.{ℕ, _+_}
+use mathlib.Core.Bool.{Bool}
 use mathlib.Core.List.{List, [], _∷_, _++_, map}
 use lib.ListN.{length, set}
 use lib.IntN.{ℤ, pos, _+ℤ_}

@@ -1,6 +1,6 @@
 -- One walk (rules 2 to 4) and the scan (rules 1 and 7). The outcome is a refusal, or the list of all walks in order, kept and rejected alike.
-use Prim.Native.Nat.{ℕ, zero, suc, _+_}
-use mathlib.Core.Bool.{Bool, true, false, not, Bool·beq}
+use Prim.Native.Nat.{ℕ, zero, suc}
+use mathlib.Core.Bool.{Bool, not, Bool·beq}
 use mathlib.Core.List.{List, [], _∷_}
 use lib.ListN.{length, set}
 use lib.Dec.{eqb, ltb}

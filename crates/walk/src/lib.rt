@@ -84,18 +84,15 @@ fn end_node(ids: &[u32], others: &[u32], first: bool, k: usize) -> usize
     requires { ⌜ (k < length (now ids)) × (k < length (now others)) ⌝ }
     ensures { λ r. ⌜ r ≡ pick first (getD (now (ids .entry)) k 0) (getD (now (others .entry)) k 0) ⌝ }
 {
-    if first { node_at(ids, k) } else { node_at(others, k) }
+    if first {
+        node_at(ids, k)
+    } else {
+        node_at(others, k)
+    }
 }
 
 // The point of one of link k's ends: of its a, where it is left forward, or of its b.
-fn end_point(
-    ax: &[i32],
-    ay: &[i32],
-    bx: &[i32],
-    by: &[i32],
-    forward: bool,
-    k: usize,
-) -> Point
+fn end_point(ax: &[i32], ay: &[i32], bx: &[i32], by: &[i32], forward: bool, k: usize) -> Point
     requires { ⌜ (k < length (now ax)) × (k < length (now ay)) × (k < length (now bx)) × (k < length (now by)) ⌝ }
     ensures { λ r. ⌜ r ≡ pick forward (pointAt (now (ax .entry)) (now (ay .entry)) k) (pointAt (now (bx .entry)) (now (by .entry)) k) ⌝ }
 {
@@ -236,7 +233,21 @@ fn walk_on(
 {
     let mut w = from;
     while w.link != last {
-        match one_step(ax, ay, bx, by, aid, bid, start, list, sense, mark, state, points, w) {
+        match one_step(
+            ax,
+            ay,
+            bx,
+            by,
+            aid,
+            bid,
+            start,
+            list,
+            sense,
+            mark,
+            state,
+            points,
+            w,
+        ) {
             Stepped::Nowhere => {
                 return Ended::Stuck(8);
             }
@@ -289,7 +300,23 @@ fn find_contour(
                 node: ahead,
                 written: at + 1,
             };
-            walk_on(ax, ay, bx, by, aid, bid, start, list, sense, mark, home, last, state, points, w)
+            walk_on(
+                ax,
+                ay,
+                bx,
+                by,
+                aid,
+                bid,
+                start,
+                list,
+                sense,
+                mark,
+                home,
+                last,
+                state,
+                points,
+                w,
+            )
         }
     }
 }
@@ -329,7 +356,15 @@ fn lost_counts(size: usize, area: i64, c: Counts) -> Counts
 }
 
 // A contour's entry in the table.
-fn enter_contour(first: &mut [u32], len: &mut [u32], kind: &mut [u8], hole: bool, i: usize, at: usize, size: usize)
+fn enter_contour(
+    first: &mut [u32],
+    len: &mut [u32],
+    kind: &mut [u8],
+    hole: bool,
+    i: usize,
+    at: usize,
+    size: usize,
+)
     requires { ⌜ (i < length (now first)) × (i < length (now len)) × (i < length (now kind)) ⌝ }
     requires { ⌜ (at ≤ maxLinks) × (size ≤ maxLinks) ⌝ }
     ensures { λ _. ⌜ now (first .exit) ≡ set (now (first .entry)) i at ⌝ }
@@ -419,9 +454,34 @@ fn note_contour(
 {
     let sense = same(hole, clockwise);
     let at = c.points;
-    match find_contour(ax, ay, bx, by, aid, bid, start, list, !sense, sense, mark_of(hole), state, points, at, s) {
+    match find_contour(
+        ax,
+        ay,
+        bx,
+        by,
+        aid,
+        bid,
+        start,
+        list,
+        !sense,
+        sense,
+        mark_of(hole),
+        state,
+        points,
+        at,
+        s,
+    ) {
         Ended::Stuck(number) => Noted::Stuck(number),
-        Ended::Done(to) => Noted::Entered(note_walk(points, first, len, kind, hole, minimum, to, c)),
+        Ended::Done(to) => Noted::Entered(note_walk(
+            points,
+            first,
+            len,
+            kind,
+            hole,
+            minimum,
+            to,
+            c,
+        )),
     }
 }
 
@@ -457,7 +517,26 @@ fn scan_walk(
         Next::Nothing => Noted::Stuck(8),
         Next::Link(s) => {
             let hole = top[s] == 1;
-            note_contour(ax, ay, bx, by, aid, bid, start, list, clockwise, minimum, hole, state, points, first, len, kind, s, c)
+            note_contour(
+                ax,
+                ay,
+                bx,
+                by,
+                aid,
+                bid,
+                start,
+                list,
+                clockwise,
+                minimum,
+                hole,
+                state,
+                points,
+                first,
+                len,
+                kind,
+                s,
+                c,
+            )
         }
     }
 }
@@ -502,9 +581,31 @@ fn scan_links(
             k += 1;
             continue;
         }
-        match scan_walk(ax, ay, bx, by, aid, bid, start, list, top, clockwise, minimum, state, points, first, len, kind, k, c) {
+        match scan_walk(
+            ax,
+            ay,
+            bx,
+            by,
+            aid,
+            bid,
+            start,
+            list,
+            top,
+            clockwise,
+            minimum,
+            state,
+            points,
+            first,
+            len,
+            kind,
+            k,
+            c,
+        ) {
             Noted::Stuck(number) => {
-                return Extraction::Refused { number: number, place: k };
+                return Extraction::Refused {
+                    number: number,
+                    place: k,
+                };
             }
             Noted::Entered(d) => {
                 c = d;
@@ -515,13 +616,7 @@ fn scan_links(
 }
 
 // After 8 and 9: the states as before, and nothing written.
-fn clear(
-    state: &mut [u8],
-    points: &mut [i32],
-    first: &mut [u32],
-    len: &mut [u32],
-    kind: &mut [u8],
-)
+fn clear(state: &mut [u8], points: &mut [i32], first: &mut [u32], len: &mut [u32], kind: &mut [u8])
     ensures { λ _. ⌜ now (state .exit) ≡ mapFrom unmark 0 (now (state .entry)) ⌝ }
     ensures { λ _. ⌜ now (points .exit) ≡ mapFrom (λ _. pos 0) 0 (now (points .entry)) ⌝ }
     ensures { λ _. ⌜ now (first .exit) ≡ mapFrom (λ _. 0) 0 (now (first .entry)) ⌝ }
@@ -536,7 +631,14 @@ fn clear(
 }
 
 // After success: zeros past what was written.
-fn trim(points: &mut [i32], first: &mut [u32], len: &mut [u32], kind: &mut [u8], written: usize, contours: usize)
+fn trim(
+    points: &mut [i32],
+    first: &mut [u32],
+    len: &mut [u32],
+    kind: &mut [u8],
+    written: usize,
+    contours: usize,
+)
     requires { ⌜ (written * 2 ≤ length (now points)) × (contours ≤ length (now first)) × (contours ≤ length (now len)) × (contours ≤ length (now kind)) ⌝ }
     ensures { λ _. ⌜ now (points .exit) ≡ mapFrom (λ _. pos 0) (written * 2) (now (points .entry)) ⌝ }
     ensures { λ _. ⌜ now (first .exit) ≡ mapFrom (λ _. 0) contours (now (first .entry)) ⌝ }
@@ -572,10 +674,30 @@ fn extract_fine(
     ensures { λ r. ⌜ extractedAs r (buffers (now (state .exit)) (now (points .exit)) (now (first .exit)) (now (len .exit)) (now (kind .exit)))
         ≡ afterScan (graphOf (lent (now (ax .entry)) (now (ay .entry)) (now (bx .entry)) (now (by .entry)) (now (aid .entry)) (now (bid .entry)) (now (start .entry)) (now (list .entry))) (now (top .entry))) minimum (buffers (now (state .entry)) (now (points .entry)) (now (first .entry)) (now (len .entry)) (now (kind .entry))) (scan (graphOf (lent (now (ax .entry)) (now (ay .entry)) (now (bx .entry)) (now (by .entry)) (now (aid .entry)) (now (bid .entry)) (now (start .entry)) (now (list .entry))) (now (top .entry))) clockwise (now (state .entry))) ⌝ }
 {
-    match scan_links(ax, ay, bx, by, aid, bid, start, list, top, clockwise, minimum, state, points, first, len, kind) {
+    match scan_links(
+        ax,
+        ay,
+        bx,
+        by,
+        aid,
+        bid,
+        start,
+        list,
+        top,
+        clockwise,
+        minimum,
+        state,
+        points,
+        first,
+        len,
+        kind,
+    ) {
         Extraction::Refused { number, place } => {
             clear(state, points, first, len, kind);
-            Extraction::Refused { number: number, place: place }
+            Extraction::Refused {
+                number: number,
+                place: place,
+            }
         }
         Extraction::Done(c) => {
             trim(points, first, len, kind, c.points, c.contours);
@@ -606,8 +728,43 @@ pub fn extract(
     ensures { λ r. ⌜ extractedAs r (buffers (now (state .exit)) (now (points .exit)) (now (first .exit)) (now (len .exit)) (now (kind .exit)))
         ≡ extracted (lent (now (ax .entry)) (now (ay .entry)) (now (bx .entry)) (now (by .entry)) (now (aid .entry)) (now (bid .entry)) (now (start .entry)) (now (list .entry))) (now (top .entry)) clockwise minimum (buffers (now (state .entry)) (now (points .entry)) (now (first .entry)) (now (len .entry)) (now (kind .entry))) ⌝ }
 {
-    match graph::check_graph(ax, ay, bx, by, aid, bid, start, list, top, state, points.len(), first.len(), len.len(), kind.len()) {
-        Checked::Refused { number, place } => Extraction::Refused { number: number, place: place },
-        Checked::Fine => extract_fine(ax, ay, bx, by, aid, bid, start, list, top, clockwise, minimum, state, points, first, len, kind),
+    match graph::check_graph(
+        ax,
+        ay,
+        bx,
+        by,
+        aid,
+        bid,
+        start,
+        list,
+        top,
+        state,
+        points.len(),
+        first.len(),
+        len.len(),
+        kind.len(),
+    ) {
+        Checked::Refused { number, place } => Extraction::Refused {
+            number: number,
+            place: place,
+        },
+        Checked::Fine => extract_fine(
+            ax,
+            ay,
+            bx,
+            by,
+            aid,
+            bid,
+            start,
+            list,
+            top,
+            clockwise,
+            minimum,
+            state,
+            points,
+            first,
+            len,
+            kind,
+        ),
     }
 }

@@ -1,7 +1,7 @@
+-- `bind`: what the checks tell, and their places fit 32 bits.
 use native.Mathlib.Omega.{arith}
-use mathlib.Core.Path.{_≡_, refl, sym, ap, _∙_}
-use Prim.Native.Nat.{ℕ, _+_, _*_, _-_, _≤_, _<_}
-use lib.ListN.{length, getD}
+use mathlib.Core.Path.{sym, _∙_}
+use lib.ListN.{length}
 use Rattle.table.specs.Table.{Table, table}
 use Rattle.bind.proofs.Places.{place-few}
 use Rattle.bind.proofs.Whole.{checks, bound-fine, bound-at}

@@ -1,7 +1,8 @@
+-- `bind_holes`: its array, cut to the number of contours.
 use native.Mathlib.Omega.{arith}
-use mathlib.Core.Path.{_≡_, refl, sym, ap, _∙_}
-use Prim.Native.Nat.{ℕ, _+_, _*_, _-_, _≤_, _<_}
-use lib.ListN.{length, getD}
+use mathlib.Core.Path.{_≡_, sym}
+use Prim.Native.Nat.{ℕ}
+use lib.ListN.{length}
 use lib.ListN.{take, replicate, length-replicate}
 use lib.Seq.{length-take-le}
 use Rattle.table.specs.Table.{Table, table}

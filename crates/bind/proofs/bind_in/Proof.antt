@@ -1,7 +1,6 @@
+-- `bind_in`: the owners that were found, or nothing written.
 use native.Mathlib.Omega.{arith}
-use mathlib.Core.Path.{_≡_, refl, sym, ap, _∙_}
-use Prim.Native.Nat.{ℕ, _+_, _*_, _-_, _≤_, _<_}
-use lib.ListN.{length, getD}
+use mathlib.Core.Path.{sym, _∙_}
 use Rattle.table.specs.Table.{Table, table}
 use Rattle.nearest.proofs.Same.{contours-few}
 use Rattle.bind.proofs.Whole.{deliver-stuck, deliver-all}

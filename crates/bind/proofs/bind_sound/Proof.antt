@@ -1,7 +1,6 @@
+-- `bind_sound`: no hull, one hull, and the search with its two ways out.
 use native.Mathlib.Omega.{arith}
-use mathlib.Core.Path.{_≡_, refl, sym, ap, _∙_}
-use Prim.Native.Nat.{ℕ, _+_, _*_, _-_, _≤_, _<_}
-use lib.ListN.{length, getD}
+use mathlib.Core.Path.{_∙_}
 use Rattle.table.specs.Table.{Table, table}
 use Rattle.nearest.proofs.Same.{contours-few}
 use Rattle.bind.proofs.Whole.{hull-count, bound-none, bound-one, bound-all, bound-stuck}

@@ -1,4 +1,5 @@
-use mathlib.Core.Path.{_≡_, refl, sym, ap, _∙_}
+-- `check`: check 11 is asked of tables that check 10 has passed.
+use mathlib.Core.Path.{sym, _∙_}
 use Rattle.table.specs.Table.{Table, table}
 use Rattle.table.specs.Passing.{passes-sound}
 use Rattle.bind.proofs.Whole.{both-fine, both-at}

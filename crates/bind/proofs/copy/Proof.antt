@@ -1,7 +1,7 @@
+-- `copy`: number by number, as `Copying` says.
 use native.Mathlib.Omega.{arith}
-use mathlib.Core.Path.{_≡_, refl, sym, ap, _∙_}
-use Prim.Native.Nat.{ℕ, _+_, _*_, _-_, _≤_, _<_}
-use lib.ListN.{length, getD}
+use Prim.Native.Nat.{_-_}
+use lib.ListN.{length}
 use Rattle.bind.proofs.Copies.{Copying, copy-start, copy-more, copy-end}
 use Rattle.bind.proofs.copy.Statement.{statement}
 use Rattle.bind.proofs.copy.Tie as tie

@@ -1,7 +1,6 @@
+-- `fill`: a copy of one number n times.
 use native.Mathlib.Omega.{arith}
-use mathlib.Core.Path.{_≡_, refl, sym, ap, _∙_}
-use Prim.Native.Nat.{ℕ, _+_, _*_, _-_, _≤_, _<_}
-use lib.ListN.{length, getD}
+use Prim.Native.Nat.{_-_}
 use lib.ListN.{replicate, length-replicate}
 use Rattle.bind.proofs.Copies.{Copying, copy-start, fill-more, copy-end}
 use Rattle.bind.proofs.fill.Statement.{statement}

@@ -1,7 +1,7 @@
+-- `gather_holes`: contour by contour, as `Gathering` says.
 use native.Mathlib.Omega.{arith}
-use mathlib.Core.Path.{_≡_, refl, sym, ap, _∙_}
-use Prim.Native.Nat.{ℕ, _+_, _*_, _-_, _≤_, _<_}
-use lib.ListN.{length, getD}
+use Prim.Native.Nat.{_-_, _≤_, _<_}
+use lib.ListN.{length}
 use Rattle.turn.specs.Limits.{maxLinks}
 use Rattle.table.specs.Table.{Table, table}
 use Rattle.table.specs.Passing.{ranges-within}
@@ -78,9 +78,10 @@ slice-write-who c = let s = c .before .before .before .before .before .before .b
 
 put-anchor-requires : tie.Need-put-anchor-requires Inv-loop μ-loop
 put-anchor-requires c κs =
-    let s = c .before .before .before .before .before .before .before .before .before .before .before .before .before .before .before in let l = c .before .before .before .before .before .before .before .before .before .before .loop in let i = c .before .before .before .before .before .before .before .before .before .loop-test .taken in let a = c .before .before .before .before .left-bottom-segment-from in let r = s .pre .1 in let f = few (c .before .before .before .before .before .before .before .before .before) in let g = l .inv in
-    (on-anchor (t s) (s .pre .0) (s .args .clockwise) (l .c) i (a .result) (a .ensures),
-    (omega (arith, g .few, g .x-len, r .x-room), omega (arith, g .few, g .y-len, r .y-room), omega (arith, g .few, g .to-x-len, r .to-x-room), omega (arith, g .few, g .to-y-len, r .to-y-room)))
+    let s = c .before .before .before .before .before .before .before .before .before .before .before .before .before .before .before in let l = c .before .before .before .before .before .before .before .before .before .before .loop in let i = c .before .before .before .before .before .before .before .before .before .loop-test .taken in let a = c .before .before .before .before .left-bottom-segment-from in let r = s .pre .1 in let f = few (c .before .before .before .before .before .before .before .before .before) in let g = l .inv in (
+      on-anchor (t s) (s .pre .0) (s .args .clockwise) (l .c) i (a .result) (a .ensures),
+      (omega (arith, g .few, g .x-len, r .x-room), omega (arith, g .few, g .y-len, r .y-room), omega (arith, g .few, g .to-x-len, r .to-x-room), omega (arith, g .few, g .to-y-len, r .to-y-room)),
+    )
 
 add-m : tie.Need-add-m Inv-loop μ-loop
 add-m c = let s = c .before .before .before .before .before .before .before .before .before .before .before .before .before .before .before .before .before .before .before .before in omega (arith, few (c .before .before .before .before .before .before .before .before .before .before .before .before .before .before), c .before .before .before .before .before .before .before .before .before .before .before .before .before .before .before .loop .inv .few)

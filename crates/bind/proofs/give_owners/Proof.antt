@@ -1,8 +1,9 @@
+-- `give_owners`: from every hole on, the definition gives what it gives from the start.
 use native.Mathlib.Omega.{arith}
-use mathlib.Core.Path.{_≡_, refl, sym, ap, _∙_}
-use Prim.Native.Nat.{ℕ, _+_, _*_, _-_, _≤_, _<_}
+use mathlib.Core.Path.{_≡_, refl, _∙_}
+use Prim.Native.Nat.{_-_}
 use lib.ListN.{length, getD}
-use lib.ListN.{set, drop, take, length-set}
+use lib.ListN.{drop, take, length-set}
 use Rattle.bind.specs.Steps.{giveListed}
 use Rattle.bind.proofs.Gives.{give-end, give-stuck, give-more}
 use Rattle.bind.proofs.give_owners.Statement.{statement}
@@ -66,9 +67,10 @@ loop-less c = omega arith
 
 loop-again : tie.Need-loop-again Inv-loop μ-loop
 loop-again c =
-    let s = c .before .before .before .before .before .before .before .before .before .before .before .before in let l = c .before .before .before .before .before .before .before .loop in
-    (simp length-set (l .inv .0),
-    give-more (s .args .who .now) (s .args .under .now) (s .args .ord .now) (l .own) (s .args .m) (l .i) (s .pre .ord-room) (c .before .before .before .before .before .before .loop-test .taken) _ _ refl (c .before .parent .ensures) (c .if1 .left) ∙ l .inv .1)
+    let s = c .before .before .before .before .before .before .before .before .before .before .before .before in let l = c .before .before .before .before .before .before .before .loop in (
+      simp length-set (l .inv .0),
+      give-more (s .args .who .now) (s .args .under .now) (s .args .ord .now) (l .own) (s .args .m) (l .i) (s .pre .ord-room) (c .before .before .before .before .before .before .loop-test .taken) _ _ refl (c .before .parent .ensures) (c .if1 .left) ∙ l .inv .1,
+    )
 
 same-length-2 : tie.Need-same-length-2 Inv-loop μ-loop
 same-length-2 c = c .before .loop .inv .0

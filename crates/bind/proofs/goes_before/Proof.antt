@@ -1,5 +1,5 @@
-use native.Mathlib.Omega.{arith}
-use mathlib.Core.Path.{_≡_, refl, sym, ap, _∙_}
+-- `goes_before`: by its three ways out.
+use mathlib.Core.Path.{sym, _∙_}
 use Rattle.bind.proofs.Insertions.{goes-first, goes-last, goes-by-angle}
 use borrow.Author.Needs.{needs}
 use Rattle.bind.proofs.goes_before.Statement.{statement}

@@ -1,12 +1,12 @@
+-- `insert`: the gap moves down until the hole fits, as `Shifted` says.
 use native.Mathlib.Omega.{arith}
-use mathlib.Core.Path.{_≡_, refl, sym, ap, _∙_}
-use Prim.Native.Nat.{ℕ, _+_, _*_, _-_, _≤_, _<_}
-use lib.ListN.{length, getD}
+use mathlib.Core.Path.{refl}
+use Prim.Native.Nat.{ℕ, _-_, _<_}
+use lib.ListN.{getD}
 use mathlib.Core.Bool.{Bool}
 use mathlib.Core.List.{List}
-use lib.ListN.{set, length-set}
-use Rattle.table.specs.declared.Anchor.{Anchor}
-use Rattle.nearest.specs.Lists.{Anchors, anchors, anchorAt}
+use lib.ListN.{length-set}
+use Rattle.nearest.specs.Lists.{Anchors, anchors}
 use Rattle.bind.specs.Steps.{byAnchor}
 use Rattle.bind.proofs.Insertions.{Shifted, shift-start, shift-more, shift-stop, shift-end, went}
 use Rattle.bind.proofs.insert.Statement.{statement}

@@ -1,7 +1,7 @@
+-- `number_hulls`: contour by contour, as `Numbering` says.
 use native.Mathlib.Omega.{arith}
-use mathlib.Core.Path.{_≡_, refl, sym, ap, _∙_}
-use Prim.Native.Nat.{ℕ, _+_, _*_, _-_, _≤_, _<_}
-use lib.ListN.{length, getD}
+use Prim.Native.Nat.{_-_}
+use lib.ListN.{length}
 use Rattle.bind.proofs.Copies.{Numbering, numbering-start, numbering-hull, numbering-hole, numbering-end}
 use Rattle.bind.proofs.number_hulls.Statement.{statement}
 use Rattle.bind.proofs.number_hulls.Tie as tie

@@ -1,7 +1,6 @@
+-- `order_holes`: hole by hole, as `Ordering` says.
 use native.Mathlib.Omega.{arith}
-use mathlib.Core.Path.{_≡_, refl, sym, ap, _∙_}
-use Prim.Native.Nat.{ℕ, _+_, _*_, _-_, _≤_, _<_}
-use lib.ListN.{length, getD}
+use Prim.Native.Nat.{_-_}
 use Rattle.nearest.specs.Lists.{Anchors, anchors}
 use Rattle.bind.proofs.Insertions.{Ordering, ordering-start, ordering-below, ordering-more, ordering-end, bounded-to}
 use Rattle.bind.proofs.order_holes.Statement.{statement}

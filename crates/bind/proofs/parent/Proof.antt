@@ -1,3 +1,4 @@
+-- `parent`: by its two ways out.
 use borrow.Author.Tests.{eq-eqb, ne-eqb}
 use borrow.Author.Needs.{needs}
 use Rattle.bind.proofs.parent.Statement.{statement}

@@ -1,7 +1,7 @@
+-- `search_owners`: the holes gathered, the contours under them, their order, and the owners, each from the one before.
 use native.Mathlib.Omega.{arith}
-use mathlib.Core.Path.{_≡_, refl, sym, ap, _∙_}
-use Prim.Native.Nat.{ℕ, _+_, _*_, _-_, _≤_, _<_}
-use lib.ListN.{length, getD}
+use mathlib.Core.Path.{_∙_}
+use Prim.Native.Nat.{ℕ}
 use mathlib.Core.List.{List}
 use Rattle.turn.specs.Limits.{maxLinks}
 use Rattle.table.specs.Table.{Table, table}

@@ -1,19 +1,15 @@
+-- `format::fill_i32` meets its contract.
 use mir.Syntax.{w32}
 use mir.ValLaws.{toZ-ofZ}
-use Prim.Native.Nat.{ℕ, _+_, _-_, _*_}
-use mathlib.Core.Path.{_≡_, refl, sym, ap, _∙_}
+use Prim.Native.Nat.{_-_}
+use mathlib.Core.Path.{sym, ap, _∙_}
 use native.Mathlib.Omega.{arith}
 use borrow.Author.Needs.{needs}
-use lib.ListN.{length, getD, length-set}
-use Rattle.format.specs.Bytes.{u16At, u32At, i32At, signed}
+use Rattle.format.specs.Bytes.{i32At, signed}
 use Rattle.format.proofs.Fill.{Filling, filling-first, filling-next, filling-last}
 use native.Mathlib.Nat.{zero-add}
 use Rattle.format.proofs.fill_i32.Statement.{statement}
 use Rattle.format.proofs.fill_i32.Tie as tie
-use Rattle.format.proofs.fill_i32.Reads as reads
-use Rattle.format.proofs.fill_i32.Lts as lts
-use Rattle.format.proofs.from_bits.Reads as from-bits-reads
-use Rattle.format.proofs.u32_at.Reads as u32-at-reads
 
 abbrev Inv-loop : tie.InvT-loop
 Inv-loop s from n out₀ at₀ k₀ out at k = Filling (i32At s) 28 from n 0 out₀ out at k
@@ -31,13 +27,17 @@ from-bits-requires : tie.Need-from-bits-requires Inv-loop μ-loop
 from-bits-requires c κs = search needs
 
 mul-x : tie.Need-mul-x Inv-loop μ-loop
-mul-x c = let i = c .before .before .before .loop .inv in omega (arith, i .long, c .before .before .before .before .before .pre, c .before .before .loop-test .taken, c .before .before .before .before .before .good)
+mul-x c =
+    let s = c .before .before .before .before .before in
+    let i = c .before .before .before .loop .inv in omega (arith, i .long, s .pre, c .before .before .loop-test .taken, s .good)
 
 slice-set-from-x : tie.Need-slice-set-from-x Inv-loop μ-loop
 slice-set-from-x c = let i = c .before .before .before .loop .inv in omega (arith, i .long, c .before .before .before .before .before .pre)
 
 add-at : tie.Need-add-at Inv-loop μ-loop
-add-at c = let i = c .before .before .before .loop .inv in omega (arith, i .place, c .before .before .before .before .before .pre, c .before .before .before .before .before .good)
+add-at c =
+    let s = c .before .before .before .before .before in
+    let i = c .before .before .before .loop .inv in omega (arith, i .place, s .pre, s .good)
 
 add-k : tie.Need-add-k Inv-loop μ-loop
 add-k c = let i = c .before .before .before .loop .inv in omega (arith, c .before .before .before .before .before .fits)
@@ -46,11 +46,12 @@ loop-less : tie.Need-loop-less Inv-loop μ-loop
 loop-less c = omega arith
 
 loop-again : tie.Need-loop-again Inv-loop μ-loop
-loop-again c = 
+loop-again c =
+    let s = c .before .before .before .before .before in
     filling-next _ _ _ _ _ _ _ _ _ (c .before .before .before .loop .inv) (c .before .before .before .loop .k) _ (sym (zero-add _))
     (toZ-ofZ w32 (c .from-bits .result) (record { sfits = c .from-bits .ok }) ∙ c .from-bits .ensures ∙ ap signed (c .before .u32-at .ensures))
     (c .before .before .loop-test .taken)
-    (omega (arith, c .before .before .before .before .before .pre))
+    (omega (arith, s .pre))
 
 same-length : tie.Need-same-length Inv-loop μ-loop
 same-length c = c .before .loop .inv .long

@@ -1,14 +1,9 @@
+-- `format::fill_links` meets its contract.
 use Rattle.format.proofs.Fill.{same-columns}
-use mathlib.Core.Path.{_≡_, refl, sym, ap, _∙_}
 use native.Mathlib.Omega.{arith}
 use borrow.Author.Needs.{needs}
 use Rattle.format.proofs.fill_links.Statement.{statement}
 use Rattle.format.proofs.fill_links.Tie as tie
-use Rattle.format.proofs.fill_links.Reads as reads
-use Rattle.format.proofs.fill_links.Lts as lts
-use Rattle.format.proofs.fill_i32.Reads as fill-i32-reads
-use Rattle.format.proofs.fill_u16.Reads as fill-u16-reads
-use Rattle.format.proofs.fill_u8.Reads as fill-u8-reads
 
 fill-i32-requires : tie.Need-fill-i32-requires
 fill-i32-requires c κs = search needs
@@ -29,10 +24,14 @@ fill-u16-requires-2 : tie.Need-fill-u16-requires-2
 fill-u16-requires-2 c κs = search needs
 
 fill-u8-requires : tie.Need-fill-u8-requires
-fill-u8-requires c κs = omega (arith, c .before .before .before .before .before .before .before .before .before .before .before .before .before .before .before .before .before .before .before .before .before .before .before .before .before .before .pre .0, c .before .before .before .before .before .before .before .before .before .before .before .before .before .before .before .before .before .before .before .before .before .before .before .before .before .before .pre .1 .top)
+fill-u8-requires c κs =
+    let s = c .before .before .before .before .before .before .before .before .before .before .before .before .before .before .before .before .before .before .before .before .before .before .before .before .before .before in
+    omega (arith, s .pre .0, s .pre .1 .top)
 
 fill-u8-requires-2 : tie.Need-fill-u8-requires-2
-fill-u8-requires-2 c κs = omega (arith, c .before .before .before .before .before .before .before .before .before .before .before .before .before .before .before .before .before .before .before .before .before .before .before .before .before .before .before .before .before .before .pre .0, c .before .before .before .before .before .before .before .before .before .before .before .before .before .before .before .before .before .before .before .before .before .before .before .before .before .before .before .before .before .before .pre .1 .state)
+fill-u8-requires-2 c κs =
+    let s = c .before .before .before .before .before .before .before .before .before .before .before .before .before .before .before .before .before .before .before .before .before .before .before .before .before .before .before .before .before .before in
+    omega (arith, s .pre .0, s .pre .1 .state)
 
 same-length : tie.Need-same-length
 same-length c = search needs
@@ -59,7 +58,7 @@ same-length-8 : tie.Need-same-length-8
 same-length-8 c = search needs
 
 returns : tie.Need-returns
-returns c = 
+returns c =
     same-columns (c .before .before .before .before .before .before .before .before .before .before .before .before .before .before .before .before .before .before .before .before .before .before .before .before .before .before .fill-i32 .ensures) (c .before .before .before .before .before .before .before .before .before .before .before .before .before .before .before .before .before .before .before .before .before .before .before .fill-i322 .ensures) (c .before .before .before .before .before .before .before .before .before .before .before .before .before .before .before .before .before .before .before .before .fill-i323 .ensures) (c .before .before .before .before .before .before .before .before .before .before .before .before .before .before .before .before .before .fill-i324 .ensures) (c .before .before .before .before .before .before .before .before .before .before .before .before .before .before .fill-u16 .ensures)
     (c .before .before .before .before .before .before .before .before .before .before .fill-u162 .ensures)
     (c .before .before .before .before .before .before .fill-u8 .ensures)

@@ -1,15 +1,10 @@
-use borrow.Author.Needs.{needs}
-use Prim.Native.Nat.{ℕ, _+_, _-_, _*_, _/_}
-use mathlib.Core.Path.{_≡_, refl, sym, ap, _∙_}
+-- `format::fill_nodes` meets its contract.
+use Prim.Native.Nat.{_-_}
 use native.Mathlib.Omega.{arith}
-use lib.ListN.{length, length-set}
-use Rattle.format.proofs.Nodes.{Noding, Here, noding-first, noding-here, noding-next, noding-starts, noding-list, noding-small}
+use lib.ListN.{length-set}
+use Rattle.format.proofs.Nodes.{Noding, noding-first, noding-here, noding-next, noding-starts, noding-list, noding-small}
 use Rattle.format.proofs.fill_nodes.Statement.{statement}
 use Rattle.format.proofs.fill_nodes.Tie as tie
-use Rattle.format.proofs.fill_nodes.Reads as reads
-use Rattle.format.proofs.fill_nodes.Lts as lts
-use Rattle.format.proofs.fill_u16.Reads as fill-u16-reads
-use Rattle.format.proofs.u32_at.Reads as u32-at-reads
 
 abbrev Inv-loop : tie.InvT-loop
 Inv-loop s from m start₀ list₀ at₀ e₀ k₀ start list at e k = Noding s from m start₀ list₀ start list at e k
@@ -21,13 +16,15 @@ loop-holds : tie.Need-loop-holds Inv-loop μ-loop
 loop-holds c = noding-first _ _ _ _ _ (c .before .before .before .pre .2)
 
 mul-start : tie.Need-mul-start Inv-loop μ-loop
-mul-start c = let i = c .before .loop .inv in omega (arith, i .starts-long, c .before .before .before .before .before .pre .0, c .before .before .before .before .before .good)
+mul-start c =
+    let s = c .before .before .before .before .before in
+    let i = c .before .loop .inv in omega (arith, i .starts-long, s .pre .0, s .good)
 
 slice-write-start : tie.Need-slice-write-start Inv-loop μ-loop
 slice-write-start c = let i = c .before .loop .inv in omega (arith, i .starts-long, c .before .before .before .before .before .pre .0)
 
 u32-at-requires : tie.Need-u32-at-requires Inv-loop μ-loop
-u32-at-requires c κs = let h = noding-here _ _ _ _ _ _ _ _ _ _ (c .before .loop .inv) (c  .loop-test .taken) in omega (arith, h .whole)
+u32-at-requires c κs = let h = noding-here _ _ _ _ _ _ _ _ _ _ (c .before .loop .inv) (c .loop-test .taken) in omega (arith, h .whole)
 
 add-fill-u16 : tie.Need-add-fill-u16 Inv-loop μ-loop
 add-fill-u16 c = let h = noding-here _ _ _ _ _ _ _ _ _ _ (c .before .before .loop .inv) (c .before .loop-test .taken) in omega (arith, h .whole, c .before .before .before .before .before .before .good)
@@ -39,9 +36,11 @@ cast-fill-u16-2 : tie.Need-cast-fill-u16-2 Inv-loop μ-loop
 cast-fill-u16-2 c = let h = noding-small _ _ _ _ _ _ _ _ _ _ (c .before .before .before .loop .inv) in omega arith
 
 fill-u16-requires : tie.Need-fill-u16-requires Inv-loop μ-loop
-fill-u16-requires c κs = let h = noding-here _ _ _ _ _ _ _ _ _ _ (c .before .before .before .loop .inv) (c .before .before .loop-test .taken) in 
+fill-u16-requires c κs =
+    let s = c .before .before .before .before .before .before .before in
+    let h = noding-here _ _ _ _ _ _ _ _ _ _ (c .before .before .before .loop .inv) (c .before .before .loop-test .taken) in
     let i = c .before .before .before .loop .inv in
-    (omega arith, λ k l. omega (arith, h .whole, h .even, c .before .u32-at .ensures), omega (arith, h .room, c .before .u32-at .ensures, i .list-long, c .before .before .before .before .before .before .before .pre .1))
+    (omega arith, λ k l. omega (arith, h .whole, h .even, c .before .u32-at .ensures), omega (arith, h .room, c .before .u32-at .ensures, i .list-long, s .pre .1))
 
 cast-at : tie.Need-cast-at Inv-loop μ-loop
 cast-at c = omega (arith, c .before .before .before .before .u32-at .ok)
@@ -62,12 +61,15 @@ loop-less : tie.Need-loop-less Inv-loop μ-loop
 loop-less c = omega (arith, c .before .before .before .before .before .loop-test .taken)
 
 loop-again : tie.Need-loop-again Inv-loop μ-loop
-loop-again c = 
-    noding-next _ _ _ _ _ _ _ _ _ _ (c .before .before .before .before .before .before .loop .inv) (c .before .before .before .before .before .loop-test .taken) (c .before .before .before .before .before .before .before .before .before .before .pre .0) (c .before .before .before .before .before .before .before .before .before .before .pre .1) _ (c .before .before .before .before .u32-at .ensures) _
+loop-again c =
+    let s = c .before .before .before .before .before .before .before .before .before .before in
+    noding-next _ _ _ _ _ _ _ _ _ _ (c .before .before .before .before .before .before .loop .inv) (c .before .before .before .before .before .loop-test .taken) (s .pre .0) (s .pre .1) _ (c .before .before .before .before .u32-at .ensures) _
     (c .before .before .fill-u16 .ensures) (c .before .before .fill-u16 .kept .1 .1 .1 .1 .0)
 
 mul-start-2 : tie.Need-mul-start-2 Inv-loop μ-loop
-mul-start-2 c = let i = c .before .loop .inv in omega (arith, i .starts-long, c .before .before .before .before .before .pre .0, c .before .before .before .before .before .good)
+mul-start-2 c =
+    let s = c .before .before .before .before .before in
+    let i = c .before .loop .inv in omega (arith, i .starts-long, s .pre .0, s .good)
 
 slice-write-start-2 : tie.Need-slice-write-start-2 Inv-loop μ-loop
 slice-write-start-2 c = let i = c .before .loop .inv in omega (arith, i .starts-long, c .before .before .before .before .before .pre .0)
@@ -79,8 +81,9 @@ same-length-2 : tie.Need-same-length-2 Inv-loop μ-loop
 same-length-2 c = c .before .loop .inv .list-long
 
 returns : tie.Need-returns Inv-loop μ-loop
-returns c = (
-      noding-starts _ _ _ _ _ _ _ _ _ _ (c .before .loop .inv) (c .loop-test .left) (c .before .before .before .before .before .pre .0),
+returns c =
+    let s = c .before .before .before .before .before in (
+      noding-starts _ _ _ _ _ _ _ _ _ _ (c .before .loop .inv) (c .loop-test .left) (s .pre .0),
       noding-list _ _ _ _ _ _ _ _ _ _ (c .before .loop .inv) (c .loop-test .left),
     )
 

@@ -1,15 +1,11 @@
-use Prim.Native.Nat.{ℕ, _+_, _-_, _*_}
-use mathlib.Core.Path.{_≡_, refl, sym, ap, _∙_}
+-- `format::fill_u16` meets its contract.
+use Prim.Native.Nat.{_-_}
+use mathlib.Core.Path.{refl}
 use native.Mathlib.Omega.{arith}
-use borrow.Author.Needs.{needs}
-use lib.ListN.{length, getD, length-set}
-use Rattle.format.specs.Bytes.{u16At, u32At, i32At, signed}
+use Rattle.format.specs.Bytes.{u16At}
 use Rattle.format.proofs.Fill.{Filling, filling-first, filling-next, filling-last}
 use Rattle.format.proofs.fill_u16.Statement.{statement}
 use Rattle.format.proofs.fill_u16.Tie as tie
-use Rattle.format.proofs.fill_u16.Reads as reads
-use Rattle.format.proofs.fill_u16.Lts as lts
-use Rattle.format.proofs.u16_at.Reads as u16-at-reads
 
 abbrev Inv-loop : tie.InvT-loop
 Inv-loop s from step n out₀ to at₀ k₀ out at k = Filling (u16At s) step from n to out₀ out at k
@@ -24,16 +20,22 @@ u16-at-requires : tie.Need-u16-at-requires Inv-loop μ-loop
 u16-at-requires c κs = let i = c .before .loop .inv in omega (arith, i .place, c .before .before .before .before .pre .1 (c .before .loop .k) (c .loop-test .taken))
 
 add-out : tie.Need-add-out Inv-loop μ-loop
-add-out c = omega (arith, c .before .before .before .before .before .pre, c .before .before .before .before .before .good)
+add-out c =
+    let s = c .before .before .before .before .before in
+    omega (arith, s .pre, s .good)
 
 mul-out : tie.Need-mul-out Inv-loop μ-loop
-mul-out c = omega (arith, c .before .before .before .before .before .pre, c .before .before .before .before .before .good)
+mul-out c =
+    let s = c .before .before .before .before .before in
+    omega (arith, s .pre, s .good)
 
 slice-write-out : tie.Need-slice-write-out Inv-loop μ-loop
 slice-write-out c = let i = c .before .before .loop .inv in omega (arith, i .long, c .before .before .before .before .before .pre)
 
 add-at : tie.Need-add-at Inv-loop μ-loop
-add-at c = let i = c .before .before .loop .inv in omega (arith, i .place, c .before .before .before .before .before .pre .0, c .before .before .before .before .before .pre .1 (c .before .before .loop .k) (c .before .loop-test .taken), c .before .before .before .before .before .good)
+add-at c =
+    let s = c .before .before .before .before .before in
+    let i = c .before .before .loop .inv in omega (arith, i .place, s .pre .0, s .pre .1 (c .before .before .loop .k) (c .before .loop-test .taken), s .good)
 
 add-k : tie.Need-add-k Inv-loop μ-loop
 add-k c = omega (arith, c .before .before .before .before .before .fits)
@@ -42,8 +44,9 @@ loop-less : tie.Need-loop-less Inv-loop μ-loop
 loop-less c = omega arith
 
 loop-again : tie.Need-loop-again Inv-loop μ-loop
-loop-again c = 
-    filling-next _ _ _ _ _ _ _ _ _ (c .before .before .loop .inv) _ _ refl (c .u16-at .ensures .0) (c .before .loop-test .taken) (c .before .before .before .before .before .pre .2)
+loop-again c =
+    let s = c .before .before .before .before .before in
+    filling-next _ _ _ _ _ _ _ _ _ (c .before .before .loop .inv) _ _ refl (c .u16-at .ensures .0) (c .before .loop-test .taken) (s .pre .2)
 
 same-length : tie.Need-same-length Inv-loop μ-loop
 same-length c = c .before .loop .inv .long

@@ -1,15 +1,12 @@
+-- `format::fill_u8` meets its contract.
 use native.Mathlib.Nat.{zero-add}
-use Prim.Native.Nat.{ℕ, _+_, _-_, _*_}
-use mathlib.Core.Path.{_≡_, refl, sym, ap, _∙_}
+use Prim.Native.Nat.{ℕ, _-_}
+use mathlib.Core.Path.{refl, sym}
 use native.Mathlib.Omega.{arith}
-use borrow.Author.Needs.{needs}
-use lib.ListN.{length, getD, length-set}
-use Rattle.format.specs.Bytes.{u16At, u32At, i32At, signed}
+use lib.ListN.{getD}
 use Rattle.format.proofs.Fill.{Filling, filling-first, filling-next, filling-last}
 use Rattle.format.proofs.fill_u8.Statement.{statement}
 use Rattle.format.proofs.fill_u8.Tie as tie
-use Rattle.format.proofs.fill_u8.Reads as reads
-use Rattle.format.proofs.fill_u8.Lts as lts
 
 abbrev Inv-loop : tie.InvT-loop
 Inv-loop s from n out₀ at₀ k₀ out at k = Filling (λ (i : ℕ). getD s i 0) 28 from n 0 out₀ out at k
@@ -27,7 +24,9 @@ slice-write-out : tie.Need-slice-write-out Inv-loop μ-loop
 slice-write-out c = let i = c .before .before .loop .inv in omega (arith, i .long, c .before .before .before .pre)
 
 add-at : tie.Need-add-at Inv-loop μ-loop
-add-at c = let i = c .before .before .loop .inv in omega (arith, i .place, c .before .before .before .pre, c .before .before .before .good)
+add-at c =
+    let s = c .before .before .before in
+    let i = c .before .before .loop .inv in omega (arith, i .place, s .pre, s .good)
 
 add-k : tie.Need-add-k Inv-loop μ-loop
 add-k c = omega (arith, c .before .before .before .fits)
@@ -36,8 +35,9 @@ loop-less : tie.Need-loop-less Inv-loop μ-loop
 loop-less c = omega arith
 
 loop-again : tie.Need-loop-again Inv-loop μ-loop
-loop-again c = 
-    filling-next _ _ _ _ _ _ _ _ _ (c .before .before .loop .inv) (c .before .before .loop .k) _ (sym (zero-add _)) refl (c .before .loop-test .taken) (omega (arith, c .before .before .before .pre))
+loop-again c =
+    let s = c .before .before .before in
+    filling-next _ _ _ _ _ _ _ _ _ (c .before .before .loop .inv) (c .before .before .loop .k) _ (sym (zero-add _)) refl (c .before .loop-test .taken) (omega (arith, s .pre))
 
 same-length : tie.Need-same-length Inv-loop μ-loop
 same-length c = c .before .loop .inv .long

@@ -1,9 +1,8 @@
+-- `format::from_bits` meets its contract.
 use Rattle.format.proofs.Bits.{low-half, high-half, high-fits}
 use borrow.Author.Needs.{needs}
 use Rattle.format.proofs.from_bits.Statement.{statement}
 use Rattle.format.proofs.from_bits.Tie as tie
-use Rattle.format.proofs.from_bits.Reads as reads
-use Rattle.format.proofs.from_bits.Lts as lts
 
 cast-result : tie.Need-cast-result
 cast-result c = search needs

@@ -1,9 +1,8 @@
-use borrow.Author.Tests.{lt-ltb, le-ltb, le-leb, lt-leb, eq-eqb, ne-eqb}
+-- `format::head_number` meets its contract.
+use borrow.Author.Tests.{lt-ltb, le-ltb, eq-eqb, ne-eqb}
 use borrow.Author.Needs.{needs}
 use Rattle.format.proofs.head_number.Statement.{statement}
 use Rattle.format.proofs.head_number.Tie as tie
-use Rattle.format.proofs.head_number.Reads as reads
-use Rattle.format.proofs.head_number.Lts as lts
 
 returns : tie.Need-returns
 returns c = simp (eq-eqb _ _ (c .before .if1 .taken), ne-eqb _ _ (c .if2 .taken))

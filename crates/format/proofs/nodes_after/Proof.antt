@@ -1,12 +1,9 @@
-use mathlib.Core.Path.{_≡_, refl, sym, ap, _∙_}
-use native.Mathlib.Omega.{arith}
+-- `format::nodes_after` meets its contract.
+use mathlib.Core.Path.{sym, _∙_}
 use Rattle.format.specs.Forms.{nodes-right, nodes-wrong, nodes-fault}
 use borrow.Author.Needs.{needs}
 use Rattle.format.proofs.nodes_after.Statement.{statement}
 use Rattle.format.proofs.nodes_after.Tie as tie
-use Rattle.format.proofs.nodes_after.Reads as reads
-use Rattle.format.proofs.nodes_after.Lts as lts
-use Rattle.format.proofs.run_at.Reads as run-at-reads
 
 run-at-requires : tie.Need-run-at-requires
 run-at-requires c κs = search needs

@@ -1,16 +1,11 @@
-use mathlib.Core.Path.{_≡_, refl, sym, ap, _∙_}
+-- `format::read_graph` meets its contract.
+use mathlib.Core.Path.{refl, sym, _∙_}
 use native.Mathlib.Nat.{le-trans}
 use native.Mathlib.Omega.{arith}
 use Rattle.format.specs.Lists.{formed, file-long, links-fit, links-few, nodes-few, nodes-fit, read-right, read-wrong}
 use borrow.Author.Needs.{needs}
 use Rattle.format.proofs.read_graph.Statement.{statement}
 use Rattle.format.proofs.read_graph.Tie as tie
-use Rattle.format.proofs.read_graph.Reads as reads
-use Rattle.format.proofs.read_graph.Lts as lts
-use Rattle.format.proofs.fill_links.Reads as fill-links-reads
-use Rattle.format.proofs.fill_nodes.Reads as fill-nodes-reads
-use Rattle.format.proofs.shape_of.Reads as shape-of-reads
-use Rattle.format.proofs.u64_at.Reads as u64-at-reads
 
 shape-of-requires : tie.Need-shape-of-requires
 shape-of-requires c κs = search needs
@@ -22,8 +17,10 @@ enum-known-links : tie.Need-enum-known-links
 enum-known-links c = search needs
 
 fill-links-requires : tie.Need-fill-links-requires
-fill-links-requires c κs = let f = formed _ _ _ _ (sym (c .before .before .before .before .before .before .before .before .before .links .given .1) ∙ c .before .before .before .before .before .before .before .before .before .before .before .shape-of .ensures) in 
-    let r = c .before .before .before .before .before .before .before .before .before .before .before .before .before .before .before .before .before .before .before .pre in
+fill-links-requires c κs =
+    let s = c .before .before .before .before .before .before .before .before .before .before .before .before .before .before .before .before .before .before .before in
+    let f = formed _ _ _ _ (sym (c .before .before .before .before .before .before .before .before .before .links .given .1) ∙ c .before .before .before .before .before .before .before .before .before .before .before .shape-of .ensures) in
+    let r = s .pre in
     let few = links-few _ _ _ _ f in (
       links-fit _ _ _ _ f,
       record {
@@ -45,7 +42,9 @@ add-fill-nodes : tie.Need-add-fill-nodes
 add-fill-nodes c = let f = formed _ _ _ _ (sym (c .before .before .before .before .before .before .before .before .before .before .before .before .before .before .before .before .before .before .before .before .before .before .links .given .1) ∙ c .before .before .before .before .before .before .before .before .before .before .before .before .before .before .before .before .before .before .before .before .before .before .before .before .shape-of .ensures) in omega (arith, links-few _ _ _ _ f)
 
 fill-nodes-requires : tie.Need-fill-nodes-requires
-fill-nodes-requires c κs = let f = formed _ _ _ _ (sym (c .before .before .before .before .before .before .before .before .before .before .before .before .before .before .before .before .before .before .before .before .before .before .before .before .links .given .1) ∙ c .before .before .before .before .before .before .before .before .before .before .before .before .before .before .before .before .before .before .before .before .before .before .before .before .before .before .shape-of .ensures) in (omega (arith, nodes-few _ _ _ _ f, c .before .before .before .before .before .before .before .before .before .before .before .before .before .before .before .before .before .before .before .before .before .before .before .before .before .before .before .before .before .before .before .before .before .before .pre .start), c .before .before .before .before .before .before .before .before .before .before .before .before .before .before .before .before .before .before .before .before .before .before .before .before .before .before .before .before .before .before .before .before .before .before .pre .list, nodes-fit _ _ _ _ f)
+fill-nodes-requires c κs =
+    let s = c .before .before .before .before .before .before .before .before .before .before .before .before .before .before .before .before .before .before .before .before .before .before .before .before .before .before .before .before .before .before .before .before .before .before in
+    let f = formed _ _ _ _ (sym (c .before .before .before .before .before .before .before .before .before .before .before .before .before .before .before .before .before .before .before .before .before .before .before .before .links .given .1) ∙ c .before .before .before .before .before .before .before .before .before .before .before .before .before .before .before .before .before .before .before .before .before .before .before .before .before .before .shape-of .ensures) in (omega (arith, nodes-few _ _ _ _ f, s .pre .start), s .pre .list, nodes-fit _ _ _ _ f)
 
 shared-slice-read-t42 : tie.Need-shared-slice-read-t42
 shared-slice-read-t42 c = let f = formed _ _ _ _ (sym (c .before .before .before .before .before .before .before .before .before .before .before .before .before .before .before .before .before .before .before .before .before .before .before .before .before .before .before .before .before .before .links .given .1) ∙ c .before .before .before .before .before .before .before .before .before .before .before .before .before .before .before .before .before .before .before .before .before .before .before .before .before .before .before .before .before .before .before .before .shape-of .ensures) in omega (arith, file-long _ _ _ _ f)
@@ -87,7 +86,7 @@ same-length-10 : tie.Need-same-length-10
 same-length-10 c = search needs
 
 returns-2 : tie.Need-returns-2
-returns-2 c = let f = formed _ _ _ _ (sym (c .before .before .before .before .before .before .before .before .before .before .before .before .before .before .before .before .before .before .before .before .before .before .before .before .before .before .before .before .before .before .before .links .given .1) ∙ c .before .before .before .before .before .before .before .before .before .before .before .before .before .before .before .before .before .before .before .before .before .before .before .before .before .before .before .before .before .before .before .before .before .shape-of .ensures) in 
+returns-2 c = let f = formed _ _ _ _ (sym (c .before .before .before .before .before .before .before .before .before .before .before .before .before .before .before .before .before .before .before .before .before .before .before .before .before .before .before .before .before .before .before .links .given .1) ∙ c .before .before .before .before .before .before .before .before .before .before .before .before .before .before .before .before .before .before .before .before .before .before .before .before .before .before .before .before .before .before .before .before .before .shape-of .ensures) in
     read-right _ _ _ _ f _ _ _ _ _ _ refl (c .u64-at .ensures) (c .before .before .before .before .before .before .before .before .before .before .before .before .before .before .before .before .before .before .before .before .before .fill-links .ensures) (c .before .before .before .before .before .before .fill-nodes .ensures .0) (c .before .before .before .before .before .before .fill-nodes .ensures .1)
 
 pub read-graph-spec : {M : Type 1} → statement M

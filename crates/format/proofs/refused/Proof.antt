@@ -1,8 +1,7 @@
-use borrow.Author.Tests.{lt-ltb, le-ltb, le-leb, lt-leb, eq-eqb, ne-eqb}
+-- `format::refused` meets its contract.
+use borrow.Author.Tests.{eq-eqb, ne-eqb}
 use Rattle.format.proofs.refused.Statement.{statement}
 use Rattle.format.proofs.refused.Tie as tie
-use Rattle.format.proofs.refused.Reads as reads
-use Rattle.format.proofs.refused.Lts as lts
 
 returns : tie.Need-returns
 returns c = simp (eq-eqb _ _ (c .if1 .taken))

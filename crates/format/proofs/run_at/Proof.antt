@@ -1,14 +1,11 @@
-use mathlib.Core.Path.{_≡_, refl, sym, ap, _∙_}
-use native.Mathlib.Omega.{arith}
+-- `format::run_at` meets its contract.
+use mathlib.Core.Path.{sym, _∙_}
 use Prim.Native.Nat.{_-_}
 use borrow.Author.Needs.{needs}
 use Rattle.format.specs.Records.{looks}
 use Rattle.format.specs.Runs.{Running, running-first, running-next, running-less, running-other, running-fault}
 use Rattle.format.proofs.run_at.Statement.{statement}
 use Rattle.format.proofs.run_at.Tie as tie
-use Rattle.format.proofs.run_at.Reads as reads
-use Rattle.format.proofs.run_at.Lts as lts
-use Rattle.format.proofs.step_at.Reads as step-at-reads
 
 abbrev Inv-loop : tie.InvT-loop
 Inv-loop s kind at r₀ r = Running kind s at r

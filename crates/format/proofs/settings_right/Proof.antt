@@ -1,13 +1,9 @@
-use Rattle.format.specs.Bytes.{u16At, u32At}
+-- `format::settings_right` meets its contract.
 use Rattle.format.specs.Records.{settingsRight}
-use borrow.Author.Tests.{lt-ltb, le-ltb, le-leb, lt-leb, eq-eqb, ne-eqb}
+use borrow.Author.Tests.{le-leb, lt-leb}
 use borrow.Author.Needs.{needs}
 use Rattle.format.proofs.settings_right.Statement.{statement}
 use Rattle.format.proofs.settings_right.Tie as tie
-use Rattle.format.proofs.settings_right.Reads as reads
-use Rattle.format.proofs.settings_right.Lts as lts
-use Rattle.format.proofs.u16_at.Reads as u16-at-reads
-use Rattle.format.proofs.u32_at.Reads as u32-at-reads
 
 returns : tie.Need-returns
 unfolding settingsRight

@@ -1,16 +1,10 @@
-use mathlib.Core.Path.{_≡_, refl, sym, ap, _∙_}
-use native.Mathlib.Omega.{arith}
-use Rattle.laws.specs.Test.{not-is}
+-- `format::shape_of` meets its contract.
+use mathlib.Core.Path.{sym, _∙_}
 use borrow.Author.Tests.{not-true, not-false}
 use Rattle.format.specs.Forms.{settings-wrong, settings-long, links-fault, links-inside, links-then}
 use borrow.Author.Needs.{needs}
 use Rattle.format.proofs.shape_of.Statement.{statement}
 use Rattle.format.proofs.shape_of.Tie as tie
-use Rattle.format.proofs.shape_of.Reads as reads
-use Rattle.format.proofs.shape_of.Lts as lts
-use Rattle.format.proofs.nodes_after.Reads as nodes-after-reads
-use Rattle.format.proofs.run_at.Reads as run-at-reads
-use Rattle.format.proofs.settings_right.Reads as settings-right-reads
 
 settings-right-requires : tie.Need-settings-right-requires
 settings-right-requires c κs = search needs

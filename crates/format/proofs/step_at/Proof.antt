@@ -1,15 +1,10 @@
-use mathlib.Core.Path.{_≡_, refl, sym, ap, _∙_}
+-- `format::step_at` meets its contract.
+use mathlib.Core.Path.{sym, _∙_}
 use native.Mathlib.Omega.{arith}
 use Rattle.format.specs.Steps.{step-cut, step-kind, read-head, read-body, read-next}
 use borrow.Author.Needs.{needs}
 use Rattle.format.proofs.step_at.Statement.{statement}
 use Rattle.format.proofs.step_at.Tie as tie
-use Rattle.format.proofs.step_at.Reads as reads
-use Rattle.format.proofs.step_at.Lts as lts
-use Rattle.format.proofs.head_number.Reads as head-number-reads
-use Rattle.format.proofs.refused.Reads as refused-reads
-use Rattle.format.proofs.u16_at.Reads as u16-at-reads
-use Rattle.format.proofs.u32_at.Reads as u32-at-reads
 
 sub-if1 : tie.Need-sub-if1
 sub-if1 c = search needs
@@ -39,7 +34,9 @@ refused-requires : tie.Need-refused-requires
 refused-requires c κs = search needs
 
 returns-3 : tie.Need-returns-3
-returns-3 c = let a = c .before .before .before .before .before .before .before .before .args in
+returns-3 c =
+    let s = c .before .before .before .before .before .before .before .before in
+    let a = s .args in
     read-head (a .kind) (a .s .now) (a .r) (c .before .before .before .u32-at .result) (c .before .before .head-number .result) (omega arith)
     (sym (c .before .before .before .before .before .u16-at .ensures .0) ∙ c .before .before .before .before .if2 .left)
     (c .before .before .before .u32-at .ensures)
@@ -53,7 +50,9 @@ sub-if4 : tie.Need-sub-if4
 sub-if4 c = search needs
 
 returns-4 : tie.Need-returns-4
-returns-4 c = let a = c .before .before .before .before .before .before .before .before .args in
+returns-4 c =
+    let s = c .before .before .before .before .before .before .before .before in
+    let a = s .args in
     read-body (a .kind) (a .s .now) (a .r) (c .before .before .before .u32-at .result) (c .before .before .head-number .result) (omega arith)
     (sym (c .before .before .before .before .before .u16-at .ensures .0) ∙ c .before .before .before .before .if2 .left)
     (c .before .before .before .u32-at .ensures)
@@ -70,7 +69,9 @@ add-t14 : tie.Need-add-t14
 add-t14 c = search needs
 
 returns-5 : tie.Need-returns-5
-returns-5 c = let a = c .before .before .before .before .before .before .before .before .before .before .args in
+returns-5 c =
+    let s = c .before .before .before .before .before .before .before .before .before .before in
+    let a = s .args in
     read-next (a .kind) (a .s .now) (a .r) (c .before .before .before .before .before .u32-at .result) (c .before .before .before .before .head-number .result) (omega arith)
     (sym (c .before .before .before .before .before .before .before .u16-at .ensures .0) ∙ c .before .before .before .before .before .before .if2 .left)
     (c .before .before .before .before .before .u32-at .ensures)

@@ -1,3 +1,4 @@
+-- `format::u16_at` meets its contract.
 use Prim.Native.Nat.{_+_}
 use native.Mathlib.Omega.{arith}
 use mathlib.Core.Path.{refl}
@@ -5,8 +6,6 @@ use Rattle.format.specs.Bytes.{u16At}
 use borrow.Author.Needs.{needs}
 use Rattle.format.proofs.u16_at.Statement.{statement}
 use Rattle.format.proofs.u16_at.Tie as tie
-use Rattle.format.proofs.u16_at.Reads as reads
-use Rattle.format.proofs.u16_at.Lts as lts
 
 shared-slice-read-low : tie.Need-shared-slice-read-low
 shared-slice-read-low c = search needs

@@ -1,10 +1,8 @@
+-- `format::u32_at` meets its contract.
 use Rattle.format.specs.Bytes.{u32At}
 use borrow.Author.Needs.{needs}
 use Rattle.format.proofs.u32_at.Statement.{statement}
 use Rattle.format.proofs.u32_at.Tie as tie
-use Rattle.format.proofs.u32_at.Reads as reads
-use Rattle.format.proofs.u32_at.Lts as lts
-use Rattle.format.proofs.u16_at.Reads as u16-at-reads
 
 u16-at-requires : tie.Need-u16-at-requires
 u16-at-requires c κs = search needs

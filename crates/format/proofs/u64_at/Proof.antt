@@ -1,10 +1,8 @@
+-- `format::u64_at` meets its contract.
 use Rattle.format.specs.Bytes.{u64At}
 use borrow.Author.Needs.{needs}
 use Rattle.format.proofs.u64_at.Statement.{statement}
 use Rattle.format.proofs.u64_at.Tie as tie
-use Rattle.format.proofs.u64_at.Reads as reads
-use Rattle.format.proofs.u64_at.Lts as lts
-use Rattle.format.proofs.u32_at.Reads as u32-at-reads
 
 u32-at-requires : tie.Need-u32-at-requires
 u32-at-requires c κs = search needs

@@ -1,11 +1,8 @@
+-- `format_cases::show_answer` meets its contract.
 use Rattle.format_cases.proofs.Answer.{printable}
 use borrow.Author.Needs.{needs}
 use Rattle.format_cases.proofs.show_answer.Statement.{statement}
 use Rattle.format_cases.proofs.show_answer.Tie as tie
-use Rattle.format_cases.proofs.show_answer.Reads as reads
-use Rattle.format_cases.proofs.show_answer.Lts as lts
-use Rattle.io.proofs.write_all.Reads as write-all-reads
-use Rattle.print.proofs.write_answer.Reads as write-answer-reads
 
 slice-aggregate-write-answer : tie.Need-slice-aggregate-write-answer
 slice-aggregate-write-answer c = search needs

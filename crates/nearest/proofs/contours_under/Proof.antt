@@ -1,7 +1,6 @@
+-- `contours_under`: the lists that it makes give the table's edges, so what it finds among them is the search of the definition.
 use native.Mathlib.Omega.{arith}
-use mathlib.Core.Path.{_≡_, refl, sym, ap, _∙_}
-use Prim.Native.Nat.{ℕ, _+_, _*_, _-_, _/_, _≤_, _<_}
-use lib.ListN.{length, getD}
+use Prim.Native.Nat.{ℕ}
 use lib.ListN.{getD-replicate}
 use mathlib.Core.Bool.{Bool}
 use Rattle.table.specs.Table.{Table, table}
@@ -41,10 +40,14 @@ slice-aggregate-nearest-edges-3 c = search needs
 
 nearest-edges-requires : tie.Need-nearest-edges-requires
 nearest-edges-requires c κs =
-    let s = c .before .before .before .before .before .before .before .before .before .before .before .before .before in let l = c .before .before .before .before .before .link in let p = s .pre .1 in
-    ((fit (t s) (s .pre .0) (l .last .1 .1 .0) (l .last .1 .1 .1 .0) (l .ensures) (right s) (omega (arith, l .kept .1 .1 .0)) (omega (arith, l .kept .1 .1 .1 .0)), s .pre .0 .few,
-    flags (t s) (s .pre .0) (l .last .1 .1 .0) (l .last .1 .1 .1 .0) (l .ensures) (s .args .mute .now) (p .0 .0)),
-    (p .1, (p .0 .1, λ j h. getD-replicate {A = ℕ} 4096 j 0 0 (omega (arith, p .0 .1)))))
+    let s = c .before .before .before .before .before .before .before .before .before .before .before .before .before in let l = c .before .before .before .before .before .link in let p = s .pre .1 in (
+      (
+        fit (t s) (s .pre .0) (l .last .1 .1 .0) (l .last .1 .1 .1 .0) (l .ensures) (right s) (omega (arith, l .kept .1 .1 .0)) (omega (arith, l .kept .1 .1 .1 .0)),
+        s .pre .0 .few,
+        flags (t s) (s .pre .0) (l .last .1 .1 .0) (l .last .1 .1 .1 .0) (l .ensures) (s .args .mute .now) (p .0 .0),
+      ),
+      (p .1, (p .0 .1, λ j h. getD-replicate {A = ℕ} 4096 j 0 0 (omega (arith, p .0 .1)))),
+    )
 
 slice-aggregate-name-contours : tie.Need-slice-aggregate-name-contours
 slice-aggregate-name-contours c = search needs
@@ -54,9 +57,10 @@ slice-aggregate-name-contours-2 c = search needs
 
 name-contours-requires : tie.Need-name-contours-requires
 name-contours-requires c κs =
-    let s = c .before .before .before .before .before .before .before .before .before .before .before .before .before .before .before .before .before .before in let l = c .before .before .before .before .before .before .before .before .before .before .link in let e = c .before .before .before .before .nearest-edges in let p = s .pre .1 in
-    ((omega (arith, l .kept .1 .1 .1 .0, s .pre .0 .few), of-few (t s) (s .pre .0) (l .last .1 .1 .0) (l .last .1 .1 .1 .0) (l .ensures)),
-    (omega (arith, e .kept .1 .1 .1 .1 .1 .1 .1 .1 .1 .1 .1 .1 .0, p .0 .1), p .0 .2, best-numbers (t s) (s .pre .0) (l .last .1 .1 .0) (l .last .1 .1 .1 .0) (l .ensures) (right s) (s .args .mute .now) (h s) (s .args .m) (e .last .1 .1 .1 .1 .1 .1 .1 .1 .1 .1 .1 .1 .0) (e .ensures)))
+    let s = c .before .before .before .before .before .before .before .before .before .before .before .before .before .before .before .before .before .before in let l = c .before .before .before .before .before .before .before .before .before .before .link in let e = c .before .before .before .before .nearest-edges in let p = s .pre .1 in (
+      (omega (arith, l .kept .1 .1 .1 .0, s .pre .0 .few), of-few (t s) (s .pre .0) (l .last .1 .1 .0) (l .last .1 .1 .1 .0) (l .ensures)),
+      (omega (arith, e .kept .1 .1 .1 .1 .1 .1 .1 .1 .1 .1 .1 .1 .0, p .0 .1), p .0 .2, best-numbers (t s) (s .pre .0) (l .last .1 .1 .0) (l .last .1 .1 .1 .0) (l .ensures) (right s) (s .args .mute .now) (h s) (s .args .m) (e .last .1 .1 .1 .1 .1 .1 .1 .1 .1 .1 .1 .1 .0) (e .ensures)),
+    )
 
 same-length : tie.Need-same-length
 same-length c = search needs

@@ -1,9 +1,9 @@
+-- `first_from`: the binary search; its ends bracket the answer.
 use native.Mathlib.Omega.{arith}
-use mathlib.Core.Path.{_≡_, refl, sym, ap, _∙_}
-use Prim.Native.Nat.{ℕ, _+_, _*_, _-_, _/_, _≤_, _<_}
-use lib.ListN.{length, getD}
+use Prim.Native.Nat.{_+_, _-_, _/_}
+use lib.ListN.{getD}
 use mir.Syntax.{w32}
-use mir.Val.{toZ, ofZ}
+use mir.Val.{toZ}
 use mir.ValLaws.{toZ-ofZ}
 use lib.IntN.{pos}
 use Rattle.nearest.proofs.Parts.{Bracket, bracket-start, bracket-up, bracket-down, bracket-end, seen-lt, seen-ge}

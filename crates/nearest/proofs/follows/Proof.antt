@@ -1,3 +1,4 @@
+-- `follows`: by its two ways out.
 use borrow.Author.Tests.{eq-eqb, ne-eqb}
 use borrow.Author.Needs.{needs}
 use Rattle.nearest.proofs.follows.Statement.{statement}

@@ -1,5 +1,4 @@
-use native.Mathlib.Omega.{arith}
-use mathlib.Core.Path.{_≡_, refl, sym, ap, _∙_}
+-- `is_nearer`: the gaps by cross products, then the tie.
 use Rattle.nearest.proofs.Num.{nearer-yes, nearer-no, nearer-rest}
 use borrow.Author.Needs.{needs}
 use Rattle.nearest.proofs.is_nearer.Statement.{statement}

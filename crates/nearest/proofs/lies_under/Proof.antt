@@ -1,5 +1,4 @@
-use native.Mathlib.Omega.{arith}
-use mathlib.Core.Path.{_≡_, refl, sym, ap, _∙_}
+-- `lies_under`: by its three ways out.
 use Rattle.nearest.proofs.Num.{under-yes, under-no, under-on}
 use borrow.Author.Needs.{needs}
 use Rattle.nearest.proofs.lies_under.Statement.{statement}

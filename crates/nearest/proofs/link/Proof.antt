@@ -1,7 +1,8 @@
+-- `link`: contour by contour, as `Round` says.
 use native.Mathlib.Omega.{arith}
-use mathlib.Core.Path.{_≡_, refl, sym, ap, _∙_}
-use Prim.Native.Nat.{ℕ, _+_, _*_, _-_, _/_, _≤_, _<_}
-use lib.ListN.{length, getD}
+use mathlib.Core.Path.{_≡_, refl, _∙_}
+use Prim.Native.Nat.{_-_, _≤_}
+use lib.ListN.{length}
 use Rattle.nearest.specs.Lists.{Round, ranges}
 use Rattle.nearest.proofs.Links.{round-start, round-more}
 use Rattle.nearest.proofs.link.Statement.{statement}

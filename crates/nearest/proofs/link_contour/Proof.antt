@@ -1,7 +1,6 @@
+-- `link_contour`: point by point, as `Linking` says.
 use native.Mathlib.Omega.{arith}
-use mathlib.Core.Path.{_≡_, refl, sym, ap, _∙_}
-use Prim.Native.Nat.{ℕ, _+_, _*_, _-_, _/_, _≤_, _<_}
-use lib.ListN.{length, getD}
+use Prim.Native.Nat.{_-_}
 use Rattle.nearest.proofs.Links.{Linking, linking-start, linking-more, linking-end}
 use Rattle.nearest.proofs.link_contour.Statement.{statement}
 use Rattle.nearest.proofs.link_contour.Tie as tie

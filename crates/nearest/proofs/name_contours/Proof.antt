@@ -1,8 +1,9 @@
+-- `name_contours`: every place below j has been written.
 use native.Mathlib.Omega.{arith}
-use mathlib.Core.Path.{_≡_, refl, sym, ap, _∙_}
-use Prim.Native.Nat.{ℕ, _+_, _*_, _-_, _/_, _≤_, _<_}
+use mathlib.Core.Path.{_≡_, refl}
+use Prim.Native.Nat.{ℕ, _-_, _≤_, _<_}
 use lib.ListN.{length, getD}
-use lib.ListN.{set, length-set}
+use lib.ListN.{length-set}
 use borrow.Author.Count.{below-none}
 use Rattle.nearest.specs.Lists.{named}
 use Rattle.nearest.proofs.Put.{put-below}

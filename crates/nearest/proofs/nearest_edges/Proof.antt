@@ -1,7 +1,6 @@
+-- `nearest_edges`: edge by edge, as `Rounds` says.
 use native.Mathlib.Omega.{arith}
-use mathlib.Core.Path.{_≡_, refl, sym, ap, _∙_}
-use Prim.Native.Nat.{ℕ, _+_, _*_, _-_, _/_, _≤_, _<_}
-use lib.ListN.{length, getD}
+use Prim.Native.Nat.{_-_}
 use Rattle.nearest.specs.Lists.{lists, anchors}
 use Rattle.nearest.proofs.Offers.{Rounds, rounds-start, rounds-numbers, rounds-mute, rounds-again, rounds-end}
 use Rattle.nearest.proofs.nearest_edges.Statement.{statement}

@@ -1,8 +1,7 @@
+-- `offer`: the anchors that the edge spans stand together, as `Offering` says.
 use native.Mathlib.Omega.{arith}
-use mathlib.Core.Path.{_≡_, refl, sym, ap, _∙_}
-use Prim.Native.Nat.{ℕ, _+_, _*_, _-_, _/_, _≤_, _<_}
-use lib.ListN.{length, getD}
-use lib.IntN.{pos}
+use Prim.Native.Nat.{_-_}
+use lib.ListN.{getD}
 use Rattle.nearest.specs.Lists.{Lists, lists, Anchors, anchors}
 use Rattle.nearest.proofs.Offers.{Offering, Held, held, kept-at, offer-back, offer-start, offer-past, offer-more, offer-end}
 use Rattle.nearest.proofs.offer.Statement.{statement}

@@ -1,5 +1,6 @@
+-- `scaled`: the product fits, as `gap-fits` says.
 use native.Mathlib.Omega.{arith}
-use mathlib.Core.Path.{_≡_, refl, sym, ap, _∙_}
+use mathlib.Core.Path.{refl}
 use lib.IntN.{_*ℤ_}
 use Rattle.laws.specs.Bounds.{same64, fits64}
 use Rattle.nearest.specs.Gaps.{gap-fits}

@@ -1,5 +1,5 @@
+-- `wins_tie`: slopes by cross products, then kind and number.
 use native.Mathlib.Omega.{arith}
-use mathlib.Core.Path.{_≡_, refl, sym, ap, _∙_}
 use Rattle.nearest.proofs.Num.{within64, tie-yes, tie-no, tie-rest}
 use Rattle.nearest.proofs.wins_tie.Statement.{statement}
 use Rattle.nearest.proofs.wins_tie.Tie as tie

@@ -1,7 +1,7 @@
-use Prim.Native.Nat.{_+_, _/_}
+-- `print::write_decimal` meets its contract.
+use Prim.Native.Nat.{_+_}
 use native.Mathlib.Omega.{arith}
-use mathlib.Core.Path.{_∙_}
-use lib.ListN.{length, length-set}
+use lib.ListN.{length-set}
 use Rattle.print.proofs.Numbers.{one-fits, one-digit, before-fit, last-digit-fits, last-digit}
 use Prim.Native.Nat.{ℕ, _<_}
 use borrow.Fn.Kinds.{In}
@@ -67,7 +67,9 @@ write-decimal-write-decimal-requires : (t : ℕ) → write-decimal-lts.Need-writ
   write-decimal-below t,
   write-decimal.Post,
 ) (write-decimal-at t) write-decimal.Post
-write-decimal-write-decimal-requires t c κs = (omega (arith, c .before .if1 .left, c .before .before .before .pre .0), before-fit (c .before .before .before .args .n) (c .before .before .before .args .at) (c .before .before .before .args .out .now) (c .before .if1 .left) (c .before .before .before .fits .n .fits) (c .before .before .before .pre .1))
+write-decimal-write-decimal-requires t c κs =
+    let s = c .before .before .before in
+    (omega (arith, c .before .if1 .left, s .pre .0), before-fit (s .args .n) (s .args .at) (s .args .out .now) (c .before .if1 .left) (s .fits .n .fits) (s .pre .1))
 
 write-decimal-cast-out-2 : (t : ℕ) → write-decimal-lts.Need-cast-out-2 (
   write-decimal-below t,
@@ -85,13 +87,17 @@ write-decimal-slice-write-out-2 : (t : ℕ) → write-decimal-lts.Need-slice-wri
   write-decimal-below t,
   write-decimal.Post,
 ) (write-decimal-at t) write-decimal.Post
-write-decimal-slice-write-out-2 t c = last-digit-fits (c .before .before .before .before .before .before .args .n) (c .before .before .before .before .before .before .args .at) (c .before .before .before .before .before .before .args .out .now) (c .before .before .before .before .if1 .left) (c .before .before .before .before .before .before .fits .n .fits) (c .before .before .before .before .before .before .pre .1) _ _ (c .before .before .write-decimal .ensures)
+write-decimal-slice-write-out-2 t c =
+    let s = c .before .before .before .before .before .before in
+    last-digit-fits (s .args .n) (s .args .at) (s .args .out .now) (c .before .before .before .before .if1 .left) (s .fits .n .fits) (s .pre .1) _ _ (c .before .before .write-decimal .ensures)
 
 write-decimal-add-result-2 : (t : ℕ) → write-decimal-lts.Need-add-result-2 (
   write-decimal-below t,
   write-decimal.Post,
 ) (write-decimal-at t) write-decimal.Post
-write-decimal-add-result-2 t c = omega (arith, last-digit-fits (c .before .before .before .before .before .before .args .n) (c .before .before .before .before .before .before .args .at) (c .before .before .before .before .before .before .args .out .now) (c .before .before .before .before .if1 .left) (c .before .before .before .before .before .before .fits .n .fits) (c .before .before .before .before .before .before .pre .1) _ _ (c .before .before .write-decimal .ensures), c .before .before .write-decimal .kept .1 .0, c .before .before .before .before .before .before .good)
+write-decimal-add-result-2 t c =
+    let s = c .before .before .before .before .before .before in
+    omega (arith, last-digit-fits (s .args .n) (s .args .at) (s .args .out .now) (c .before .before .before .before .if1 .left) (s .fits .n .fits) (s .pre .1) _ _ (c .before .before .write-decimal .ensures), c .before .before .write-decimal .kept .1 .0, s .good)
 
 write-decimal-same-length-2 : (t : ℕ) → write-decimal-lts.Need-same-length-2 (
   write-decimal-below t,
@@ -103,7 +109,9 @@ write-decimal-returns-2 : (t : ℕ) → write-decimal-lts.Need-returns-2 (
   write-decimal-below t,
   write-decimal.Post,
 ) (write-decimal-at t) write-decimal.Post
-write-decimal-returns-2 t c = last-digit (c .before .before .before .before .before .before .args .n) (c .before .before .before .before .before .before .args .at) (c .before .before .before .before .before .before .args .out .now) (c .before .before .before .before .if1 .left) (c .before .before .before .before .before .before .fits .n .fits) (c .before .before .before .before .before .before .pre .1) _ _ (c .before .before .write-decimal .ensures)
+write-decimal-returns-2 t c =
+    let s = c .before .before .before .before .before .before in
+    last-digit (s .args .n) (s .args .at) (s .args .out .now) (c .before .before .before .before .if1 .left) (s .fits .n .fits) (s .pre .1) _ _ (c .before .before .write-decimal .ensures)
 
 pub +write-decimal-spec : {M : Type 1} → statement M
 +write-decimal-spec = close μ-write-decimal λ t. write-decimal-lts.spec (

@@ -1,4 +1,4 @@
-use Prim.Native.Nat.{_+_}
+-- `print::write_contour` meets its contract.
 use native.Mathlib.Omega.{arith}
 use lib.ListN.{getD}
 use Rattle.print.specs.Answer.{table, contourLine, pointLines, contourLines}
@@ -6,10 +6,6 @@ use Rattle.print.specs.Write.{left-all, left-after, left-last, piece-fit
 use borrow.Author.Needs.{needs}
 use Rattle.print.proofs.write_contour.Statement.{statement}
 use Rattle.print.proofs.write_contour.Tie as tie
-use Rattle.print.proofs.write_contour.Reads as reads
-use Rattle.print.proofs.write_contour.Lts as lts
-use Rattle.print.proofs.write_contour_line.Reads as write-contour-line-reads
-use Rattle.print.proofs.write_points.Reads as write-points-reads
 
 mul-count : tie.Need-mul-count
 mul-count c = search needs
@@ -27,11 +23,12 @@ shared-slice-read-write-contour-line-2 : tie.Need-shared-slice-read-write-contou
 shared-slice-read-write-contour-line-2 c = search needs
 
 write-contour-line-requires : tie.Need-write-contour-line-requires
-write-contour-line-requires c κs = 
-    let a = c .before .before .before .before .before .before .before .before .before .args in
+write-contour-line-requires c κs =
+    let s = c .before .before .before .before .before .before .before .before .before in
+    let a = s .args in
     let p = contourLine (a .i) (getD (a .kind .now) (a .i) 0) (getD (a .owner .now) (a .i) 0) (getD (a .len .now) (a .i) 0) in
     let q = pointLines (a .points .now) (getD (a .first .now) (a .i) 0) (getD (a .len .now) (a .i) 0) in
-    let l0 = left-all (a .out .now) (a .at) (contourLines (table (a .points .now) (a .first .now) (a .len .now) (a .kind .now) (a .owner .now)) (a .i)) (c .before .before .before .before .before .before .before .before .before .pre .1) in
+    let l0 = left-all (a .out .now) (a .at) (contourLines (table (a .points .now) (a .first .now) (a .len .now) (a .kind .now) (a .owner .now)) (a .i)) (s .pre .1) in
     piece-fits p q l0
 
 mul-write-points : tie.Need-mul-write-points
@@ -47,22 +44,24 @@ cast-write-points-2 : tie.Need-cast-write-points-2
 cast-write-points-2 c = omega (arith, c .before .before .before .before .before .before .before .shared-slice-known5 .given (c .before .before .before .before .before .before .before .before .before .before .before .before .before .args .i))
 
 write-points-requires : tie.Need-write-points-requires
-write-points-requires c κs = 
-    let a = c .before .before .before .before .before .before .before .before .before .before .before .before .before .before .args in
+write-points-requires c κs =
+    let s = c .before .before .before .before .before .before .before .before .before .before .before .before .before .before in
+    let a = s .args in
     let p = contourLine (a .i) (getD (a .kind .now) (a .i) 0) (getD (a .owner .now) (a .i) 0) (getD (a .len .now) (a .i) 0) in
     let q = pointLines (a .points .now) (getD (a .first .now) (a .i) 0) (getD (a .len .now) (a .i) 0) in
-    let l0 = left-all (a .out .now) (a .at) (contourLines (table (a .points .now) (a .first .now) (a .len .now) (a .kind .now) (a .owner .now)) (a .i)) (c .before .before .before .before .before .before .before .before .before .before .before .before .before .before .pre .1) in
-    (c .before .before .before .before .before .before .before .before .before .before .before .before .before .before .pre .0 .points (a .i) (omega arith), last-fits q (left-after p q l0 (c .before .before .before .before .write-contour-line .ensures)))
+    let l0 = left-all (a .out .now) (a .at) (contourLines (table (a .points .now) (a .first .now) (a .len .now) (a .kind .now) (a .owner .now)) (a .i)) (s .pre .1) in
+    (s .pre .0 .points (a .i) (omega arith), last-fits q (left-after p q l0 (c .before .before .before .before .write-contour-line .ensures)))
 
 same-length : tie.Need-same-length
 same-length c = search needs
 
 returns : tie.Need-returns
-returns c = 
-    let a = c .before .before .before .before .before .before .before .before .before .before .before .before .before .before .before .before .before .args in
+returns c =
+    let s = c .before .before .before .before .before .before .before .before .before .before .before .before .before .before .before .before .before in
+    let a = s .args in
     let p = contourLine (a .i) (getD (a .kind .now) (a .i) 0) (getD (a .owner .now) (a .i) 0) (getD (a .len .now) (a .i) 0) in
     let q = pointLines (a .points .now) (getD (a .first .now) (a .i) 0) (getD (a .len .now) (a .i) 0) in
-    let l0 = left-all (a .out .now) (a .at) (contourLines (table (a .points .now) (a .first .now) (a .len .now) (a .kind .now) (a .owner .now)) (a .i)) (c .before .before .before .before .before .before .before .before .before .before .before .before .before .before .before .before .before .pre .1) in
+    let l0 = left-all (a .out .now) (a .at) (contourLines (table (a .points .now) (a .first .now) (a .len .now) (a .kind .now) (a .owner .now)) (a .i)) (s .pre .1) in
     left-last q (left-after p q l0 (c .before .before .before .before .before .before .before .write-contour-line .ensures)) (c .before .before .write-points .ensures)
 
 pub write-contour-spec : {M : Type 1} → statement M

@@ -1,21 +1,16 @@
+-- `print::write_contour_line` meets its contract.
 use mathlib.Core.List.{_++_}
 use Rattle.print.specs.Text.{text}
-use Rattle.print.specs.Decimal.{decimal, decimalZ}
-use Rattle.print.specs.Answer.{said, roleText, header, contourLine, pointLine}
-use Rattle.print.specs.Write.{left-all, left-from-0, left-after, left-last, piece-fits, last-fits}
+use Rattle.print.specs.Decimal.{decimal}
+use Rattle.print.specs.Answer.{said, roleText, contourLine}
+use Rattle.print.specs.Write.{left-all, left-after, left-last, piece-fits, last-fits}
 use borrow.Author.Needs.{needs}
 use Rattle.print.proofs.write_contour_line.Statement.{statement}
 use Rattle.print.proofs.write_contour_line.Tie as tie
-use Rattle.print.proofs.write_contour_line.Reads as reads
-use Rattle.print.proofs.write_contour_line.Lts as lts
-use Rattle.print.proofs.write_decimal.Reads as write-decimal-reads
-use Rattle.print.proofs.write_role.Reads as write-role-reads
-use Rattle.print.proofs.write_said.Reads as write-said-reads
-use Rattle.print.proofs.write_text.Reads as write-text-reads
 
 write-decimal-requires : tie.Need-write-decimal-requires
 unfolding contourLine
-write-decimal-requires c κs = 
+write-decimal-requires c κs =
     let a = c .before .before .args in
     let p = decimal (a .number) in
     let q = said (roleText (a .kind) (a .owner)) (a .owner) in
@@ -26,13 +21,14 @@ write-decimal-requires c κs =
 
 write-role-requires : tie.Need-write-role-requires
 unfolding contourLine
-write-role-requires c κs = 
-    let a = c .before .before .before .before .before .before .args in
+write-role-requires c κs =
+    let s = c .before .before .before .before .before .before in
+    let a = s .args in
     let p = decimal (a .number) in
     let q = said (roleText (a .kind) (a .owner)) (a .owner) in
     let r = said (text " ") (a .len) in
     let e = text "\n" in
-    let l0 = left-all (a .out .now) (a .at) (contourLine (a .number) (a .kind) (a .owner) (a .len)) (c .before .before .before .before .before .before .pre) in
+    let l0 = left-all (a .out .now) (a .at) (contourLine (a .number) (a .kind) (a .owner) (a .len)) (s .pre) in
     let l1 = left-after p (q ++ (r ++ e)) l0 (c .before .before .before .write-decimal .ensures) in
     piece-fits q (r ++ e) l1
 
@@ -41,13 +37,14 @@ slice-aggregate-write-said c = search needs
 
 write-said-requires : tie.Need-write-said-requires
 unfolding contourLine
-write-said-requires c κs = 
-    let a = c .before .before .before .before .before .before .before .before .before .before .before .args in
+write-said-requires c κs =
+    let s = c .before .before .before .before .before .before .before .before .before .before .before in
+    let a = s .args in
     let p = decimal (a .number) in
     let q = said (roleText (a .kind) (a .owner)) (a .owner) in
     let r = said (text " ") (a .len) in
     let e = text "\n" in
-    let l0 = left-all (a .out .now) (a .at) (contourLine (a .number) (a .kind) (a .owner) (a .len)) (c .before .before .before .before .before .before .before .before .before .before .before .pre) in
+    let l0 = left-all (a .out .now) (a .at) (contourLine (a .number) (a .kind) (a .owner) (a .len)) (s .pre) in
     let l1 = left-after p (q ++ (r ++ e)) l0 (c .before .before .before .before .before .before .before .before .write-decimal .ensures) in
     let l2 = left-after q (r ++ e) l1 (c .before .before .before .before .write-role .ensures) in
     piece-fits r e l2
@@ -57,13 +54,14 @@ slice-aggregate-write-text c = search needs
 
 write-text-requires : tie.Need-write-text-requires
 unfolding contourLine
-write-text-requires c κs = 
-    let a = c .before .before .before .before .before .before .before .before .before .before .before .before .before .before .before .before .args in
+write-text-requires c κs =
+    let s = c .before .before .before .before .before .before .before .before .before .before .before .before .before .before .before .before in
+    let a = s .args in
     let p = decimal (a .number) in
     let q = said (roleText (a .kind) (a .owner)) (a .owner) in
     let r = said (text " ") (a .len) in
     let e = text "\n" in
-    let l0 = left-all (a .out .now) (a .at) (contourLine (a .number) (a .kind) (a .owner) (a .len)) (c .before .before .before .before .before .before .before .before .before .before .before .before .before .before .before .before .pre) in
+    let l0 = left-all (a .out .now) (a .at) (contourLine (a .number) (a .kind) (a .owner) (a .len)) (s .pre) in
     let l1 = left-after p (q ++ (r ++ e)) l0 (c .before .before .before .before .before .before .before .before .before .before .before .before .before .write-decimal .ensures) in
     let l2 = left-after q (r ++ e) l1 (c .before .before .before .before .before .before .before .before .before .write-role .ensures) in
     let l3 = left-after r e l2 (c .before .before .before .before .write-said .ensures) in
@@ -74,13 +72,14 @@ same-length c = search needs
 
 returns : tie.Need-returns
 unfolding contourLine
-returns c = 
-    let a = c .before .before .before .before .before .before .before .before .before .before .before .before .before .before .before .before .before .before .before .args in
+returns c =
+    let s = c .before .before .before .before .before .before .before .before .before .before .before .before .before .before .before .before .before .before .before in
+    let a = s .args in
     let p = decimal (a .number) in
     let q = said (roleText (a .kind) (a .owner)) (a .owner) in
     let r = said (text " ") (a .len) in
     let e = text "\n" in
-    let l0 = left-all (a .out .now) (a .at) (contourLine (a .number) (a .kind) (a .owner) (a .len)) (c .before .before .before .before .before .before .before .before .before .before .before .before .before .before .before .before .before .before .before .pre) in
+    let l0 = left-all (a .out .now) (a .at) (contourLine (a .number) (a .kind) (a .owner) (a .len)) (s .pre) in
     let l1 = left-after p (q ++ (r ++ e)) l0 (c .before .before .before .before .before .before .before .before .before .before .before .before .before .before .before .before .write-decimal .ensures) in
     let l2 = left-after q (r ++ e) l1 (c .before .before .before .before .before .before .before .before .before .before .before .before .write-role .ensures) in
     let l3 = left-after r e l2 (c .before .before .before .before .before .before .before .write-said .ensures) in

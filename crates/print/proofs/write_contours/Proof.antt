@@ -1,12 +1,10 @@
-use Prim.Native.Nat.{_+_, _-_}
+-- `print::write_contours` meets its contract.
+use Prim.Native.Nat.{_-_}
 use native.Mathlib.Omega.{arith}
 use Rattle.print.specs.Answer.{table}
 use Rattle.print.proofs.Points.{Listing, listing-first, listing-fits, listing-next, listing-last, fewer}
 use Rattle.print.proofs.write_contours.Statement.{statement}
 use Rattle.print.proofs.write_contours.Tie as tie
-use Rattle.print.proofs.write_contours.Reads as reads
-use Rattle.print.proofs.write_contours.Lts as lts
-use Rattle.print.proofs.write_contour.Reads as write-contour-reads
 
 abbrev Inv-loop : tie.InvT-loop
 Inv-loop points first len kind owner contours out₀ at i₀ next₀ out i next = Listing (table points first len kind owner) contours out₀ at out i next

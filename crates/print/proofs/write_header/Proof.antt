@@ -1,29 +1,26 @@
+-- `print::write_header` meets its contract.
 use mathlib.Core.List.{_++_}
 use Rattle.print.specs.Text.{text}
-use Rattle.print.specs.Decimal.{decimal, decimalZ}
-use Rattle.print.specs.Answer.{said, roleText, header, contourLine, pointLine}
-use Rattle.print.specs.Write.{left-all, left-from-0, left-after, left-last, piece-fits, last-fits}
+use Rattle.print.specs.Answer.{said, header}
+use Rattle.print.specs.Write.{left-from-0, left-after, left-last, piece-fits, last-fits}
 use borrow.Author.Needs.{needs}
 use Rattle.print.proofs.write_header.Statement.{statement}
 use Rattle.print.proofs.write_header.Tie as tie
-use Rattle.print.proofs.write_header.Reads as reads
-use Rattle.print.proofs.write_header.Lts as lts
-use Rattle.print.proofs.write_said.Reads as write-said-reads
-use Rattle.print.proofs.write_text.Reads as write-text-reads
 
 slice-aggregate-write-said : tie.Need-slice-aggregate-write-said
 slice-aggregate-write-said c = search needs
 
 write-said-requires : tie.Need-write-said-requires
 unfolding header
-write-said-requires c κs = 
-    let a = c .before .before .before .args in
+write-said-requires c κs =
+    let start = c .before .before .before in
+    let a = start .args in
     let p = said (text "contours ") (a .t .contours) in
     let q = said (text " shapes ") (a .t .shapes) in
     let r = said (text " points ") (a .t .points) in
     let s = said (text " dropped ") (a .t .dropped) in
     let e = text "\n" in
-    let l0 = left-from-0 (a .out .now) (header (a .t)) (c .before .before .before .pre) in
+    let l0 = left-from-0 (a .out .now) (header (a .t)) (start .pre) in
     piece-fits p (q ++ (r ++ (s ++ e))) l0
 
 slice-aggregate-write-said-2 : tie.Need-slice-aggregate-write-said-2
@@ -31,14 +28,15 @@ slice-aggregate-write-said-2 c = search needs
 
 write-said-requires-2 : tie.Need-write-said-requires-2
 unfolding header
-write-said-requires-2 c κs = 
-    let a = c .before .before .before .before .before .before .before .before .args in
+write-said-requires-2 c κs =
+    let start = c .before .before .before .before .before .before .before .before in
+    let a = start .args in
     let p = said (text "contours ") (a .t .contours) in
     let q = said (text " shapes ") (a .t .shapes) in
     let r = said (text " points ") (a .t .points) in
     let s = said (text " dropped ") (a .t .dropped) in
     let e = text "\n" in
-    let l0 = left-from-0 (a .out .now) (header (a .t)) (c .before .before .before .before .before .before .before .before .pre) in
+    let l0 = left-from-0 (a .out .now) (header (a .t)) (start .pre) in
     let l1 = left-after p (q ++ (r ++ (s ++ e))) l0 (c .before .before .before .before .write-said .ensures) in
     piece-fits q (r ++ (s ++ e)) l1
 
@@ -47,14 +45,15 @@ slice-aggregate-write-said-3 c = search needs
 
 write-said-requires-3 : tie.Need-write-said-requires-3
 unfolding header
-write-said-requires-3 c κs = 
-    let a = c .before .before .before .before .before .before .before .before .before .before .before .before .before .args in
+write-said-requires-3 c κs =
+    let start = c .before .before .before .before .before .before .before .before .before .before .before .before .before in
+    let a = start .args in
     let p = said (text "contours ") (a .t .contours) in
     let q = said (text " shapes ") (a .t .shapes) in
     let r = said (text " points ") (a .t .points) in
     let s = said (text " dropped ") (a .t .dropped) in
     let e = text "\n" in
-    let l0 = left-from-0 (a .out .now) (header (a .t)) (c .before .before .before .before .before .before .before .before .before .before .before .before .before .pre) in
+    let l0 = left-from-0 (a .out .now) (header (a .t)) (start .pre) in
     let l1 = left-after p (q ++ (r ++ (s ++ e))) l0 (c .before .before .before .before .before .before .before .before .before .write-said .ensures) in
     let l2 = left-after q (r ++ (s ++ e)) l1 (c .before .before .before .before .write-said2 .ensures) in
     piece-fits r (s ++ e) l2
@@ -64,14 +63,15 @@ slice-aggregate-write-said-4 c = search needs
 
 write-said-requires-4 : tie.Need-write-said-requires-4
 unfolding header
-write-said-requires-4 c κs = 
-    let a = c .before .before .before .before .before .before .before .before .before .before .before .before .before .before .before .before .before .before .args in
+write-said-requires-4 c κs =
+    let start = c .before .before .before .before .before .before .before .before .before .before .before .before .before .before .before .before .before .before in
+    let a = start .args in
     let p = said (text "contours ") (a .t .contours) in
     let q = said (text " shapes ") (a .t .shapes) in
     let r = said (text " points ") (a .t .points) in
     let s = said (text " dropped ") (a .t .dropped) in
     let e = text "\n" in
-    let l0 = left-from-0 (a .out .now) (header (a .t)) (c .before .before .before .before .before .before .before .before .before .before .before .before .before .before .before .before .before .before .pre) in
+    let l0 = left-from-0 (a .out .now) (header (a .t)) (start .pre) in
     let l1 = left-after p (q ++ (r ++ (s ++ e))) l0 (c .before .before .before .before .before .before .before .before .before .before .before .before .before .before .write-said .ensures) in
     let l2 = left-after q (r ++ (s ++ e)) l1 (c .before .before .before .before .before .before .before .before .before .write-said2 .ensures) in
     let l3 = left-after r (s ++ e) l2 (c .before .before .before .before .write-said3 .ensures) in
@@ -82,14 +82,15 @@ slice-aggregate-write-text c = search needs
 
 write-text-requires : tie.Need-write-text-requires
 unfolding header
-write-text-requires c κs = 
-    let a = c .before .before .before .before .before .before .before .before .before .before .before .before .before .before .before .before .before .before .before .before .before .before .before .args in
+write-text-requires c κs =
+    let start = c .before .before .before .before .before .before .before .before .before .before .before .before .before .before .before .before .before .before .before .before .before .before .before in
+    let a = start .args in
     let p = said (text "contours ") (a .t .contours) in
     let q = said (text " shapes ") (a .t .shapes) in
     let r = said (text " points ") (a .t .points) in
     let s = said (text " dropped ") (a .t .dropped) in
     let e = text "\n" in
-    let l0 = left-from-0 (a .out .now) (header (a .t)) (c .before .before .before .before .before .before .before .before .before .before .before .before .before .before .before .before .before .before .before .before .before .before .before .pre) in
+    let l0 = left-from-0 (a .out .now) (header (a .t)) (start .pre) in
     let l1 = left-after p (q ++ (r ++ (s ++ e))) l0 (c .before .before .before .before .before .before .before .before .before .before .before .before .before .before .before .before .before .before .before .write-said .ensures) in
     let l2 = left-after q (r ++ (s ++ e)) l1 (c .before .before .before .before .before .before .before .before .before .before .before .before .before .before .write-said2 .ensures) in
     let l3 = left-after r (s ++ e) l2 (c .before .before .before .before .before .before .before .before .before .write-said3 .ensures) in
@@ -101,14 +102,15 @@ same-length c = search needs
 
 returns : tie.Need-returns
 unfolding header
-returns c = 
-    let a = c .before .before .before .before .before .before .before .before .before .before .before .before .before .before .before .before .before .before .before .before .before .before .before .before .before .before .args in
+returns c =
+    let start = c .before .before .before .before .before .before .before .before .before .before .before .before .before .before .before .before .before .before .before .before .before .before .before .before .before .before in
+    let a = start .args in
     let p = said (text "contours ") (a .t .contours) in
     let q = said (text " shapes ") (a .t .shapes) in
     let r = said (text " points ") (a .t .points) in
     let s = said (text " dropped ") (a .t .dropped) in
     let e = text "\n" in
-    let l0 = left-from-0 (a .out .now) (header (a .t)) (c .before .before .before .before .before .before .before .before .before .before .before .before .before .before .before .before .before .before .before .before .before .before .before .before .before .before .pre) in
+    let l0 = left-from-0 (a .out .now) (header (a .t)) (start .pre) in
     let l1 = left-after p (q ++ (r ++ (s ++ e))) l0 (c .before .before .before .before .before .before .before .before .before .before .before .before .before .before .before .before .before .before .before .before .before .before .write-said .ensures) in
     let l2 = left-after q (r ++ (s ++ e)) l1 (c .before .before .before .before .before .before .before .before .before .before .before .before .before .before .before .before .before .write-said2 .ensures) in
     let l3 = left-after r (s ++ e) l2 (c .before .before .before .before .before .before .before .before .before .before .before .before .write-said3 .ensures) in

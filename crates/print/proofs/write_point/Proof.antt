@@ -1,20 +1,17 @@
+-- `print::write_point` meets its contract.
 use mathlib.Core.List.{_++_}
 use Rattle.print.proofs.Points.{again, point-left}
 use Rattle.print.specs.Text.{text}
-use Rattle.print.specs.Decimal.{decimal, decimalZ}
-use Rattle.print.specs.Answer.{said, roleText, header, contourLine, pointLine}
-use Rattle.print.specs.Write.{left-all, left-from-0, left-after, left-last, piece-fits, last-fits}
+use Rattle.print.specs.Decimal.{decimalZ}
+use Rattle.print.specs.Answer.{pointLine}
+use Rattle.print.specs.Write.{left-after, left-last, piece-fits, last-fits}
 use borrow.Author.Needs.{needs}
 use Rattle.print.proofs.write_point.Statement.{statement}
 use Rattle.print.proofs.write_point.Tie as tie
-use Rattle.print.proofs.write_point.Reads as reads
-use Rattle.print.proofs.write_point.Lts as lts
-use Rattle.print.proofs.write_signed.Reads as write-signed-reads
-use Rattle.print.proofs.write_text.Reads as write-text-reads
 
 write-signed-requires : tie.Need-write-signed-requires
 unfolding pointLine
-write-signed-requires c κs = 
+write-signed-requires c κs =
     let a = c .before .before .args in
     let p = decimalZ (again (a .x)) in
     let q = text " " in
@@ -28,25 +25,27 @@ slice-aggregate-write-text c = search needs
 
 write-text-requires : tie.Need-write-text-requires
 unfolding pointLine
-write-text-requires c κs = 
-    let a = c .before .before .before .before .before .before .before .args in
+write-text-requires c κs =
+    let s = c .before .before .before .before .before .before .before in
+    let a = s .args in
     let p = decimalZ (again (a .x)) in
     let q = text " " in
     let r = decimalZ (again (a .y)) in
     let e = text "\n" in
-    let l0 = point-left (a .x) (a .y) (c .before .before .before .before .before .before .before .fits .x) (c .before .before .before .before .before .before .before .fits .y) (a .out .now) (a .at) (c .before .before .before .before .before .before .before .pre) in
+    let l0 = point-left (a .x) (a .y) (s .fits .x) (s .fits .y) (a .out .now) (a .at) (s .pre) in
     let l1 = left-after p (q ++ (r ++ e)) l0 (c .before .before .before .before .write-signed .ensures) in
     piece-fits q (r ++ e) l1
 
 write-signed-requires-2 : tie.Need-write-signed-requires-2
 unfolding pointLine
-write-signed-requires-2 c κs = 
-    let a = c .before .before .before .before .before .before .before .before .before .before .before .args in
+write-signed-requires-2 c κs =
+    let s = c .before .before .before .before .before .before .before .before .before .before .before in
+    let a = s .args in
     let p = decimalZ (again (a .x)) in
     let q = text " " in
     let r = decimalZ (again (a .y)) in
     let e = text "\n" in
-    let l0 = point-left (a .x) (a .y) (c .before .before .before .before .before .before .before .before .before .before .before .fits .x) (c .before .before .before .before .before .before .before .before .before .before .before .fits .y) (a .out .now) (a .at) (c .before .before .before .before .before .before .before .before .before .before .before .pre) in
+    let l0 = point-left (a .x) (a .y) (s .fits .x) (s .fits .y) (a .out .now) (a .at) (s .pre) in
     let l1 = left-after p (q ++ (r ++ e)) l0 (c .before .before .before .before .before .before .before .before .write-signed .ensures) in
     let l2 = left-after q (r ++ e) l1 (c .before .before .before .write-text .ensures) in
     piece-fits r e l2
@@ -56,13 +55,14 @@ slice-aggregate-write-text-2 c = search needs
 
 write-text-requires-2 : tie.Need-write-text-requires-2
 unfolding pointLine
-write-text-requires-2 c κs = 
-    let a = c .before .before .before .before .before .before .before .before .before .before .before .before .before .before .before .before .args in
+write-text-requires-2 c κs =
+    let s = c .before .before .before .before .before .before .before .before .before .before .before .before .before .before .before .before in
+    let a = s .args in
     let p = decimalZ (again (a .x)) in
     let q = text " " in
     let r = decimalZ (again (a .y)) in
     let e = text "\n" in
-    let l0 = point-left (a .x) (a .y) (c .before .before .before .before .before .before .before .before .before .before .before .before .before .before .before .before .fits .x) (c .before .before .before .before .before .before .before .before .before .before .before .before .before .before .before .before .fits .y) (a .out .now) (a .at) (c .before .before .before .before .before .before .before .before .before .before .before .before .before .before .before .before .pre) in
+    let l0 = point-left (a .x) (a .y) (s .fits .x) (s .fits .y) (a .out .now) (a .at) (s .pre) in
     let l1 = left-after p (q ++ (r ++ e)) l0 (c .before .before .before .before .before .before .before .before .before .before .before .before .before .write-signed .ensures) in
     let l2 = left-after q (r ++ e) l1 (c .before .before .before .before .before .before .before .before .write-text .ensures) in
     let l3 = left-after r e l2 (c .before .before .before .before .write-signed2 .ensures) in
@@ -73,13 +73,14 @@ same-length c = search needs
 
 returns : tie.Need-returns
 unfolding pointLine
-returns c = 
-    let a = c .before .before .before .before .before .before .before .before .before .before .before .before .before .before .before .before .before .before .before .args in
+returns c =
+    let s = c .before .before .before .before .before .before .before .before .before .before .before .before .before .before .before .before .before .before .before in
+    let a = s .args in
     let p = decimalZ (again (a .x)) in
     let q = text " " in
     let r = decimalZ (again (a .y)) in
     let e = text "\n" in
-    let l0 = point-left (a .x) (a .y) (c .before .before .before .before .before .before .before .before .before .before .before .before .before .before .before .before .before .before .before .fits .x) (c .before .before .before .before .before .before .before .before .before .before .before .before .before .before .before .before .before .before .before .fits .y) (a .out .now) (a .at) (c .before .before .before .before .before .before .before .before .before .before .before .before .before .before .before .before .before .before .before .pre) in
+    let l0 = point-left (a .x) (a .y) (s .fits .x) (s .fits .y) (a .out .now) (a .at) (s .pre) in
     let l1 = left-after p (q ++ (r ++ e)) l0 (c .before .before .before .before .before .before .before .before .before .before .before .before .before .before .before .before .write-signed .ensures) in
     let l2 = left-after q (r ++ e) l1 (c .before .before .before .before .before .before .before .before .before .before .before .write-text .ensures) in
     let l3 = left-after r e l2 (c .before .before .before .before .before .before .before .write-signed2 .ensures) in

@@ -1,14 +1,10 @@
-use Prim.Native.Nat.{ℕ, _+_, _-_, _*_}
+-- `print::write_points` meets its contract.
+use Prim.Native.Nat.{_+_, _-_}
 use mathlib.Core.Path.{refl}
 use native.Mathlib.Omega.{arith}
-use borrow.Author.Needs.{needs}
-use lib.ListN.{length}
 use Rattle.print.proofs.Points.{Pointing, pointing-first, pointing-fits, pointing-next, pointing-last}
 use Rattle.print.proofs.write_points.Statement.{statement}
 use Rattle.print.proofs.write_points.Tie as tie
-use Rattle.print.proofs.write_points.Reads as reads
-use Rattle.print.proofs.write_points.Lts as lts
-use Rattle.print.proofs.write_point.Reads as write-point-reads
 
 abbrev Inv-loop : tie.InvT-loop
 Inv-loop points first count out₀ at end p₀ next₀ out p next = Pointing points first count out₀ at end out p next
@@ -23,22 +19,32 @@ loop-holds : tie.Need-loop-holds Inv-loop μ-loop
 loop-holds c = pointing-first _ _ _ _ _ _ (c .before .pre .1) refl
 
 mul-x : tie.Need-mul-x Inv-loop μ-loop
-mul-x c = let w = c .before .loop .inv in omega (arith, w .end-is, c .before .before .before .pre .0, c .before .before .before .good)
+mul-x c =
+    let s = c .before .before .before in
+    let w = c .before .loop .inv in omega (arith, w .end-is, s .pre .0, s .good)
 
 mul-x-2 : tie.Need-mul-x-2 Inv-loop μ-loop
-mul-x-2 c = let w = c .before .loop .inv in omega (arith, w .end-is, c .before .before .before .pre .0, c .before .before .before .good)
+mul-x-2 c =
+    let s = c .before .before .before in
+    let w = c .before .loop .inv in omega (arith, w .end-is, s .pre .0, s .good)
 
 shared-slice-copy-out-x : tie.Need-shared-slice-copy-out-x Inv-loop μ-loop
 shared-slice-copy-out-x c = let w = c .before .loop .inv in omega (arith, w .end-is, c .before .before .before .pre .0)
 
 mul-y : tie.Need-mul-y Inv-loop μ-loop
-mul-y c = let w = c .before .before .loop .inv in omega (arith, w .end-is, c .before .before .before .before .pre .0, c .before .before .before .before .good)
+mul-y c =
+    let s = c .before .before .before .before in
+    let w = c .before .before .loop .inv in omega (arith, w .end-is, s .pre .0, s .good)
 
 add-y : tie.Need-add-y Inv-loop μ-loop
-add-y c = let w = c .before .before .loop .inv in omega (arith, w .end-is, c .before .before .before .before .pre .0, c .before .before .before .before .good)
+add-y c =
+    let s = c .before .before .before .before in
+    let w = c .before .before .loop .inv in omega (arith, w .end-is, s .pre .0, s .good)
 
 mul-y-2 : tie.Need-mul-y-2 Inv-loop μ-loop
-mul-y-2 c = let w = c .before .before .loop .inv in omega (arith, w .end-is, c .before .before .before .before .pre .0, c .before .before .before .before .good)
+mul-y-2 c =
+    let s = c .before .before .before .before in
+    let w = c .before .before .loop .inv in omega (arith, w .end-is, s .pre .0, s .good)
 
 shared-slice-copy-out-y : tie.Need-shared-slice-copy-out-y Inv-loop μ-loop
 shared-slice-copy-out-y c = let w = c .before .before .loop .inv in omega (arith, w .end-is, c .before .before .before .before .pre .0)

@@ -1,26 +1,25 @@
+-- `print::write_refusal` meets its contract.
 use mathlib.Core.List.{_++_}
 use native.Mathlib.Nat.{le-trans}
 use Rattle.print.proofs.Lengths.{refusal-short}
 use Rattle.print.specs.Text.{text}
 use Rattle.print.specs.Answer.{said, printedRefusal}
-use Rattle.print.specs.Write.{Left, left-from-0, left-after, left-last, piece-fits, last-fits, counted}
+use Rattle.print.specs.Write.{left-from-0, left-after, left-last, piece-fits, last-fits, counted}
 use borrow.Author.Needs.{needs}
 use Rattle.print.proofs.write_refusal.Statement.{statement}
 use Rattle.print.proofs.write_refusal.Tie as tie
-use Rattle.print.proofs.write_refusal.Reads as reads
-use Rattle.print.proofs.write_refusal.Lts as lts
-use Rattle.print.proofs.write_said.Reads as write-said-reads
-use Rattle.print.proofs.write_text.Reads as write-text-reads
 
 slice-aggregate-write-said : tie.Need-slice-aggregate-write-said
 slice-aggregate-write-said c = search needs
 
 write-said-requires : tie.Need-write-said-requires
 unfolding printedRefusal
-write-said-requires c κs = let a = c .before .before .before .args in
+write-said-requires c κs =
+    let s = c .before .before .before in
+    let a = s .args in
     let p = said (text "refused ") (a .number) in
     let q = said (text " at ") (a .place) in
-    let l = left-from-0 (a .out .now) (printedRefusal (a .number) (a .place)) (le-trans (refusal-short (a .number) (a .place) (c .before .before .before .fits .number .fits) (c .before .before .before .fits .place .fits)) (c .before .before .before .pre)) in
+    let l = left-from-0 (a .out .now) (printedRefusal (a .number) (a .place)) (le-trans (refusal-short (a .number) (a .place) (s .fits .number .fits) (s .fits .place .fits)) (s .pre)) in
     piece-fits p (q ++ text "\n") l
 
 slice-aggregate-write-said-2 : tie.Need-slice-aggregate-write-said-2
@@ -28,10 +27,12 @@ slice-aggregate-write-said-2 c = search needs
 
 write-said-requires-2 : tie.Need-write-said-requires-2
 unfolding printedRefusal
-write-said-requires-2 c κs = let a = c .before .before .before .before .before .before .before .before .args in
+write-said-requires-2 c κs =
+    let s = c .before .before .before .before .before .before .before .before in
+    let a = s .args in
     let p = said (text "refused ") (a .number) in
     let q = said (text " at ") (a .place) in
-    let l = left-from-0 (a .out .now) (printedRefusal (a .number) (a .place)) (le-trans (refusal-short (a .number) (a .place) (c .before .before .before .before .before .before .before .before .fits .number .fits) (c .before .before .before .before .before .before .before .before .fits .place .fits)) (c .before .before .before .before .before .before .before .before .pre)) in
+    let l = left-from-0 (a .out .now) (printedRefusal (a .number) (a .place)) (le-trans (refusal-short (a .number) (a .place) (s .fits .number .fits) (s .fits .place .fits)) (s .pre)) in
     piece-fits q (text "\n") (left-after p (q ++ text "\n") l (c .before .before .before .before .write-said .ensures))
 
 slice-aggregate-write-text : tie.Need-slice-aggregate-write-text
@@ -39,10 +40,12 @@ slice-aggregate-write-text c = search needs
 
 write-text-requires : tie.Need-write-text-requires
 unfolding printedRefusal
-write-text-requires c κs = let a = c .before .before .before .before .before .before .before .before .before .before .before .before .before .args in
+write-text-requires c κs =
+    let s = c .before .before .before .before .before .before .before .before .before .before .before .before .before in
+    let a = s .args in
     let p = said (text "refused ") (a .number) in
     let q = said (text " at ") (a .place) in
-    let l = left-from-0 (a .out .now) (printedRefusal (a .number) (a .place)) (le-trans (refusal-short (a .number) (a .place) (c .before .before .before .before .before .before .before .before .before .before .before .before .before .fits .number .fits) (c .before .before .before .before .before .before .before .before .before .before .before .before .before .fits .place .fits)) (c .before .before .before .before .before .before .before .before .before .before .before .before .before .pre)) in
+    let l = left-from-0 (a .out .now) (printedRefusal (a .number) (a .place)) (le-trans (refusal-short (a .number) (a .place) (s .fits .number .fits) (s .fits .place .fits)) (s .pre)) in
     last-fits (text "\n") (left-after q (text "\n") (left-after p (q ++ text "\n") l (c .before .before .before .before .before .before .before .before .before .write-said .ensures)) (c .before .before .before .before .write-said2 .ensures))
 
 same-length : tie.Need-same-length
@@ -50,12 +53,14 @@ same-length c = search needs
 
 returns : tie.Need-returns
 unfolding printedRefusal
-returns c = let a = c .before .before .before .before .before .before .before .before .before .before .before .before .before .before .before .before .args in
+returns c =
+    let s = c .before .before .before .before .before .before .before .before .before .before .before .before .before .before .before .before in
+    let a = s .args in
     let p = said (text "refused ") (a .number) in
     let q = said (text " at ") (a .place) in
-    let l = left-from-0 (a .out .now) (printedRefusal (a .number) (a .place)) (le-trans (refusal-short (a .number) (a .place) (c .before .before .before .before .before .before .before .before .before .before .before .before .before .before .before .before .fits .number .fits) (c .before .before .before .before .before .before .before .before .before .before .before .before .before .before .before .before .fits .place .fits)) (c .before .before .before .before .before .before .before .before .before .before .before .before .before .before .before .before .pre)) in
+    let l = left-from-0 (a .out .now) (printedRefusal (a .number) (a .place)) (le-trans (refusal-short (a .number) (a .place) (s .fits .number .fits) (s .fits .place .fits)) (s .pre)) in
     let w = left-last (text "\n") (left-after q (text "\n") (left-after p (q ++ text "\n") l (c .before .before .before .before .before .before .before .before .before .before .before .before .write-said .ensures)) (c .before .before .before .before .before .before .before .write-said2 .ensures)) (c .before .before .write-text .ensures) in
-    (w, counted (le-trans (refusal-short (a .number) (a .place) (c .before .before .before .before .before .before .before .before .before .before .before .before .before .before .before .before .fits .number .fits) (c .before .before .before .before .before .before .before .before .before .before .before .before .before .before .before .before .fits .place .fits)) (c .before .before .before .before .before .before .before .before .before .before .before .before .before .before .before .before .pre)) w)
+    (w, counted (le-trans (refusal-short (a .number) (a .place) (s .fits .number .fits) (s .fits .place .fits)) (s .pre)) w)
 
 pub write-refusal-spec : {M : Type 1} → statement M
 write-refusal-spec =

@@ -1,10 +1,8 @@
+-- `print::write_role` meets its contract.
 use borrow.Author.Tests.{eq-eqb, ne-eqb}
 use borrow.Author.Needs.{needs}
 use Rattle.print.proofs.write_role.Statement.{statement}
 use Rattle.print.proofs.write_role.Tie as tie
-use Rattle.print.proofs.write_role.Reads as reads
-use Rattle.print.proofs.write_role.Lts as lts
-use Rattle.print.proofs.write_said.Reads as write-said-reads
 
 slice-aggregate-write-said : tie.Need-slice-aggregate-write-said
 slice-aggregate-write-said c = search needs

@@ -1,11 +1,10 @@
-use Prim.Native.Nat.{_+_, _-_}
+-- `print::write_text` meets its contract.
+use Prim.Native.Nat.{_-_}
 use native.Mathlib.Omega.{arith}
 use lib.ListN.{length}
 use Rattle.print.proofs.Copy.{Copying, copying-first, copying-fits, copying-next, copying-last}
 use Rattle.print.proofs.write_text.Statement.{statement}
 use Rattle.print.proofs.write_text.Tie as tie
-use Rattle.print.proofs.write_text.Reads as reads
-use Rattle.print.proofs.write_text.Lts as lts
 
 abbrev Inv-loop : tie.InvT-loop
 Inv-loop word out₀ at i₀ out i = Copying word out₀ out at i
@@ -20,7 +19,9 @@ shared-slice-read-out : tie.Need-shared-slice-read-out Inv-loop μ-loop
 shared-slice-read-out c = c .before .loop-test .taken
 
 add-out : tie.Need-add-out Inv-loop μ-loop
-add-out c = omega (arith, c .before .before .before .pre, c .before .before .before .good)
+add-out c =
+    let s = c .before .before .before in
+    omega (arith, s .pre, s .good)
 
 slice-write-out : tie.Need-slice-write-out Inv-loop μ-loop
 slice-write-out c = copying-fits _ _ _ _ _ (c .before .before .loop .inv) (c .before .loop-test .taken)

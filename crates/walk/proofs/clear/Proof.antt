@@ -1,3 +1,4 @@
+-- `walk::clear` meets its contract, a promise of each buffer's function in turn.
 use borrow.Author.Needs.{needs}
 use Rattle.walk.proofs.clear.Statement.{statement}
 use Rattle.walk.proofs.clear.Tie as tie
@@ -8,49 +9,38 @@ use Rattle.walk.proofs.zero_bytes.Reads as zero-bytes-reads
 use Rattle.walk.proofs.zero_numbers.Reads as zero-numbers-reads
 use Rattle.walk.proofs.zero_points.Reads as zero-points-reads
 
--- src/lib.rt:569:5
 restore-requires : tie.Need-restore-requires
 restore-requires c κs = search needs
 
--- src/lib.rt:570:5
 zero-points-requires : tie.Need-zero-points-requires
 zero-points-requires c κs = search needs
 
--- src/lib.rt:571:5
 zero-numbers-requires : tie.Need-zero-numbers-requires
 zero-numbers-requires c κs = search needs
 
--- src/lib.rt:572:5
 zero-numbers-requires-2 : tie.Need-zero-numbers-requires-2
 zero-numbers-requires-2 c κs = search needs
 
--- src/lib.rt:573:5
 zero-bytes-requires : tie.Need-zero-bytes-requires
 zero-bytes-requires c κs = search needs
 
--- src/lib.rt:556:1
 same-length : tie.Need-same-length
 same-length c = search needs
 
--- src/lib.rt:556:1
 same-length-2 : tie.Need-same-length-2
 same-length-2 c = search needs
 
--- src/lib.rt:556:1
 same-length-3 : tie.Need-same-length-3
 same-length-3 c = search needs
 
--- src/lib.rt:556:1
 same-length-4 : tie.Need-same-length-4
 same-length-4 c = search needs
 
--- src/lib.rt:556:1
 same-length-5 : tie.Need-same-length-5
 same-length-5 c = search needs
 
--- src/lib.rt:556:1
 returns : tie.Need-returns
-returns c = (c .before .before .before .before .before .before .before .before .before .before .before .before .before .before .before .before .before .restore .ensures, (c .before .before .before .before .before .before .before .before .before .before .before .before .before .zero-points .ensures, (c .before .before .before .before .before .before .before .before .before .before .zero-numbers .ensures, (c .before .before .before .before .before .before .zero-numbers2 .ensures, c .before .before .zero-bytes .ensures))))
+returns c = (search needs, (search needs, (search needs, (search needs, search needs))))
 
 pub clear-spec : {M : Type 1} → statement M
 clear-spec =

@@ -1,3 +1,4 @@
+-- `walk::end_node` meets its contract: by the list that is chosen.
 use borrow.Author.Needs.{needs}
 use Rattle.walk.proofs.end_node.Statement.{statement}
 use Rattle.walk.proofs.end_node.Tie as tie
@@ -5,19 +6,15 @@ use Rattle.walk.proofs.end_node.Reads as reads
 use Rattle.walk.proofs.end_node.Lts as lts
 use Rattle.walk.proofs.node_at.Reads as node-at-reads
 
--- src/lib.rt:100:16
 node-at-requires : tie.Need-node-at-requires
 node-at-requires c κs = search needs
 
--- src/lib.rt:100:41
 node-at-requires-2 : tie.Need-node-at-requires-2
 node-at-requires-2 c κs = search needs
 
--- src/lib.rt:96:1
 returns : tie.Need-returns
 returns c = rw (c .before .if1 .taken) (c .node-at .ensures)
 
--- src/lib.rt:96:1
 returns-2 : tie.Need-returns-2
 returns-2 c = rw (c .before .if1 .left) (c .node-at2 .ensures)
 

@@ -1,3 +1,4 @@
+-- `walk::end_point` meets its contract: by the end that is chosen.
 use mir.Syntax.{w32}
 use mir.ValLaws.{toZ-ofZ}
 use borrow.Author.Needs.{sfits-of}
@@ -7,43 +8,33 @@ use Rattle.walk.proofs.end_point.Tie as tie
 use Rattle.walk.proofs.end_point.Reads as reads
 use Rattle.walk.proofs.end_point.Lts as lts
 
--- src/lib.rt:62:20
 mul-t9 : tie.Need-mul-t9
 mul-t9 c = search needs
 
--- src/lib.rt:62:20
 shared-slice-copy-out-t11 : tie.Need-shared-slice-copy-out-t11
 shared-slice-copy-out-t11 c = search needs
 
--- src/lib.rt:62:30
 mul-t12 : tie.Need-mul-t12
 mul-t12 c = search needs
 
--- src/lib.rt:62:30
 shared-slice-copy-out-t14 : tie.Need-shared-slice-copy-out-t14
 shared-slice-copy-out-t14 c = search needs
 
--- src/lib.rt:64:20
 mul-t15 : tie.Need-mul-t15
 mul-t15 c = search needs
 
--- src/lib.rt:64:20
 shared-slice-copy-out-t17 : tie.Need-shared-slice-copy-out-t17
 shared-slice-copy-out-t17 c = search needs
 
--- src/lib.rt:64:30
 mul-t18 : tie.Need-mul-t18
 mul-t18 c = search needs
 
--- src/lib.rt:64:30
 shared-slice-copy-out-t20 : tie.Need-shared-slice-copy-out-t20
 shared-slice-copy-out-t20 c = search needs
 
--- src/lib.rt:50:1
 returns : tie.Need-returns
 returns c = rw (c .before .before .if1 .taken, toZ-ofZ w32 _ (sfits-of (c .before .t11 .given)), toZ-ofZ w32 _ (sfits-of (c .t14 .given)))
 
--- src/lib.rt:50:1
 returns-2 : tie.Need-returns-2
 returns-2 c = rw (c .before .before .if1 .left, toZ-ofZ w32 _ (sfits-of (c .before .t17 .given)), toZ-ofZ w32 _ (sfits-of (c .t20 .given)))
 

@@ -1,5 +1,6 @@
-use mathlib.Core.Path.{_≡_, refl, sym, ap, _∙_}
-use Rattle.graph.specs.Graph.{Lent, lent, graphOf}
+-- `walk::extract` meets its contract: a refusal of the checks leaves everything as it was, else the scan follows.
+use mathlib.Core.Path.{sym, _∙_}
+use Rattle.graph.specs.Graph.{Lent, lent}
 use Rattle.walk.specs.Extract.{Buffers, buffers}
 use Rattle.walk.proofs.Answers.{after-refusal, after-fine}
 use borrow.Author.Needs.{needs}
@@ -16,51 +17,39 @@ g s = lent (s .args .ax .now) (s .args .ay .now) (s .args .bx .now) (s .args .by
 abbrev b : tie.Start → Buffers
 b s = buffers (s .args .state .now) (s .args .points .now) (s .args .first .now) (s .args .len .now) (s .args .kind .now)
 
--- src/lib.rt:609:11
 check-graph-requires : tie.Need-check-graph-requires
 check-graph-requires c κs = search needs
 
--- src/lib.rt:610:28
 enum-known-number : tie.Need-enum-known-number
 enum-known-number c = search needs
 
--- src/lib.rt:611:103
 enum-told : tie.Need-enum-told
 enum-told c = search needs
 
--- src/lib.rt:611:26
 extract-fine-requires : tie.Need-extract-fine-requires
 extract-fine-requires c κs = sym (c .before .before .before .before .before .before .before .check-graph .ensures) ∙ c .before .before .before .before .before .enum-told .given .1
 
--- src/lib.rt:588:1
 same-length : tie.Need-same-length
 same-length c = search needs
 
--- src/lib.rt:588:1
 returns : tie.Need-returns
 returns c = let s = c .before .before .before .before .before .before .before .before .before .before .before .before .before .before in after-refusal (g s) (s .args .top .now) (s .args .clockwise) (s .args .minimum) (b s) _ _ (sym (c .before .before .before .check-graph .ensures) ∙ c .before .number .given .1)
 
--- src/lib.rt:588:1
 same-length-2 : tie.Need-same-length-2
 same-length-2 c = search needs
 
--- src/lib.rt:588:1
 same-length-3 : tie.Need-same-length-3
 same-length-3 c = search needs
 
--- src/lib.rt:588:1
 same-length-4 : tie.Need-same-length-4
 same-length-4 c = search needs
 
--- src/lib.rt:588:1
 same-length-5 : tie.Need-same-length-5
 same-length-5 c = search needs
 
--- src/lib.rt:588:1
 same-length-6 : tie.Need-same-length-6
 same-length-6 c = search needs
 
--- src/lib.rt:588:1
 returns-2 : tie.Need-returns-2
 returns-2 c = let s = c .before .before .before .before .before .before .before .before .before .before .before .before .before .before .before .before .before .before .before .before .before .before .before .before .before .before .before .before in c .before .before .before .before .before .before .before .before .before .extract-fine .ensures ∙ after-fine (g s) (s .args .top .now) (s .args .clockwise) (s .args .minimum) (b s) (sym (c .before .before .before .before .before .before .before .before .before .before .before .before .before .before .before .before .before .check-graph .ensures) ∙ c .before .before .before .before .before .before .before .before .before .before .before .before .before .before .before .enum-told .given .1)
 

@@ -1,12 +1,11 @@
-use Prim.Native.Nat.{ℕ, _+_, _*_, _≤_, _<_}
-use mathlib.Core.Path.{_≡_, refl, sym, ap, _∙_, subst}
-use mathlib.Core.List.{List}
+-- `walk::extract_fine` meets its contract: the checks give the scan what it asks for; then a refusal clears, and success trims.
+use Prim.Native.Nat.{_≤_}
+use mathlib.Core.Path.{subst}
 use native.Mathlib.Omega.{arith}
 use lib.ListN.{length}
 use Rattle.graph.specs.Graph.{Lent, lent, graphOf}
 use Rattle.graph.specs.Checks.{room}
 use Rattle.graph.specs.Fine.{FineGraph, fine}
-use Rattle.walk.specs.declared.Counts.{Counts}
 use Rattle.walk.specs.Walk.{scan}
 use Rattle.walk.specs.Extract.{Buffers, buffers}
 use Rattle.walk.specs.Code.{Ends, Within, Roomy, tables, noCounts}
@@ -38,27 +37,22 @@ at-start o = o .before .before .before .before .before .before .before .before .
 within : (c : tie.After-c) → Within (length (at-start (c .before .before .before .before .before .before .before .before .before .before .before) .args .state .now)) 0 (c .c .given .0 .0)
 within c = subst (Ends (length (at-start (c .before .before .before .before .before .before .before .before .before .before .before) .args .state .now))) (c .c .given .1) (c .before .before .before .before .before .before .before .before .before .before .before .scan-links .ensures .1 .0)
 
--- src/lib.rt:575:11
 scan-links-requires : tie.Need-scan-links-requires
-scan-links-requires c κs = 
+scan-links-requires c κs =
     let s = c .before .before .before .before .before .before .before .before .before .before .before .before .before .before in
     ((shape-of (g s) (s .args .top .now) (s .args .state .now) _ _ _ _ (facts s), tops-long (g s) (s .args .top .now) (s .args .state .now) _ _ _ _ (facts s)), roomy s)
 
--- src/lib.rt:576:31
 enum-known-number : tie.Need-enum-known-number
 enum-known-number c = search needs
 
--- src/lib.rt:577:13
 clear-requires : tie.Need-clear-requires
 clear-requires c κs = search needs
 
--- src/lib.rt:580:26
 enum-known-c : tie.Need-enum-known-c
 enum-known-c c = search needs
 
--- src/lib.rt:581:13
 trim-requires : tie.Need-trim-requires
-trim-requires c κs = 
+trim-requires c κs =
     let k = c .before .before .before .before .before in
     let o = k .before .before .before .before .before .before .before .before .before .before .before in
     let s = at-start o in
@@ -67,29 +61,23 @@ trim-requires c κs =
     let f : k .c .given .0 .0 .contours ≤ length (s .args .first .now) = omega (arith, w .contours, w .points, w .links, r .first-room) in
     (omega (arith, w .points, w .links, r .points-room, o .scan-links .kept .1 .1 .1 .1 .1 .1 .1 .1 .1 .1 .1 .1 .0), omega (arith, f, o .scan-links .kept .1 .1 .1 .1 .1 .1 .1 .1 .1 .1 .1 .1 .1 .0), omega (arith, f, r .len-room, o .scan-links .kept .1 .1 .1 .1 .1 .1 .1 .1 .1 .1 .1 .1 .1 .1 .0), omega (arith, f, r .kind-room, o .scan-links .kept .1 .1 .1 .1 .1 .1 .1 .1 .1 .1 .1 .1 .1 .1 .1 .0))
 
--- src/lib.rt:553:1
 same-length : tie.Need-same-length
 same-length c = search needs
 
--- src/lib.rt:553:1
 same-length-2 : tie.Need-same-length-2
 same-length-2 c = search needs
 
--- src/lib.rt:553:1
 same-length-3 : tie.Need-same-length-3
 same-length-3 c = search needs
 
--- src/lib.rt:553:1
 same-length-4 : tie.Need-same-length-4
 same-length-4 c = search needs
 
--- src/lib.rt:553:1
 same-length-5 : tie.Need-same-length-5
 same-length-5 c = search needs
 
--- src/lib.rt:553:1
 returns : tie.Need-returns
-returns c = 
+returns c =
     let o = c .before .before .before .before .before .before .before .before .before .before .before .before .before .before .before .before .before .before .before .before .before .before .before .before .before .before .before in
     let s = at-start o in
     let e = c .before .before .before .before .before .before .before .before .before .clear .ensures in
@@ -99,29 +87,23 @@ returns c =
     (o .scan-links .kept .1 .1 .1 .1 .1 .1 .1 .1 .1 .1 .1 .1 .0) (o .scan-links .kept .1 .1 .1 .1 .1 .1 .1 .1 .1 .1 .1 .1 .1 .0) (o .scan-links .kept .1 .1 .1 .1 .1 .1 .1 .1 .1 .1 .1 .1 .1 .1 .0) (o .scan-links .kept .1 .1 .1 .1 .1 .1 .1 .1 .1 .1 .1 .1 .1 .1 .1 .0)
     _ _ _ _ _ (e .0) (e .1 .0) (e .1 .1 .0) (e .1 .1 .1 .0) (e .1 .1 .1 .1)
 
--- src/lib.rt:553:1
 same-length-6 : tie.Need-same-length-6
 same-length-6 c = search needs
 
--- src/lib.rt:553:1
 same-length-7 : tie.Need-same-length-7
 same-length-7 c = search needs
 
--- src/lib.rt:553:1
 same-length-8 : tie.Need-same-length-8
 same-length-8 c = search needs
 
--- src/lib.rt:553:1
 same-length-9 : tie.Need-same-length-9
 same-length-9 c = search needs
 
--- src/lib.rt:553:1
 same-length-10 : tie.Need-same-length-10
 same-length-10 c = search needs
 
--- src/lib.rt:553:1
 returns-2 : tie.Need-returns-2
-returns-2 c = 
+returns-2 c =
     let k = c .before .before .before .before .before .before .before .before .before .before .before .before .before in
     let o = k .before .before .before .before .before .before .before .before .before .before .before in
     let s = at-start o in

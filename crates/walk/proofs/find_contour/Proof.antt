@@ -1,13 +1,12 @@
-use Prim.Native.Nat.{ℕ, suc, _+_, _*_, _≤_, _<_}
-use mathlib.Core.Path.{_≡_, refl, sym, ap, _∙_}
-use mathlib.Core.Bool.{not}
+-- `walk::find_contour` meets its contract: the first link is marked, the last one is fixed, and the walk goes on.
+use Prim.Native.Nat.{ℕ, suc}
+use mathlib.Core.Path.{_≡_, refl, sym, _∙_}
 use mathlib.Core.List.{List, []}
 use native.Mathlib.Omega.{arith}
-use lib.ListN.{length, getD, set, length-set}
+use lib.ListN.{set, length-set}
 use Rattle.graph.specs.Graph.{Lent, lent}
 use Rattle.next.specs.Next.{unvisited}
-use Rattle.walk.specs.declared.Ended.{Ended}
-use Rattle.walk.specs.Code.{plain, Kept, Counted}
+use Rattle.walk.specs.Code.{plain, Kept}
 use Rattle.walk.proofs.Steps.{kept-mark, kept-then, fewer, end-there, starts-nowhere, starts-on, counted-on}
 use borrow.Author.Needs.{needs}
 use Rattle.walk.proofs.find_contour.Statement.{statement}
@@ -35,81 +34,69 @@ less s = fewer (st s) (s .args .s) (s .args .mark) (s .pre .1 .0 .2) (s .pre .1 
 mark-kept : (s : tie.Start) → Kept (st s) (marked s)
 mark-kept s = kept-mark (st s) (s .args .s) (s .args .mark) (s .pre .1 .0 .2) (s .pre .1 .0 .1)
 
--- src/lib.rt:292:9
 end-node-requires : tie.Need-end-node-requires
 end-node-requires c κs = search needs
 
--- src/lib.rt:293:9
 end-node-requires-2 : tie.Need-end-node-requires-2
 end-node-requires-2 c κs = search needs
 
--- src/lib.rt:294:9
 end-point-requires : tie.Need-end-point-requires
 end-point-requires c κs = search needs
 
--- src/lib.rt:295:5
 slice-write-state : tie.Need-slice-write-state
 slice-write-state c = search needs
 
--- src/lib.rt:296:5
 put-point-requires : tie.Need-put-point-requires
 put-point-requires c κs = let s = c .before .before .before .before .before .before .before .before .before in omega (arith, s .pre .1 .1, less s)
 
--- src/lib.rt:297:11
 next-link-requires : tie.Need-next-link-requires
-next-link-requires c κs = 
+next-link-requires c κs =
     let s = c .before .before .before .before .before .before .before .before .before .before .before .before in
     let e = length-set (st s) (s .args .s) (s .args .mark) in
     (rw e (s .pre .0 .links), (rw e (s .pre .0 .nodes), (rw (c .before .before .before .before .before .before .end-node .ensures) (end-there (g s) _ (s .args .s) (s .args .forward) (s .pre .0) (s .pre .1 .0 .0) .0), rw e (s .pre .1 .0 .0))))
 
--- src/lib.rt:298:26
 enum-told : tie.Need-enum-told
 enum-told c = search needs
 
--- src/lib.rt:299:20
 enum-known-last : tie.Need-enum-known-last
 enum-known-last c = search needs
 
--- src/lib.rt:303:26
 add-t30 : tie.Need-add-t30
 add-t30 c = let s = c .before .before .before .before .before .before .before .before .before .before .before .before .before .before .before .before in omega (arith, s .pre .1 .1, less s, s .good .1 .1 .1 .1 .1 .1 .1 .1 .1 .1 .1 .1 .0)
 
--- src/lib.rt:305:13
 walk-on-requires : tie.Need-walk-on-requires
-walk-on-requires c κs = 
+walk-on-requires c κs =
     let s = c .before .before .before .before .before .before .before .before .before .before .before .before .before .before .before .before .before .before in
-    let e = length-set (st s) (s .args .s) (s .args .mark) in
-    (rw e (s .pre .0), ((rw (c .before .before .before .before .before .before .before .before .before .before .before .end-node2 .ensures) (end-there (g s) _ (s .args .s) (s .args .forward) (s .pre .0) (s .pre .1 .0 .0) .1), rw e (s .pre .1 .0 .0), s .pre .1 .0 .2),
-    omega (arith, s .pre .1 .1, less s, c .before .before .before .before .before .before .before .before .put-point .kept .0)))
+    let e = length-set (st s) (s .args .s) (s .args .mark) in (
+      rw e (s .pre .0),
+      (
+        (rw (c .before .before .before .before .before .before .before .before .before .before .before .end-node2 .ensures) (end-there (g s) _ (s .args .s) (s .args .forward) (s .pre .0) (s .pre .1 .0 .0) .1), rw e (s .pre .1 .0 .0), s .pre .1 .0 .2),
+        omega (arith, s .pre .1 .1, less s, c .before .before .before .before .before .before .before .before .put-point .kept .0),
+      ),
+    )
 
--- src/lib.rt:268:1
 same-length : tie.Need-same-length
 same-length c = search needs
 
--- src/lib.rt:268:1
 same-length-2 : tie.Need-same-length-2
 same-length-2 c = search needs
 
--- src/lib.rt:268:1
 returns : tie.Need-returns
-returns c = 
+returns c =
     let s = c .before .before .before .before .before .before .before .before .before .before .before .before .before .before .before in (
       starts-nowhere (plain (g s)) (s .args .forward) (s .args .sense) (s .args .mark) (st s) (s .args .s) (s .args .points .now) (s .args .at) _ _ _ _ (c .before .before .before .before .before .before .before .before .before .end-node .ensures)
           (sym (c .enum-told .given .1) ∙ c .before .before .next-link .ensures .0 (s .args .bid .now) []) refl,
       (tt, mark-kept s),
     )
 
--- src/lib.rt:268:1
 same-length-3 : tie.Need-same-length-3
 same-length-3 c = let o = c .before .before .before in o .walk-on .ensures .1 .1 .len ∙ mark-kept (o .before .before .before .before .before .before .before .before .before .before .before .before .before .before .before .before .before .before .before) .len
 
--- src/lib.rt:268:1
 same-length-4 : tie.Need-same-length-4
 same-length-4 c = search needs
 
--- src/lib.rt:268:1
 returns-2 : tie.Need-returns-2
-returns-2 c = 
+returns-2 c =
     let o = c .before .before .before in
     let s = o .before .before .before .before .before .before .before .before .before .before .before .before .before .before .before .before .before .before .before in (
       starts-on (plain (g s)) (s .args .forward) (s .args .sense) (s .args .mark) (st s) (s .args .s) (s .args .points .now) (s .args .at) _ _ _ _ (o .before .before .before .before .before .before .before .before .before .before .before .before .before .end-node .ensures) _ _ _ _

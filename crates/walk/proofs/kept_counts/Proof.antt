@@ -1,9 +1,9 @@
-use Prim.Native.Nat.{ℕ, _+_, _*_, _≤_, _<_}
+-- `walk::kept_counts` meets its contract: the sums fit, since the counts stay within the links (`Within`).
+use Prim.Native.Nat.{_+_, _<_}
 use native.Mathlib.Omega.{arith}
 use mathlib.Core.Path.{refl}
 use lib.IntN.{natAbs, _+ℤ_}
 use Rattle.laws.specs.Bounds.{fits64, same64}
-use Rattle.turn.specs.Limits.{maxLinks}
 use Rattle.walk.proofs.Counting.{area-fits, sum-within}
 use borrow.Author.Needs.{needs}
 use Rattle.walk.proofs.kept_counts.Statement.{statement}
@@ -25,23 +25,18 @@ module _ (s : tie.Start) where
   both : natAbs (s .args .c .kept +ℤ s .args .area) < 9223372036854775808
   both = area-fits (s .args .c .kept +ℤ s .args .area) (s .args .c .walked + s .args .size) (sum-within (s .args .c .kept) (s .args .area) _ _ (s .pre .0 .kept) (s .pre .1)) (s .pre .0 .links)
 
--- src/lib.rt:319:16
 add-kept : tie.Need-add-kept
 add-kept c = let s = c .before .before in rw (same64 (s .args .c .kept) (small s), same64 (s .args .area) (one s)) (fits64 _ (both s))
 
--- src/lib.rt:322:19
 add-t6 : tie.Need-add-t6
 add-t6 c = search needs
 
--- src/lib.rt:323:17
 add-t7 : tie.Need-add-t7
 add-t7 c = search needs
 
--- src/lib.rt:325:17
 add-t8 : tie.Need-add-t8
 add-t8 c = search needs
 
--- src/lib.rt:315:1
 returns : tie.Need-returns
 returns c = let s = c .before .before .before .before .before .before in rw (same64 (s .args .c .kept) (small s), same64 (s .args .area) (one s), same64 (s .args .c .lost) (small′ s), same64 (s .args .c .kept +ℤ s .args .area) (both s)) refl
 

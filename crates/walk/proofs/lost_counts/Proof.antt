@@ -1,9 +1,9 @@
-use Prim.Native.Nat.{ℕ, _+_, _*_, _≤_, _<_}
+-- `walk::lost_counts` meets its contract: the sums fit, since the counts stay within the links (`Within`).
+use Prim.Native.Nat.{_+_, _<_}
 use native.Mathlib.Omega.{arith}
 use mathlib.Core.Path.{refl}
 use lib.IntN.{natAbs, _+ℤ_}
 use Rattle.laws.specs.Bounds.{fits64, same64}
-use Rattle.turn.specs.Limits.{maxLinks}
 use Rattle.walk.proofs.Counting.{area-fits, sum-within}
 use borrow.Author.Needs.{needs}
 use Rattle.walk.proofs.lost_counts.Statement.{statement}
@@ -25,19 +25,15 @@ module _ (s : tie.Start) where
   both : natAbs (s .args .c .lost +ℤ s .args .area) < 9223372036854775808
   both = area-fits (s .args .c .lost +ℤ s .args .area) (s .args .c .walked + s .args .size) (sum-within (s .args .c .lost) (s .args .area) _ _ (s .pre .0 .lost) (s .pre .1)) (s .pre .0 .links)
 
--- src/lib.rt:337:16
 add-lost : tie.Need-add-lost
 add-lost c = let s = c .before .before .before in rw (same64 (s .args .c .lost) (small s), same64 (s .args .area) (one s)) (fits64 _ (both s))
 
--- src/lib.rt:341:19
 add-t6 : tie.Need-add-t6
 add-t6 c = search needs
 
--- src/lib.rt:342:17
 add-t7 : tie.Need-add-t7
 add-t7 c = search needs
 
--- src/lib.rt:332:1
 returns : tie.Need-returns
 returns c = let s = c .before .before .before .before .before in rw (same64 (s .args .c .lost) (small s), same64 (s .args .area) (one s), same64 (s .args .c .kept) (small′ s), same64 (s .args .c .lost +ℤ s .args .area) (both s)) refl
 

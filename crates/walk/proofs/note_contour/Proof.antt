@@ -1,17 +1,16 @@
-use Prim.Native.Nat.{ℕ, suc, _+_, _-_, _*_, _≤_, _<_}
-use mathlib.Core.Path.{_≡_, refl, sym, ap, _∙_, subst}
+-- `walk::note_contour` meets its contract: one walk by rules 2 to 4, then noted by rule 6, or refused.
+use Prim.Native.Nat.{ℕ, _+_, _-_, _*_, _≤_}
+use mathlib.Core.Path.{_≡_, refl, subst}
 use mathlib.Core.Bool.{not, Bool·beq}
 use mathlib.Core.List.{List}
 use native.Mathlib.Omega.{arith}
 use lib.ListN.{length}
 use lib.IntN.{ℤ}
-use Rattle.turn.specs.Limits.{maxLinks}
 use Rattle.graph.specs.Graph.{Lent, lent}
 use Rattle.next.specs.Next.{unvisited}
-use Rattle.walk.specs.declared.Ended.{Ended}
 use Rattle.walk.specs.declared.Ended.the-variants as ended
 use Rattle.walk.specs.Walk.{Walked, walkFrom, markOf}
-use Rattle.walk.specs.Code.{plain, Tables, tables, Counted, WalkLeaves, WalkNoted, Within}
+use Rattle.walk.specs.Code.{plain, Tables, tables, Counted, WalkLeaves}
 use Rattle.walk.proofs.Noting.{marks-of, Finish, finish, stuck-at, stuck-noted, part-grid, walk-noted, walk-fewer, within-less}
 use borrow.Author.Needs.{needs}
 use Rattle.walk.proofs.note_contour.Statement.{statement}
@@ -60,82 +59,70 @@ counted c = let o = c .before .before .before .before .before in subst (Counted 
 fits : (c : tie.After-to) → end c ≤ length (st (at-start (c .before .before .before .before .before)))
 fits c = let s = at-start (c .before .before .before .before .before) in let w = s .pre .1 .1 .2 in omega (arith, counted c .1, w .points, w .links)
 
--- src/lib.rt:458:9
 same-requires : tie.Need-same-requires
 same-requires c κs = search needs
 
--- src/lib.rt:460:78
 mark-of-requires : tie.Need-mark-of-requires
 mark-of-requires c κs = search needs
 
--- src/lib.rt:460:11
 find-contour-requires : tie.Need-find-contour-requires
-find-contour-requires c κs = 
+find-contour-requires c κs =
     let s = c .before .before .before .before .before .before .before .before .before .before .before .before in
     let w = s .pre .1 .1 .2 in
     (s .pre .0, ((s .pre .1 .1 .0, s .pre .1 .1 .1, rw (c .before .before .mark-of .ensures) (marks-of (s .args .hole))), omega (arith, w .points, w .links, s .pre .1 .0 .points-room)))
 
--- src/lib.rt:461:22
 enum-known-number : tie.Need-enum-known-number
 enum-known-number c = search needs
 
--- src/lib.rt:462:21
 enum-known-to : tie.Need-enum-known-to
 enum-known-to c = search needs
 
--- src/lib.rt:462:43
 note-walk-requires : tie.Need-note-walk-requires
-note-walk-requires c κs = 
+note-walk-requires c κs =
     let k = c .before .before .before .before .before in
     let o = k .before .before .before .before .before in
     let s = at-start o in
     let m = s .pre .1 .0 in
     let l = o .find-contour .kept .1 .1 .1 .1 .1 .1 .1 .1 .1 .1 .1 .1 .0 in
-    let r : end k * 2 ≤ length (s .args .points .now) = omega (arith, fits k, m .points-room) in
-    ((omega (arith, counted k .0), rw l r, within-less _ _ (unvisited (st s)) _ _ (s .pre .1 .1 .2) (omega (arith, counted k .1)) (m .few)),
-    (part-grid (g s) _ (s .pre .0) (s .args .minimum) (s .args .hole) (t s) (end k) (st s) (states o) (coords o) (rule s) (done k) r,
-    (omega (arith, fits k, m .first-room), m .len-room, m .kind-room)))
+    let r : end k * 2 ≤ length (s .args .points .now) = omega (arith, fits k, m .points-room) in (
+      (omega (arith, counted k .0), rw l r, within-less _ _ (unvisited (st s)) _ _ (s .pre .1 .1 .2) (omega (arith, counted k .1)) (m .few)),
+      (
+        part-grid (g s) _ (s .pre .0) (s .args .minimum) (s .args .hole) (t s) (end k) (st s) (states o) (coords o) (rule s) (done k) r,
+        (omega (arith, fits k, m .first-room), m .len-room, m .kind-room),
+      ),
+    )
 
--- src/lib.rt:431:1
 same-length : tie.Need-same-length
 same-length c = search needs
 
--- src/lib.rt:431:1
 same-length-2 : tie.Need-same-length-2
 same-length-2 c = search needs
 
--- src/lib.rt:431:1
 returns : tie.Need-returns
-returns c = 
+returns c =
     let o = c .before .before .before .before .before .before in
     let s = at-start o in (
       stuck-noted (plain (g s)) (s .args .minimum) (t s) (s .args .hole) (rule s) _ _ _ _ _ _ _ (stuck-at (plain (g s)) _ _ _ _ _ (rule s) _ (left-by o) (c .before .number .given .1)) refl,
       (tt, o .find-contour .ensures .1 .1),
     )
 
--- src/lib.rt:431:1
 same-length-3 : tie.Need-same-length-3
 same-length-3 c = search needs
 
--- src/lib.rt:431:1
 same-length-4 : tie.Need-same-length-4
 same-length-4 c = search needs
 
--- src/lib.rt:431:1
 same-length-5 : tie.Need-same-length-5
 same-length-5 c = search needs
 
--- src/lib.rt:431:1
 same-length-6 : tie.Need-same-length-6
 same-length-6 c = search needs
 
--- src/lib.rt:431:1
 same-length-7 : tie.Need-same-length-7
 same-length-7 c = search needs
 
--- src/lib.rt:431:1
 returns-2 : tie.Need-returns-2
-returns-2 c = 
+returns-2 c =
     let k = c .before .before .before .before .before .before .before .before .before .before .before .before in
     let o = k .before .before .before .before .before in
     let s = at-start o in

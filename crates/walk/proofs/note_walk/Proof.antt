@@ -1,14 +1,13 @@
-use Prim.Native.Nat.{ℕ, _+_, _-_, _*_, _≤_, _<_}
+-- `walk::note_walk` meets its contract: the part of the points is the walk's, and rule 6 decides whether it is entered.
+use Prim.Native.Nat.{ℕ, _-_, _*_, _≤_, _<_}
 use native.Mathlib.Omega.{arith}
-use mathlib.Core.Path.{_≡_, refl, sym, ap, _∙_}
-use mathlib.Core.Bool.{true}
-use lib.ListN.{length, take, drop}
-use lib.IntN.{ℤ, natAbs}
+use mathlib.Core.Path.{_≡_, sym, _∙_}
+use lib.ListN.{length}
+use lib.IntN.{natAbs}
 use mir.Syntax.{w64}
 use mir.Val.{toZ, ofZ}
 use Rattle.laws.specs.Bounds.{same64}
 use Rattle.turn.specs.Area.{wedgeBound}
-use Rattle.turn.specs.Size.{isKept}
 use Rattle.walk.specs.Code.{tables}
 use Rattle.walk.specs.Ledger.{kept-three}
 use Rattle.walk.proofs.Counting.{note-kept, note-lost, part-bound, part-short, area-fits}
@@ -36,47 +35,37 @@ bound c = let s = at-start c in part-bound (s .args .points .now) (s .args .c .p
 whole : (c : tie.After-doubled-area) → toZ w64 (ofZ w64 (c .doubled-area .result)) ≡ c .doubled-area .result
 whole c = same64 (c .doubled-area .result) (area-fits (c .doubled-area .result) (size (at-start c)) (bound c) (omega (arith, at-start c .pre .0 .2 .links)))
 
--- src/lib.rt:385:17
 mul-begin : tie.Need-mul-begin
 mul-begin c = search needs
 
--- src/lib.rt:386:15
 mul-end : tie.Need-mul-end
 mul-end c = search needs
 
--- src/lib.rt:387:16
 sub-size : tie.Need-sub-size
 sub-size c = search needs
 
--- src/lib.rt:388:35
 mul-doubled-area : tie.Need-mul-doubled-area
 mul-doubled-area c = search needs
 
--- src/lib.rt:388:35
 sub-doubled-area : tie.Need-sub-doubled-area
 sub-doubled-area c = search needs
 
--- src/lib.rt:388:35
 part-doubled-area-start : tie.Need-part-doubled-area-start
 part-doubled-area-start c = search needs
 
--- src/lib.rt:388:35
 part-doubled-area-end : tie.Need-part-doubled-area-end
 part-doubled-area-end c = search needs
 
--- src/lib.rt:388:9
 doubled-area-requires : tie.Need-doubled-area-requires
 doubled-area-requires c κs =
     let s = c .before .before .before .before in
     (part-short (s .args .points .now) (s .args .c .points) (s .args .to) (s .pre .0 .1) (omega (arith, s .pre .0 .2 .links)), s .pre .1 .0)
 
--- src/lib.rt:389:8
 is-kept-requires : tie.Need-is-kept-requires
 is-kept-requires c κs = search needs
 
--- src/lib.rt:390:9
 enter-contour-requires : tie.Need-enter-contour-requires
-enter-contour-requires c κs = 
+enter-contour-requires c κs =
     let d = c .before .before .before .before .before in
     let s = at-start d in
     let t = kept-three (size s) (d .doubled-area .result) (s .args .minimum) (sym (rw (whole d) at (c .before .before .before .before .is-kept .ensures)) ∙ c .before .before .before .if1 .taken) in
@@ -84,38 +73,31 @@ enter-contour-requires c κs =
     let i : s .args .c .contours < length (s .args .first .now) = omega (arith, w .contours, s .pre .1 .1 .0, t, s .pre .0 .0) in
     ((i, rw (s .pre .1 .1 .1) i, rw (s .pre .1 .1 .2) i), (omega (arith, w .points, w .links), omega (arith, w .links)))
 
--- src/lib.rt:391:9
 kept-counts-requires : tie.Need-kept-counts-requires
 kept-counts-requires c κs = let d = c .before .before .before .before .before .before .before .before .before .before .before .before in (at-start d .pre .0 .2, rw (whole d) (bound d))
 
--- src/lib.rt:391:9
 same-length : tie.Need-same-length
 same-length c = search needs
 
--- src/lib.rt:391:9
 same-length-2 : tie.Need-same-length-2
 same-length-2 c = search needs
 
--- src/lib.rt:391:9
 same-length-3 : tie.Need-same-length-3
 same-length-3 c = search needs
 
--- src/lib.rt:391:9
 returns : tie.Need-returns
-returns c = 
+returns c =
     let d = c .before .before .before .before .before .before .before .before .before .before .before .before .before in
     let s = at-start d in
     let o = c .before .before .before .before .before .before .before in
     note-kept (s .args .minimum) (s .args .hole) (size s) _ (tables (s .args .points .now) (s .args .first .now) (s .args .len .now) (s .args .kind .now) (s .args .c)) _ _ (d .doubled-area .ensures .0) _ _ _
     (sym (rw (whole d) at (c .before .before .before .before .before .before .before .before .before .before .before .before .is-kept .ensures)) ∙ c .before .before .before .before .before .before .before .before .before .before .before .if1 .taken) (o .enter-contour .ensures .0) (o .enter-contour .ensures .1 .0) (o .enter-contour .ensures .1 .1) (rw (whole d) at (c .kept-counts .ensures))
 
--- src/lib.rt:393:5
 lost-counts-requires : tie.Need-lost-counts-requires
 lost-counts-requires c κs = let d = c .before .before in (at-start d .pre .0 .2, rw (whole d) (bound d))
 
--- src/lib.rt:368:1
 returns-2 : tie.Need-returns-2
-returns-2 c = 
+returns-2 c =
     let d = c .before .before .before in
     let s = at-start d in
     note-lost (s .args .minimum) (s .args .hole) (size s) _ (tables (s .args .points .now) (s .args .first .now) (s .args .len .now) (s .args .kind .now) (s .args .c)) _ _ (d .doubled-area .ensures .0)

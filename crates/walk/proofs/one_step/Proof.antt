@@ -1,4 +1,5 @@
-use Prim.Native.Nat.{ℕ, suc, _+_, _*_, _≤_, _<_}
+-- `walk::one_step` meets its contract: what `next_link` names is unvisited, is marked, and its point is written; else nothing changes.
+use Prim.Native.Nat.{ℕ, suc, _<_}
 use mathlib.Core.Path.{_≡_, refl, sym, ap, _∙_}
 use mathlib.Core.List.{List, []}
 use native.Mathlib.Omega.{arith}
@@ -37,63 +38,49 @@ ok c = rw (c .k .given .1) at (c .before .before .next-link .ensures .1)
 less : (c : tie.After-k) → unvisited (st (at-start c)) ≡ suc (unvisited (set (st (at-start c)) (link c) (at-start c .args .mark)))
 less c = fewer (st (at-start c)) (link c) (at-start c .args .mark) (at-start c .pre .1 .0 .2) (ok c .1)
 
--- src/lib.rt:200:11
 next-link-requires : tie.Need-next-link-requires
 next-link-requires c κs = let s = c .before .before .before .before .before .before in (s .pre .0 .links, (s .pre .0 .nodes, (s .pre .1 .0 .0, s .pre .1 .0 .1)))
 
--- src/lib.rt:201:26
 enum-told : tie.Need-enum-told
 enum-told c = search needs
 
--- src/lib.rt:202:20
 enum-known-k : tie.Need-enum-known-k
 enum-known-k c = search needs
 
--- src/lib.rt:203:27
 node-at-requires : tie.Need-node-at-requires
 node-at-requires c κs = let a = c .before in let s = at-start a in rw (s .pre .0 .nodes .a-long) (ok a .0)
 
--- src/lib.rt:204:17
 end-point-requires : tie.Need-end-point-requires
 end-point-requires c κs = let a = c .before .before in let s = at-start a in let l = s .pre .0 .links in let h = ok a .0 in (rw (l .ax-long) h, rw (l .ay-long) h, rw (l .bx-long) h, rw (l .by-long) h)
 
--- src/lib.rt:205:17
 other-node-requires : tie.Need-other-node-requires
 other-node-requires c κs = let a = c .before .before .before in let s = at-start a in let h = ok a .0 in (rw (s .pre .0 .nodes .a-long) h, rw (s .pre .0 .b-long) h)
 
--- src/lib.rt:206:13
 slice-write-state : tie.Need-slice-write-state
 slice-write-state c = ok (c .before .before .before .before) .0
 
--- src/lib.rt:207:13
 put-point-requires : tie.Need-put-point-requires
 put-point-requires c κs = let a = c .before .before .before .before .before in let s = at-start a in omega (arith, s .pre .1 .1, less a)
 
--- src/lib.rt:211:26
 add-t24 : tie.Need-add-t24
 add-t24 c = let a = c .before .before .before .before .before .before .before in let s = at-start a in omega (arith, s .pre .1 .1, less a, s .good .1 .1 .1 .1 .1 .1 .1 .1 .1 .1 .1 .0)
 
--- src/lib.rt:176:1
 same-length : tie.Need-same-length
 same-length c = search needs
 
--- src/lib.rt:176:1
 returns : tie.Need-returns
-returns c = 
+returns c =
     let s = c .before .before .before .before .before .before .before .before .before in
     (step-nowhere (g s) (s .args .sense) (s .args .mark) (st s) (s .args .points .now) (s .args .w) (sym (c .enum-told .given .1) ∙ c .before .before .next-link .ensures .0 (s .args .bid .now) []), (tt, kept-none (st s)))
 
--- src/lib.rt:176:1
 same-length-2 : tie.Need-same-length-2
 same-length-2 c = search needs
 
--- src/lib.rt:176:1
 same-length-3 : tie.Need-same-length-3
 same-length-3 c = search needs
 
--- src/lib.rt:176:1
 returns-2 : tie.Need-returns-2
-returns-2 c = 
+returns-2 c =
     let a = c .before .before .before .before .before .before .before in
     let s = at-start a in (
       step-went (g s) (s .args .sense) (s .args .mark) (st s) (s .args .points .now) (s .args .w) (link a) _ _ _ _

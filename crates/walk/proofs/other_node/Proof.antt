@@ -1,3 +1,4 @@
+-- `walk::other_node` meets its contract: the test on a's node tells which end is the other one.
 use mathlib.Core.Path.{sym, _∙_}
 use borrow.Author.Tests.{eq-eqb, ne-eqb}
 use borrow.Author.Needs.{needs}
@@ -7,19 +8,15 @@ use Rattle.walk.proofs.other_node.Reads as reads
 use Rattle.walk.proofs.other_node.Lts as lts
 use Rattle.walk.proofs.node_at.Reads as node-at-reads
 
--- src/lib.rt:91:9
 node-at-requires : tie.Need-node-at-requires
 node-at-requires c κs = search needs
 
--- src/lib.rt:92:20
 node-at-requires-2 : tie.Need-node-at-requires-2
 node-at-requires-2 c κs = search needs
 
--- src/lib.rt:87:1
 returns : tie.Need-returns
 returns c = rw (eq-eqb _ _ (sym (c .before .before .node-at .ensures) ∙ c .before .if1 .taken)) (c .node-at2 .ensures)
 
--- src/lib.rt:87:1
 returns-2 : tie.Need-returns-2
 returns-2 c = rw (ne-eqb _ _ (λ e. c .if1 .left (c .before .node-at .ensures ∙ e))) (c .before .node-at .ensures)
 

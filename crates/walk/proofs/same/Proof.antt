@@ -1,3 +1,4 @@
+-- `walk::same` meets its contract: by all four cases.
 use mathlib.Core.Path.{_≡_, refl}
 use mathlib.Core.Bool.{Bool, true, false, not, _&&_, _||_, Bool·beq}
 use Rattle.walk.proofs.same.Statement.{statement}
@@ -11,7 +12,6 @@ both true false = refl
 both false true = refl
 both false false = refl
 
--- src/lib.rt:424:1
 returns : tie.Need-returns
 returns c = both (c .args .a) (c .args .b)
 

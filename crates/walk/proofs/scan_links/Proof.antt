@@ -1,6 +1,7 @@
-use Prim.Native.Nat.{ℕ, _+_, _-_, _≤_, _<_}
-use mathlib.Core.Path.{_≡_, refl, sym, _∙_, subst}
-use mathlib.Core.List.{List}
+-- `walk::scan_links` meets its contract. The invariant: what the scan leaves from here it leaves from the loop's start, and no link below k is unvisited (`Scanning`).
+-- The measure falls where link k is passed and where a walk marks links: the links left and the unvisited ones together.
+use Prim.Native.Nat.{_+_, _-_, _<_}
+use mathlib.Core.Path.{refl, sym, _∙_}
 use native.Mathlib.Omega.{arith}
 use borrow.Author.Needs.{needs}
 use lib.ListN.{length}
@@ -40,66 +41,54 @@ roomy l =
     let i = l .loop .inv in
     rw (i .kept .len, i .points-length, i .first-length, i .len-length, i .kind-length) (at-start l .pre .1)
 
--- src/lib.rt:538:5
 loop-holds : tie.Need-loop-holds Inv-loop μ-loop
 loop-holds c = let s = c .before .before .before .before .before .before .before .before .before in none-yet (g s) (s .args .clockwise) (s .args .minimum) (s .args .state .now) (s .args .points .now) (s .args .first .now) (s .args .len .now) (s .args .kind .now)
 
--- src/lib.rt:539:12
 slice-read-if1 : tie.Need-slice-read-if1 Inv-loop μ-loop
 slice-read-if1 c = in-states (c .before .before) (c .before .loop-test .taken)
 
--- src/lib.rt:540:13
 add-k : tie.Need-add-k Inv-loop μ-loop
 add-k c = search needs
 
--- src/lib.rt:538:5
 loop-less : tie.Need-loop-less Inv-loop μ-loop
 loop-less c = let t = c .before .before .loop-test .taken in omega arith
 
--- src/lib.rt:538:5
 loop-again : tie.Need-loop-again Inv-loop μ-loop
-loop-again c = 
+loop-again c =
     let l = c .before .before .before in
     let s = at-start l in
     let t = c .before .before .loop-test .taken in
     scan-moves (g s) (s .args .clockwise) (s .args .minimum) _ _ _ _ _ _ (l .loop .k) (l .loop .c) (l .loop .state) (l .loop .points) (l .loop .first) (l .loop .len) (l .loop .kind) (l .loop .inv) t (read-shut (l .loop .state) (l .loop .k) (in-states l t) (c .if1 .taken))
 
--- src/lib.rt:543:15
 scan-walk-requires : tie.Need-scan-walk-requires Inv-loop μ-loop
-scan-walk-requires c κs = 
+scan-walk-requires c κs =
     let l = c .before .before .before .before .before .before .before .before in
     let s = at-start l in
-    let i = l .loop .inv in
-    ((rw (i .kept .len) (s .pre .0 .0), s .pre .0 .1 ∙ sym (i .kept .len)),
-    (roomy l, (read-open (l .loop .state) (l .loop .k) (in-states l (c .before .before .before .before .before .before .before .loop-test .taken)) (c .before .before .before .before .before .if1 .left), rw (i .kept .len) (i .within))))
+    let i = l .loop .inv in (
+      (rw (i .kept .len) (s .pre .0 .0), s .pre .0 .1 ∙ sym (i .kept .len)),
+      (roomy l, (read-open (l .loop .state) (l .loop .k) (in-states l (c .before .before .before .before .before .before .before .loop-test .taken)) (c .before .before .before .before .before .if1 .left), rw (i .kept .len) (i .within))),
+    )
 
--- src/lib.rt:544:26
 enum-known-number : tie.Need-enum-known-number Inv-loop μ-loop
 enum-known-number c = search needs
 
--- src/lib.rt:545:17
 same-length : tie.Need-same-length Inv-loop μ-loop
 same-length c = let o = c .before .before .before .before .before .before .before .before .before .before .before .before in o .scan-walk .ensures .1 .1 .len ∙ o .before .before .before .before .before .before .before .before .before .loop .inv .kept .len
 
--- src/lib.rt:545:17
 same-length-2 : tie.Need-same-length-2 Inv-loop μ-loop
 same-length-2 c = let o = c .before .before .before .before .before .before .before .before .before .before .before .before in o .scan-walk .kept .1 .1 .1 .1 .1 .1 .1 .1 .1 .1 .1 .1 .0 ∙ o .before .before .before .before .before .before .before .before .before .loop .inv .points-length
 
--- src/lib.rt:545:17
 same-length-3 : tie.Need-same-length-3 Inv-loop μ-loop
 same-length-3 c = let o = c .before .before .before .before .before .before .before .before .before .before .before .before in o .scan-walk .kept .1 .1 .1 .1 .1 .1 .1 .1 .1 .1 .1 .1 .1 .0 ∙ o .before .before .before .before .before .before .before .before .before .loop .inv .first-length
 
--- src/lib.rt:545:17
 same-length-4 : tie.Need-same-length-4 Inv-loop μ-loop
 same-length-4 c = let o = c .before .before .before .before .before .before .before .before .before .before .before .before in o .scan-walk .kept .1 .1 .1 .1 .1 .1 .1 .1 .1 .1 .1 .1 .1 .1 .0 ∙ o .before .before .before .before .before .before .before .before .before .loop .inv .len-length
 
--- src/lib.rt:545:17
 same-length-5 : tie.Need-same-length-5 Inv-loop μ-loop
 same-length-5 c = let o = c .before .before .before .before .before .before .before .before .before .before .before .before in o .scan-walk .kept .1 .1 .1 .1 .1 .1 .1 .1 .1 .1 .1 .1 .1 .1 .1 .0 ∙ o .before .before .before .before .before .before .before .before .before .loop .inv .kind-length
 
--- src/lib.rt:545:17
 returns : tie.Need-returns Inv-loop μ-loop
-returns c = 
+returns c =
     let o = c .before .before .before .before .before .before .before .before .before .before .before .before in
     let l = o .before .before .before .before .before .before .before .before .before in
     let s = at-start l in
@@ -110,21 +99,18 @@ returns c =
       (tt, kept-then (i .kept) (o .scan-walk .ensures .1 .1)),
     )
 
--- src/lib.rt:547:28
 enum-known-d : tie.Need-enum-known-d Inv-loop μ-loop
 enum-known-d c = search needs
 
--- src/lib.rt:538:5
 loop-less-2 : tie.Need-loop-less-2 Inv-loop μ-loop
-loop-less-2 c = 
+loop-less-2 c =
     let o = c .before .before .before .before .before .before .before .before .before .before .before .before in
     let l = o .before .before .before .before .before .before .before .before .before in
     let h = fewer-of _ (l .loop .state) _ _ _ (c .before .d .given .1) (o .scan-walk .ensures .1 .0) in
     omega arith
 
--- src/lib.rt:538:5
 loop-again-2 : tie.Need-loop-again-2 Inv-loop μ-loop
-loop-again-2 c = 
+loop-again-2 c =
     let o = c .before .before .before .before .before .before .before .before .before .before .before .before in
     let l = o .before .before .before .before .before .before .before .before .before in
     let s = at-start l in
@@ -134,29 +120,23 @@ loop-again-2 c =
     (read-open (l .loop .state) (l .loop .k) (in-states l t) (o .before .before .before .before .before .before .if1 .left)) _ _ _ _ _ _ _ (c .before .d .given .1) (o .scan-walk .ensures .0)
     (rw (i .kept .len) at (o .scan-walk .ensures .1 .0)) (o .scan-walk .ensures .1 .1) (o .scan-walk .kept .1 .1 .1 .1 .1 .1 .1 .1 .1 .1 .1 .1 .0) (o .scan-walk .kept .1 .1 .1 .1 .1 .1 .1 .1 .1 .1 .1 .1 .1 .0) (o .scan-walk .kept .1 .1 .1 .1 .1 .1 .1 .1 .1 .1 .1 .1 .1 .1 .0) (o .scan-walk .kept .1 .1 .1 .1 .1 .1 .1 .1 .1 .1 .1 .1 .1 .1 .1 .0)
 
--- src/lib.rt:504:1
 same-length-6 : tie.Need-same-length-6 Inv-loop μ-loop
 same-length-6 c = c .before .loop .inv .kept .len
 
--- src/lib.rt:504:1
 same-length-7 : tie.Need-same-length-7 Inv-loop μ-loop
 same-length-7 c = c .before .loop .inv .points-length
 
--- src/lib.rt:504:1
 same-length-8 : tie.Need-same-length-8 Inv-loop μ-loop
 same-length-8 c = c .before .loop .inv .first-length
 
--- src/lib.rt:504:1
 same-length-9 : tie.Need-same-length-9 Inv-loop μ-loop
 same-length-9 c = c .before .loop .inv .len-length
 
--- src/lib.rt:504:1
 same-length-10 : tie.Need-same-length-10 Inv-loop μ-loop
 same-length-10 c = c .before .loop .inv .kind-length
 
--- src/lib.rt:504:1
 returns-2 : tie.Need-returns-2 Inv-loop μ-loop
-returns-2 c = 
+returns-2 c =
     let l = c .before in
     let s = at-start l in
     let i = l .loop .inv in (

@@ -1,6 +1,6 @@
-use Prim.Native.Nat.{ℕ, _+_, _≤_, _<_}
+-- `walk::scan_walk` meets its contract: the first link that rule 1 names, then its walk.
+use Prim.Native.Nat.{_<_}
 use mathlib.Core.Path.{_≡_, refl, sym, _∙_}
-use mathlib.Core.List.{List}
 use lib.ListN.{length, getD}
 use Rattle.graph.specs.Graph.{Lent, lent}
 use Rattle.walk.specs.Code.{Tables, tables}
@@ -26,59 +26,46 @@ at-start c = c .before .before .before .before .before .before .before .before .
 ok : (c : tie.After-s) → (c .s .given .0 .0 < length (at-start c .args .state .now)) × (getD (at-start c .args .state .now) (c .s .given .0 .0) 1 ≡ 0)
 ok c = rw (c .s .given .1) at (c .before .before .find-left-top-link .ensures .1)
 
--- src/lib.rt:494:11
 find-left-top-link-requires : tie.Need-find-left-top-link-requires
 find-left-top-link-requires c κs = search needs
 
--- src/lib.rt:495:26
 enum-told : tie.Need-enum-told
 enum-told c = search needs
 
--- src/lib.rt:496:20
 enum-known-s : tie.Need-enum-known-s
 enum-known-s c = search needs
 
--- src/lib.rt:497:24
 shared-slice-read-hole : tie.Need-shared-slice-read-hole
 shared-slice-read-hole c = let a = c .before .before in rw (at-start a .pre .0 .1) (ok a .0)
 
--- src/lib.rt:498:13
 note-contour-requires : tie.Need-note-contour-requires
 note-contour-requires c κs = let a = c .before .before .before .before .before .before .before in let s = at-start a in (s .pre .0 .0, (s .pre .1 .0, (ok a .0, ok a .1, s .pre .1 .1 .1)))
 
--- src/lib.rt:467:1
 same-length : tie.Need-same-length
 same-length c = search needs
 
--- src/lib.rt:467:1
 returns : tie.Need-returns
 returns c =
     let s = c .before .before .before .before .before .before .before .before .before .before .before .before .before in
     (first-nothing (g s) (s .args .top .now) (s .args .clockwise) (s .args .minimum) (t s) (s .args .state .now) _ _ _ _ _ _ _ (sym (c .enum-told .given .1) ∙ c .before .before .find-left-top-link .ensures .0 (s .args .bid .now) (s .args .top .now)) refl, (tt, kept-none _))
 
--- src/lib.rt:467:1
 same-length-2 : tie.Need-same-length-2
 same-length-2 c = search needs
 
--- src/lib.rt:467:1
 same-length-3 : tie.Need-same-length-3
 same-length-3 c = search needs
 
--- src/lib.rt:467:1
 same-length-4 : tie.Need-same-length-4
 same-length-4 c = search needs
 
--- src/lib.rt:467:1
 same-length-5 : tie.Need-same-length-5
 same-length-5 c = search needs
 
--- src/lib.rt:467:1
 same-length-6 : tie.Need-same-length-6
 same-length-6 c = search needs
 
--- src/lib.rt:467:1
 returns-2 : tie.Need-returns-2
-returns-2 c = 
+returns-2 c =
     let a = c .before .before .before .before .before .before .before .before .before .before .before .before .before .before .before .before .before in
     let s = at-start a in
     let o = c .before .before .before .before .before .before .before .before .before in

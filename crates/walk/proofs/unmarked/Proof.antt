@@ -1,14 +1,13 @@
+-- `walk::unmarked` meets its contract: 1 stays, any other state goes back to 0.
 use borrow.Author.Tests.{eq-eqb, ne-eqb}
 use Rattle.walk.proofs.unmarked.Statement.{statement}
 use Rattle.walk.proofs.unmarked.Tie as tie
 use Rattle.walk.proofs.unmarked.Reads as reads
 use Rattle.walk.proofs.unmarked.Lts as lts
 
--- src/lib.rt:90:1
 returns : tie.Need-returns
 returns c = rw (eq-eqb _ _ (c .if1 .taken))
 
--- src/lib.rt:90:1
 returns-2 : tie.Need-returns-2
 returns-2 c = rw (ne-eqb _ _ (c .if1 .left))
 

@@ -1,6 +1,5 @@
-use Prim.Native.Nat.{ℕ, suc, _+_, _*_, _≤_, _<_}
-use mathlib.Core.Path.{_≡_, refl, sym, ap, _∙_}
-use mathlib.Core.List.{List}
+-- `walk::walk_on` meets its contract. The invariant: what the walk leaves from here it leaves from the loop's start (`Walking`). The measure is the number of unvisited links.
+use mathlib.Core.Path.{refl, _∙_}
 use native.Mathlib.Omega.{arith}
 use borrow.Author.Needs.{needs}
 use lib.ListN.{length}
@@ -26,9 +25,8 @@ g s = lent (s .args .ax .now) (s .args .ay .now) (s .args .bx .now) (s .args .by
 abbrev at-start : tie.At-loop Inv-loop μ-loop → tie.Start Inv-loop μ-loop
 at-start l = l .before .before .before .before .before .before
 
--- src/lib.rt:241:5
 loop-holds : tie.Need-loop-holds Inv-loop μ-loop
-loop-holds c = 
+loop-holds c =
     let s = c .before .before .before .before .before in
     record {
       goes = λ r a b h. h;
@@ -40,29 +38,24 @@ loop-holds c =
       room = refl;
     }
 
--- src/lib.rt:242:15
 one-step-requires : tie.Need-one-step-requires Inv-loop μ-loop
-one-step-requires c κs = 
+one-step-requires c κs =
     let l = c .before .before .before .before in
     let s = at-start l in
     let i = l .loop .inv in
     (rw (i .kept .len) (s .pre .0), ((i .node, i .link, s .pre .1 .0 .2), omega (arith, i .count, i .room, s .pre .1 .1)))
 
--- src/lib.rt:244:17
 enum-told : tie.Need-enum-told Inv-loop μ-loop
 enum-told c = search needs
 
--- src/lib.rt:244:17
 same-length : tie.Need-same-length Inv-loop μ-loop
 same-length c = let o = c .before .before .before .before .before in let l = o .before .before .before .before .before in o .one-step .ensures .1 .1 .len ∙ l .loop .inv .kept .len
 
--- src/lib.rt:244:17
 same-length-2 : tie.Need-same-length-2 Inv-loop μ-loop
 same-length-2 c = let o = c .before .before .before .before .before in let l = o .before .before .before .before .before in o .one-step .kept .1 .1 .1 .1 .1 .1 .1 .1 .1 .1 .1 .0 ∙ l .loop .inv .room
 
--- src/lib.rt:244:17
 returns : tie.Need-returns Inv-loop μ-loop
-returns c = 
+returns c =
     let o = c .before .before .before .before .before in
     let l = o .before .before .before .before .before in
     let s = at-start l in
@@ -71,36 +64,30 @@ returns c =
       (tt, kept-then (i .kept) (o .one-step .ensures .1 .1)),
     )
 
--- src/lib.rt:246:27
 enum-known-v : tie.Need-enum-known-v Inv-loop μ-loop
 enum-known-v c = search needs
 
--- src/lib.rt:241:5
 loop-less : tie.Need-loop-less Inv-loop μ-loop
 loop-less c =
     let o = c .before .before .before .before .before .before in
     walking-less _ _ _ (o .before .before .before .before .before .loop .state) _ _ _ (c .before .v .given .1) (o .one-step .ensures .1 .0)
 
--- src/lib.rt:241:5
 loop-again : tie.Need-loop-again Inv-loop μ-loop
-loop-again c = 
+loop-again c =
     let o = c .before .before .before .before .before .before in
     let l = o .before .before .before .before .before in
     let s = at-start l in
     walking-again (plain (g s)) (s .args .sense) (s .args .home) (s .args .last) (s .args .mark) (length (g s .start)) _ _ (s .args .from) (l .loop .state) (l .loop .points) (l .loop .w) _ _ _ _ (c .before .v .given .1) (o .one-step .ensures .1 .0)
     (l .loop .inv) (o .before .before .before .if1 .taken) (o .one-step .ensures .0) (o .one-step .ensures .1 .1) (o .one-step .kept .1 .1 .1 .1 .1 .1 .1 .1 .1 .1 .1 .0)
 
--- src/lib.rt:252:9
 same-length-3 : tie.Need-same-length-3 Inv-loop μ-loop
 same-length-3 c = c .before .before .before .before .loop .inv .kept .len
 
--- src/lib.rt:252:9
 same-length-4 : tie.Need-same-length-4 Inv-loop μ-loop
 same-length-4 c = c .before .before .before .before .loop .inv .room
 
--- src/lib.rt:252:9
 returns-2 : tie.Need-returns-2 Inv-loop μ-loop
-returns-2 c = 
+returns-2 c =
     let l = c .before .before .before .before in
     let s = at-start l in
     let i = l .loop .inv in (
@@ -108,17 +95,14 @@ returns-2 c =
       ((i .grows, i .count), i .kept),
     )
 
--- src/lib.rt:216:1
 same-length-5 : tie.Need-same-length-5 Inv-loop μ-loop
 same-length-5 c = c .before .before .before .before .loop .inv .kept .len
 
--- src/lib.rt:216:1
 same-length-6 : tie.Need-same-length-6 Inv-loop μ-loop
 same-length-6 c = c .before .before .before .before .loop .inv .room
 
--- src/lib.rt:216:1
 returns-3 : tie.Need-returns-3 Inv-loop μ-loop
-returns-3 c = 
+returns-3 c =
     let l = c .before .before .before .before in
     let s = at-start l in
     let i = l .loop .inv in (

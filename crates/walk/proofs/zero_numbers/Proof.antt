@@ -1,56 +1,43 @@
-use Prim.Native.Nat.{ℕ, _≤_, _-_}
-use mathlib.Core.Path.{_≡_, refl, sym, _∙_}
-use native.Mathlib.Omega.{arith}
+-- `walk::zero_numbers` meets its contract: a loop that rewrites from an index on (`Rewriting`).
+use Prim.Native.Nat.{_-_}
+use mathlib.Core.Path.{refl}
 use borrow.Author.Needs.{needs}
-use lib.ListN.{length, length-set}
-use Rattle.laws.specs.Lists.{mapFrom, map-more, map-end}
+use lib.ListN.{length}
+use Rattle.walk.proofs.Rewrites.{Rewriting, rewriting-again, rewritten}
 use Rattle.walk.proofs.zero_numbers.Statement.{statement}
 use Rattle.walk.proofs.zero_numbers.Tie as tie
 use Rattle.walk.proofs.zero_numbers.Reads as reads
 use Rattle.walk.proofs.zero_numbers.Lts as lts
 
 abbrev Inv-loop : tie.InvT-loop
-Inv-loop s₀ from i₀ s i = (i ≤ length s) × (length s ≡ length s₀) × (mapFrom (λ _. 0) i s ≡ mapFrom (λ _. 0) from s₀)
+Inv-loop s₀ from i₀ s i = Rewriting (λ _. 0) from s₀ i s
 
 abbrev μ-loop : tie.MeasureT-loop
 μ-loop s₀ from i₀ s i = length s₀ - i
 
--- src/lib.rt:101:5
 loop-holds : tie.Need-loop-holds Inv-loop μ-loop
-loop-holds c = search needs
+loop-holds c = record { within = search needs; long = refl; rest = refl }
 
--- src/lib.rt:102:9
 mul-s : tie.Need-mul-s Inv-loop μ-loop
 mul-s c = search needs
 
--- src/lib.rt:102:9
 slice-write-s : tie.Need-slice-write-s Inv-loop μ-loop
 slice-write-s c = search needs
 
--- src/lib.rt:103:9
 add-i : tie.Need-add-i Inv-loop μ-loop
 add-i c = search needs
 
--- src/lib.rt:101:5
 loop-less : tie.Need-loop-less Inv-loop μ-loop
 loop-less c = search needs
 
--- src/lib.rt:101:5
 loop-again : tie.Need-loop-again Inv-loop μ-loop
-loop-again c =
-    let l = c .before .loop in (
-      simp length-set (omega arith),
-      simp length-set (omega arith),
-      map-more (λ _. 0) (l .i) (l .s) 0 0 (c .loop-test .taken) refl ∙ l .inv .2,
-    )
+loop-again c = let l = c .before .loop in rewriting-again _ _ _ (l .i) (l .s) 0 0 (l .inv) (c .loop-test .taken) refl
 
--- src/lib.rt:96:1
 same-length : tie.Need-same-length Inv-loop μ-loop
 same-length c = search needs
 
--- src/lib.rt:96:1
 returns : tie.Need-returns Inv-loop μ-loop
-returns c = let l = c .before .loop in sym (map-end (λ _. 0) (l .i) (l .s) (c .loop-test .left)) ∙ l .inv .2
+returns c = let l = c .before .loop in rewritten _ _ _ (l .i) (l .s) (l .inv) (c .loop-test .left)
 
 pub zero-numbers-spec : {M : Type 1} → statement M
 zero-numbers-spec =

@@ -1,9 +1,9 @@
-use Prim.Native.Nat.{ℕ, _≤_, _-_}
-use mathlib.Core.Path.{_≡_, refl, sym, _∙_}
-use native.Mathlib.Omega.{arith}
+-- `walk::zero_points` meets its contract: a loop that rewrites from an index on (`Rewriting`).
+use Prim.Native.Nat.{_-_}
+use mathlib.Core.Path.{refl}
 use borrow.Author.Needs.{needs}
-use lib.ListN.{length, length-set}
-use Rattle.laws.specs.Lists.{mapFrom, map-more, map-end}
+use lib.ListN.{length}
+use Rattle.walk.proofs.Rewrites.{Rewriting, rewriting-again, rewritten}
 use lib.IntN.{pos}
 use Rattle.walk.proofs.zero_points.Statement.{statement}
 use Rattle.walk.proofs.zero_points.Tie as tie
@@ -11,47 +11,34 @@ use Rattle.walk.proofs.zero_points.Reads as reads
 use Rattle.walk.proofs.zero_points.Lts as lts
 
 abbrev Inv-loop : tie.InvT-loop
-Inv-loop s₀ from i₀ s i = (i ≤ length s) × (length s ≡ length s₀) × (mapFrom (λ _. (pos 0)) i s ≡ mapFrom (λ _. (pos 0)) from s₀)
+Inv-loop s₀ from i₀ s i = Rewriting (λ _. pos 0) from s₀ i s
 
 abbrev μ-loop : tie.MeasureT-loop
 μ-loop s₀ from i₀ s i = length s₀ - i
 
--- src/lib.rt:112:5
 loop-holds : tie.Need-loop-holds Inv-loop μ-loop
-loop-holds c = search needs
+loop-holds c = record { within = search needs; long = refl; rest = refl }
 
--- src/lib.rt:113:9
 mul-s : tie.Need-mul-s Inv-loop μ-loop
 mul-s c = search needs
 
--- src/lib.rt:113:9
 slice-set-of-s : tie.Need-slice-set-of-s Inv-loop μ-loop
 slice-set-of-s c = search needs
 
--- src/lib.rt:114:9
 add-i : tie.Need-add-i Inv-loop μ-loop
 add-i c = search needs
 
--- src/lib.rt:112:5
 loop-less : tie.Need-loop-less Inv-loop μ-loop
 loop-less c = search needs
 
--- src/lib.rt:112:5
 loop-again : tie.Need-loop-again Inv-loop μ-loop
-loop-again c =
-    let l = c .before .loop in (
-      simp length-set (omega arith),
-      simp length-set (omega arith),
-      map-more (λ _. (pos 0)) (l .i) (l .s) (pos 0) (pos 0) (c .loop-test .taken) refl ∙ l .inv .2,
-    )
+loop-again c = let l = c .before .loop in rewriting-again _ _ _ (l .i) (l .s) (pos 0) (pos 0) (l .inv) (c .loop-test .taken) refl
 
--- src/lib.rt:107:1
 same-length : tie.Need-same-length Inv-loop μ-loop
 same-length c = search needs
 
--- src/lib.rt:107:1
 returns : tie.Need-returns Inv-loop μ-loop
-returns c = let l = c .before .loop in sym (map-end (λ _. (pos 0)) (l .i) (l .s) (c .loop-test .left)) ∙ l .inv .2
+returns c = let l = c .before .loop in rewritten _ _ _ (l .i) (l .s) (l .inv) (c .loop-test .left)
 
 pub zero-points-spec : {M : Type 1} → statement M
 zero-points-spec =

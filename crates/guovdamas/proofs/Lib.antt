@@ -1,0 +1,2 @@
+-- What the proofs cite beside the definitions.
+pub mod Numbered

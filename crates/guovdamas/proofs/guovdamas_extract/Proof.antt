@@ -1,0 +1,53 @@
+use Rattle.guovdamas.proofs.Numbered.{extraction-numbered}
+use borrow.Author.Needs.{needs}
+use Rattle.guovdamas.proofs.guovdamas_extract.Statement.{statement}
+use Rattle.guovdamas.proofs.guovdamas_extract.Tie as tie
+use Rattle.guovdamas.proofs.guovdamas_extract.Reads as reads
+use Rattle.guovdamas.proofs.guovdamas_extract.Lts as lts
+use Rattle.guovdamas.proofs.extraction_of.Reads as extraction-of-reads
+use Rattle.walk.proofs.extract.Reads as extract-reads
+
+-- src/lib.rt:150:9
+extract-requires : tie.Need-extract-requires
+extract-requires c κs = search needs
+
+-- src/lib.rt:153:5
+extraction-of-requires : tie.Need-extraction-of-requires
+extraction-of-requires c κs = search needs
+
+-- src/lib.rt:128:1
+same-length : tie.Need-same-length
+same-length c = search needs
+
+-- src/lib.rt:128:1
+same-length-2 : tie.Need-same-length-2
+same-length-2 c = search needs
+
+-- src/lib.rt:128:1
+same-length-3 : tie.Need-same-length-3
+same-length-3 c = search needs
+
+-- src/lib.rt:128:1
+same-length-4 : tie.Need-same-length-4
+same-length-4 c = search needs
+
+-- src/lib.rt:128:1
+same-length-5 : tie.Need-same-length-5
+same-length-5 c = search needs
+
+-- src/lib.rt:128:1
+returns : tie.Need-returns
+returns c = extraction-numbered (c .extraction-of .ensures) (c .before .before .before .before .before .before .before .before .before .before .extract .ensures)
+
+pub guovdamas-extract-spec : {M : Type 1} → statement M
+guovdamas-extract-spec =
+    tie.close
+    (tie.spec
+    extract-requires
+    extraction-of-requires
+    same-length
+    same-length-2
+    same-length-3
+    same-length-4
+    same-length-5
+    returns)

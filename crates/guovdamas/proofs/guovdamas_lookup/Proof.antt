@@ -1,0 +1,24 @@
+use mathlib.Core.Path.{_≡_, refl, sym, ap, _∙_}
+use Rattle.guovdamas.specs.Numbers.{recordOf}
+use borrow.Author.Needs.{needs}
+use Rattle.guovdamas.proofs.guovdamas_lookup.Statement.{statement}
+use Rattle.guovdamas.proofs.guovdamas_lookup.Tie as tie
+use Rattle.guovdamas.proofs.guovdamas_lookup.Reads as reads
+use Rattle.guovdamas.proofs.guovdamas_lookup.Lts as lts
+use Rattle.guovdamas.proofs.record_of.Reads as record-of-reads
+use Rattle.table.proofs.lookup.Reads as lookup-reads
+
+-- src/lib.rt:168:15
+lookup-requires : tie.Need-lookup-requires
+lookup-requires c κs = search needs
+
+-- src/lib.rt:168:5
+record-of-requires : tie.Need-record-of-requires
+record-of-requires c κs = search needs
+
+-- src/lib.rt:157:1
+returns : tie.Need-returns
+returns c = c .record-of .ensures ∙ ap recordOf (c .before .lookup .ensures)
+
+pub guovdamas-lookup-spec : {M : Type 1} → statement M
+guovdamas-lookup-spec = tie.close (tie.spec lookup-requires record-of-requires returns)

@@ -1,0 +1,2 @@
+-- The numbers at the boundary.
+pub mod Numbers

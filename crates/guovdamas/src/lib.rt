@@ -1,0 +1,221 @@
+// The static library: extraction, binding and lookup, with numbers and slices only, for Rust and C. include/guovdamas.h is its header.
+use bind::Binding;
+use table::records::ContourRecord;
+use table::records::Lookup;
+use table::records::Role;
+use walk::Extraction;
+ghost use mathlib.Core.Path.{_≡_};
+ghost use Rattle.graph.specs.Graph.{lent};
+ghost use Rattle.walk.specs.Extract.{buffers, extracted};
+ghost use Rattle.table.specs.Table.{table};
+ghost use Rattle.table.specs.Lookups.{roleOwner, lookedUp};
+ghost use Rattle.bind.specs.Owners.{bound};
+ghost use Rattle.guovdamas.specs.Numbers.{extractionOf, bindingOf, foundRecord, recordOf, roleNumber, extracting, numberedExtracted, binding, numberedBound};
+
+// What extraction answers: document 01's number and place, 0 and 0 when done; the counts and the signed doubled totals, all 0 after a refusal.
+#[repr(C)]
+pub struct GuovdamasExtraction {
+    pub number: u32,
+    pub place: usize,
+    pub contours: usize,
+    pub points: usize,
+    pub rejected: usize,
+    pub walked: usize,
+    pub kept_area: i64,
+    pub rejected_area: i64,
+}
+
+// What binding answers: document 01's number and place, 0 and 0 when done; how many shapes there are and how many holes were dropped, 0 after a refusal.
+#[repr(C)]
+pub struct GuovdamasBinding {
+    pub number: u32,
+    pub place: u32,
+    pub shapes: u32,
+    pub dropped: u32,
+}
+
+// What a lookup answers: found 1; role 0 for a hull, 1 for a hole, 2 for a dropped hole; the owner's number, 65,535 for a dropped hole;
+// the first point's position and the number of points. All fields are 0 where the contour has no record.
+#[repr(C)]
+pub struct GuovdamasRecord {
+    pub found: u32,
+    pub role: u32,
+    pub owner: u32,
+    pub first: u32,
+    pub len: u32,
+}
+
+fn extraction_of(answer: Extraction) -> GuovdamasExtraction
+    ensures { λ r. ⌜ r ≡ extractionOf answer ⌝ }
+{
+    match answer {
+        Extraction::Done(counts) => GuovdamasExtraction {
+            number: 0,
+            place: 0,
+            contours: counts.contours,
+            points: counts.points,
+            rejected: counts.rejected,
+            walked: counts.walked,
+            kept_area: counts.kept,
+            rejected_area: counts.lost,
+        },
+        Extraction::Refused { number, place } => GuovdamasExtraction {
+            number: number,
+            place: place,
+            contours: 0,
+            points: 0,
+            rejected: 0,
+            walked: 0,
+            kept_area: 0,
+            rejected_area: 0,
+        },
+    }
+}
+
+fn binding_of(answer: Binding) -> GuovdamasBinding
+    ensures { λ r. ⌜ r ≡ bindingOf answer ⌝ }
+{
+    match answer {
+        Binding::Bound { shapes, dropped } => GuovdamasBinding {
+            number: 0,
+            place: 0,
+            shapes: shapes,
+            dropped: dropped,
+        },
+        Binding::Refused { number, place } => GuovdamasBinding {
+            number: number,
+            place: place,
+            shapes: 0,
+            dropped: 0,
+        },
+    }
+}
+
+fn role_number(role: Role) -> u32
+    ensures { λ r. ⌜ r ≡ roleNumber role ⌝ }
+{
+    match role {
+        Role::Hull(_) => 0,
+        Role::Hole(_) => 1,
+        Role::Dropped => 2,
+    }
+}
+
+fn role_owner(role: Role) -> u16
+    ensures { λ r. ⌜ r ≡ roleOwner role ⌝ }
+{
+    match role {
+        Role::Hull(shape) => shape,
+        Role::Hole(shape) => shape,
+        Role::Dropped => table::DROPPED,
+    }
+}
+
+fn wide(x: u16) -> u32
+    ensures { λ r. ⌜ r ≡ x ⌝ }
+{
+    x as u32
+}
+
+fn found_record(found: ContourRecord) -> GuovdamasRecord
+    ensures { λ r. ⌜ r ≡ foundRecord found ⌝ }
+{
+    let role = found.role;
+    GuovdamasRecord {
+        found: 1,
+        role: role_number(role),
+        owner: wide(role_owner(role)),
+        first: found.first,
+        len: found.len,
+    }
+}
+
+fn record_of(answer: Lookup) -> GuovdamasRecord
+    ensures { λ r. ⌜ r ≡ recordOf answer ⌝ }
+{
+    match answer {
+        Lookup::Found(found) => found_record(found),
+        Lookup::Missing => GuovdamasRecord {
+            found: 0,
+            role: 0,
+            owner: 0,
+            first: 0,
+            len: 0,
+        },
+    }
+}
+
+// Checks 1 to 7 and the walks of a graph, into the lent states, points and contour table.
+#[no_mangle]
+pub extern "C" fn guovdamas_extract(
+    ax: &[i32],
+    ay: &[i32],
+    bx: &[i32],
+    by: &[i32],
+    a_id: &[u32],
+    b_id: &[u32],
+    top: &[u8],
+    start: &[u32],
+    list: &[u32],
+    clockwise: bool,
+    minimum: u64,
+    state: &mut [u8],
+    points: &mut [i32],
+    first: &mut [u32],
+    len: &mut [u32],
+    kind: &mut [u8],
+) -> GuovdamasExtraction
+    ensures { λ r. ⌜ extracting r (buffers (now (state .exit)) (now (points .exit)) (now (first .exit)) (now (len .exit)) (now (kind .exit)))
+        ≡ numberedExtracted (extracted (lent (now (ax .entry)) (now (ay .entry)) (now (bx .entry)) (now (by .entry)) (now («a_id» .entry)) (now («b_id» .entry)) (now (start .entry)) (now (list .entry))) (now (top .entry)) clockwise minimum (buffers (now (state .entry)) (now (points .entry)) (now (first .entry)) (now (len .entry)) (now (kind .entry)))) ⌝ }
+{
+    let answer = walk::extract(
+        ax,
+        ay,
+        bx,
+        by,
+        a_id,
+        b_id,
+        start,
+        list,
+        top,
+        clockwise,
+        minimum,
+        state,
+        points,
+        first,
+        len,
+        kind,
+    );
+    extraction_of(answer)
+}
+
+// Checks 10 to 12 and the owner of every contour, into the lent owners.
+#[no_mangle]
+pub extern "C" fn guovdamas_bind(
+    points: &[i32],
+    first: &[u32],
+    len: &[u32],
+    kind: &[u8],
+    clockwise: bool,
+    owner: &mut [u16],
+) -> GuovdamasBinding
+    ensures { λ r. ⌜ binding r (now (owner .exit)) ≡ numberedBound (bound (table (now (points .entry)) (now (first .entry)) (now (len .entry)) (now (kind .entry))) clockwise (now (owner .entry))) ⌝ }
+{
+    let answer = bind::bind(points, first, len, kind, clockwise, owner);
+    binding_of(answer)
+}
+
+// One contour's record.
+#[no_mangle]
+pub extern "C" fn guovdamas_lookup(
+    points: &[i32],
+    first: &[u32],
+    len: &[u32],
+    kind: &[u8],
+    owner: &[u16],
+    contour: usize,
+) -> GuovdamasRecord
+    ensures { λ r. ⌜ r ≡ recordOf (lookedUp (table (now (points .entry)) (now (first .entry)) (now (len .entry)) (now (kind .entry))) (now (owner .entry)) contour) ⌝ }
+{
+    record_of(table::lookup(points, first, len, kind, owner, contour))
+}
