@@ -14,17 +14,17 @@ use Rattle.bind.specs.HoleOrder.{place, inserted, sorted, holesBelow}
 use Rattle.bind.specs.Owners.{listOf, giveEach, ownersOf, outcome, bound}
 
 -- "both holes get shape 1, the second through the first"; the buffer's tail is kept
-e9-bound : bound e9 false (7 ∷ 7 ∷ 7 ∷ 7 ∷ 7 ∷ []) ≡ outcome (Bound 2 0) (0 ∷ 1 ∷ 1 ∷ 1 ∷ 7 ∷ [])
+pub e9-bound : bound e9 false (7 ∷ 7 ∷ 7 ∷ 7 ∷ 7 ∷ []) ≡ outcome (Bound 2 0) (0 ∷ 1 ∷ 1 ∷ 1 ∷ 7 ∷ [])
 unfolding tableChecked anchorsChecked lowest hulls holeBefore liesUnder winsTie nearer edge kept offered keep nearest contourUnder place inserted sorted holesBelow listOf giveEach ownersOf
 e9-bound = refl
 
 -- "12 at 3": the buffer stays
-e10-bound : bound e10 false (7 ∷ 7 ∷ 7 ∷ 7 ∷ []) ≡ outcome (Refused 12 3) (7 ∷ 7 ∷ 7 ∷ 7 ∷ [])
+pub e10-bound : bound e10 false (7 ∷ 7 ∷ 7 ∷ 7 ∷ []) ≡ outcome (Refused 12 3) (7 ∷ 7 ∷ 7 ∷ 7 ∷ [])
 unfolding tableChecked anchorsChecked lowest hulls holeBefore liesUnder winsTie nearer edge kept offered keep nearest contourUnder place inserted sorted holesBelow listOf giveEach ownersOf
 e10-bound = refl
 
 -- "With only the first hull lent, both get 0."
-e10-one : bound e10One false (7 ∷ 7 ∷ 7 ∷ []) ≡ outcome (Bound 1 0) (0 ∷ 0 ∷ 0 ∷ [])
+pub e10-one : bound e10One false (7 ∷ 7 ∷ 7 ∷ []) ≡ outcome (Bound 1 0) (0 ∷ 0 ∷ 0 ∷ [])
 unfolding tableChecked anchorsChecked lowest hulls holeBefore ownersOf
 e10-one = refl
 
