@@ -83,4 +83,4 @@ rows =
     ∷ []
 
 pub worked : AllHold rows
-worked = (e1, e2, e3, e4, e5, e6, e6-rejected, e7, e8, e9-bound, e10-bound, e10-one, tt)
+worked = (e1, (e2, (e3, (e4, (e5, (e6, (e6-rejected, (e7, (e8, (e9-bound, (e10-bound, (e10-one, tt))))))))))))

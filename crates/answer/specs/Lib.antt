@@ -1,0 +1,2 @@
+-- What the program answers, by the definitions of the crates below.
+pub mod Answered

@@ -1,0 +1,9 @@
+-- What reading may answer for a buffer.
+use Prim.Native.Nat.{ℕ, _≤_}
+use Rattle.outline.specs.declared.Input.{Input}
+use Rattle.outline.specs.declared.Input.the-variants.{Read, Failed}
+
+-- so many bytes at most, or that a read failed
+abbrev pub Within : Input → ℕ → Type 0
+Within (Read n) most = n ≤ most
+Within Failed most = Unit
