@@ -100,7 +100,7 @@ same-length-6 c = search needs
 
 -- src/lib.rt:47:1
 returns : tie.Need-returns
-returns c = let s = c .before .before .before .before .before .before .before .before .before .before .before .before .before .before .before .before .before .before .before .before .before .before .before .before .before .before .before .before .before .before .before .before in wrote-as (extracted-text (g s) (s .args .top .now) (s .args .clockwise) (s .args .minimum) (b s) (c .before .before .before .before .before .before .before .before .before .before .before .before .before .before .before .before .extract .ensures) _ (c .before .before .before .before .before .number .given .1)) (c .before .before .write-refusal .ensures)
+returns c = let s = c .before .before .before .before .before .before .before .before .before .before .before .before .before .before .before .before .before .before .before .before .before .before .before .before .before .before .before .before .before .before .before .before in wrote-as (extracted-text (g s) (s .args .top .now) (s .args .clockwise) (s .args .minimum) (b s) (c .before .before .before .before .before .before .before .before .before .before .before .before .before .before .before .before .extract .ensures) _ (c .before .before .before .before .before .number .given .1)) (c .before .before .write-refusal .ensures .0)
 
 -- src/lib.rt:47:1
 same-length-7 : tie.Need-same-length-7

@@ -164,7 +164,7 @@ same-length-11 c = search needs
 
 -- src/lib.rt:113:1
 returns : tie.Need-returns
-returns c = let s = c .before .before .before .before .before .before .before .before .before .before .before .before .before .before .before .before .before .before .before .before .before .before .before .before .before .before .before .before .before .before .before .before .before .before .before .before .before .before .before .before .before .before in wrote-as (refusal-text (s .args .input .now) (b s) (c .before .before .before .before .before .before .before .before .before .before .before .before .before .before .before .before .before .before .before .before .before .before .before .read-graph .ensures) (c .before .before .before .before .before .why .given .1)) (c .before .before .write-refusal .ensures)
+returns c = let s = c .before .before .before .before .before .before .before .before .before .before .before .before .before .before .before .before .before .before .before .before .before .before .before .before .before .before .before .before .before .before .before .before .before .before .before .before .before .before .before .before .before .before in wrote-as (refusal-text (s .args .input .now) (b s) (c .before .before .before .before .before .before .before .before .before .before .before .before .before .before .before .before .before .before .before .before .before .before .before .read-graph .ensures) (c .before .before .before .before .before .why .given .1)) (c .before .before .write-refusal .ensures .0)
 
 -- src/lib.rt:113:1
 same-length-12 : tie.Need-same-length-12
