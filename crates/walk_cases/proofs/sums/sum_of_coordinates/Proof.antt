@@ -1,0 +1,59 @@
+-- `sum_of_coordinates`: the loop goes up to the list's end.
+use Prim.Native.Nat.{_-_, _≤_}
+use lib.ListN.{length}
+use borrow.Author.Needs.{needs}
+use Rattle.walk_cases.proofs.sums.sum_of_coordinates.Statement.{statement}
+use Rattle.walk_cases.proofs.sums.sum_of_coordinates.Tie as tie
+
+abbrev Inv-loop : tie.InvT-loop
+Inv-loop list s₀ i₀ s i = i ≤ length list
+
+abbrev μ-loop : tie.MeasureT-loop
+μ-loop list s₀ i₀ s i = length list - i
+
+loop-holds : tie.Need-loop-holds Inv-loop μ-loop
+loop-holds c = search needs
+
+mul-size : tie.Need-mul-size Inv-loop μ-loop
+mul-size c = search needs
+
+shared-slice-copy-out-size : tie.Need-shared-slice-copy-out-size Inv-loop μ-loop
+shared-slice-copy-out-size c = search needs
+
+size-requires : tie.Need-size-requires Inv-loop μ-loop
+size-requires c κs = search needs
+
+added-requires : tie.Need-added-requires Inv-loop μ-loop
+added-requires c κs = search needs
+
+add-i : tie.Need-add-i Inv-loop μ-loop
+add-i c = search needs
+
+loop-less : tie.Need-loop-less Inv-loop μ-loop
+loop-less c = search needs
+
+loop-again : tie.Need-loop-again Inv-loop μ-loop
+loop-again c = search needs
+
+sums-said-requires : tie.Need-sums-said-requires Inv-loop μ-loop
+sums-said-requires c κs = search needs
+
+returns : tie.Need-returns Inv-loop μ-loop
+returns c = search needs
+
+pub sum-of-coordinates-spec : {M : Type 1} → statement M
+sum-of-coordinates-spec =
+    tie.close
+    (tie.spec
+    Inv-loop
+    μ-loop
+    loop-holds
+    mul-size
+    shared-slice-copy-out-size
+    size-requires
+    added-requires
+    add-i
+    loop-less
+    loop-again
+    sums-said-requires
+    returns)
