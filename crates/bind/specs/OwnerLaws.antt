@@ -113,7 +113,7 @@ module _ (under : ℕ → ℕ) (n : ℕ) (some : 0 < n) where
           joined b (r (held-on old c (given (under c) old) b h) q)
 
 -- ---- the first owners
-hulls-most : (k : ℕ) (l : List ℕ) → hulls (take k l) ≤ hulls l
+pub hulls-most : (k : ℕ) (l : List ℕ) → hulls (take k l) ≤ hulls l
 unfolding hulls
 hulls-most zero [] = omega arith
 hulls-most zero (d ∷ l) = omega arith

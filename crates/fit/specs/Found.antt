@@ -1,15 +1,15 @@
 -- After extraction and binding have succeeded, a lookup finds every contour, with the kind and the owner that were written.
-use Prim.Native.Nat.{ℕ, zero, suc, _+_, _*_, _-_, _≤_, _<_}
+use Prim.Native.Nat.{ℕ, _+_, _-_, _≤_, _<_}
 use native.Mathlib.Omega.{arith}
-use mathlib.Core.Path.{_≡_, refl, sym, ap, ap₂, _∙_, subst}
+use mathlib.Core.Path.{_≡_, refl, sym, ap, _∙_}
 use mathlib.Core.Bool.{Bool, true, false, _&&_}
-use mathlib.Core.List.{List, [], _∷_, _++_}
+use mathlib.Core.List.{List, [], _∷_}
 use lib.ListN.{length, getD, set, take, drop, replicate, length-set, length-append, length-drop, length-replicate, getD-replicate, List·getD-append}
 use lib.Seq.{getD-set-other}
 use lib.Dec.{eqb, ltb}
-use borrow.Author.Tests.{eq-eqb, ne-eqb, eqb-true, eqb-false, lt-ltb}
-use Rattle.laws.specs.Test.{pick, true≢false}
-use Rattle.table.specs.Table.{Table, contourCount, kindOf, hullCount, shapeOf, isHole, hulls, droppedOwner}
+use borrow.Author.Tests.{eq-eqb, eqb-true, eqb-false, lt-ltb}
+use Rattle.laws.specs.Test.{pick}
+use Rattle.table.specs.Table.{Table, contourCount, kindOf, hullCount, shapeOf, hulls, droppedOwner}
 use Rattle.table.specs.TableLaws.{hulls-more}
 use Rattle.table.specs.TableChecks.{tableChecked, anchorsChecked, bothChecked, followedBy}
 use Rattle.table.specs.declared.Checked.{Checked}
@@ -17,16 +17,15 @@ use Rattle.table.specs.declared.Checked.the-variants.{Fine, Refused}
 use Rattle.table.specs.Sound.{Sound}
 use Rattle.table.specs.Passing.{passes-sound}
 use Rattle.table.specs.Lookups.{ownerRight, recordOf, lookedUp}
-use Rattle.table.specs.LookupLaws.{Present, found-record}
+use Rattle.table.specs.LookupLaws.{found-record}
 use Rattle.table.specs.declared.records.Lookup.the-variants.{Found}
-use Rattle.bind.specs.declared.Binding.{Binding}
 use Rattle.bind.specs.declared.Binding.the-variants as binding
 use Rattle.bind.specs.declared.Given.{Given}
 use Rattle.bind.specs.declared.Given.the-variants.{All, Stuck}
 use Rattle.bind.specs.Owners.{Owned, owned, given, giveEach, firstOwner, listOf, searchedOwners, ownersOf, contourBelow, Outcome, outcome, written, handed, handedBy, boundAfter, bound}
 use Rattle.bind.specs.HoleOrder.{bindingOrder}
 use Rattle.bind.specs.OrderLaws.{each-once}
-use Rattle.bind.specs.OwnerLaws.{owners-below}
+use Rattle.bind.specs.OwnerLaws.{list-length, list-at, hulls-most, owners-below}
 use Rattle.bind.specs.Insertion.{times}
 
 -- ---- giving leaves the owners of contours that are not gone through
@@ -62,31 +61,10 @@ left under (d ∷ l) old new e = go (eqb (given (under d) old) droppedOwner) e (
     go true q r = let z : Stuck d ≡ All = split q .0 in let x : _≡_ {A = ℕ} 0 1 = cc in absurd (zero-one x)
     go false q r = joined (r q)
 
-list-length : (f : ℕ → ℕ) (n : ℕ) → length (listOf f n) ≡ n
-unfolding listOf
-list-length f zero = refl
-list-length f (suc n) = ap suc (list-length (λ k. f (suc k)) n)
-
-list-at : (f : ℕ → ℕ) (n i : ℕ) → i < n → getD (listOf f n) i 0 ≡ f i
-unfolding listOf
-list-at f zero i h = absurd (nothing i h)
-  where
-    nothing : (i : ℕ) → i < 0 → ⊥
-    nothing i h = omega arith
-list-at f (suc n) zero h = refl
-list-at f (suc n) (suc i) h = list-at (λ k. f (suc k)) n i (omega arith)
-
 -- ---- the owners that binding works out
 pub record Right (t : Table) (l : List ℕ) : Type 0 where
   pub long : length l ≡ contourCount t
   pub right : (c : ℕ) → c < contourCount t → ownerRight (kindOf t c) (getD l c 0) (shapeOf t c) (hullCount t) ≡ true
-
-hulls-most : (k : ℕ) (l : List ℕ) → hulls (take k l) ≤ hulls l
-unfolding hulls
-hulls-most zero [] = omega arith
-hulls-most zero (d ∷ l) = omega arith
-hulls-most (suc k) [] = omega arith
-hulls-most (suc k) (d ∷ l) = omega (arith, hulls-most k l)
 
 module _ (t : Table) (s : Sound t) (cw : Bool) (l : List ℕ) where
   -- up to a hull, itself among them, there is one hull more than before it

@@ -10,7 +10,8 @@ use Rattle.graph.specs.Graph.{Lent, linkCount, nodeCount, part}
 use Rattle.graph.specs.Checks.{aOf, bOf, nodeAt, linkFault, flagFault, misplaced, misnamed, linkWrong, badStarts, strayAt, missed, badNodes}
 use Rattle.graph.specs.Passes.{Even, Rising}
 use Rattle.graph.specs.Known.{Points, Grids, Ids, Entries}
-use Rattle.graph.specs.Tests.{placed, named, rising, no-stray, some-fails}
+use Rattle.laws.specs.Fails.{some-fails}
+use Rattle.graph.specs.Tests.{placed, named, rising, no-stray}
 
 -- 2: the lists of the points are of one length
 pub points : (g : Lent) → Even g → Points (g .ax) (g .ay) (g .bx) (g .by) (linkCount g)
@@ -32,6 +33,7 @@ module _ (g : Lent) (top state : List ℕ) (h : None (linkWrong g top state) (li
     same = e .bId;
     a-below = λ k l. named (nodeCount g) (nodeAt (g .aId) k) (nodeAt (g .bId) k) .to (link k l .1) .0 .0;
     b-below = λ k l. named (nodeCount g) (nodeAt (g .aId) k) (nodeAt (g .bId) k) .to (link k l .1) .0 .1;
+    two = λ k l. named (nodeCount g) (nodeAt (g .aId) k) (nodeAt (g .bId) k) .to (link k l .1) .1;
   }
 
 -- 5: the starts and the entries

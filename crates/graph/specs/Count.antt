@@ -3,6 +3,7 @@ use Prim.Native.Nat.{ℕ, zero, suc, _+_, _*_, _≤_, _<_, zero-le, suc-le-suc}
 use native.Mathlib.Nat.{not-suc-le-zero, le-of-suc-le-suc, eq-or-lt-of-le, zero-add, add-zero, add-assoc}
 use native.Mathlib.Numerals.{add-one}
 use native.Mathlib.Omega.{arith}
+use native.Mathlib.Decide.{decLe}
 use mathlib.Core.Path.{_≡_, refl, sym, ap₂, _∙_}
 use mathlib.Core.Logic.{⊎-elim}
 use mathlib.Core.Bool.{Bool, true, false}
@@ -69,6 +70,20 @@ count-two x (y ∷ l) i zero h k p q = absurd (not-suc-le-zero h)
 count-two x (y ∷ l) zero (suc j) h k p q = let c = count-at x l j (le-of-suc-le-suc k) q in rw (eq-eqb y x p) (omega arith)
 count-two x (y ∷ l) (suc i) (suc j) h k p q = omega (arith, count-two x l i j (le-of-suc-le-suc h) (le-of-suc-le-suc k) p q)
 
+-- no two places with one number: it stands once at most
+pub count-single : (x : ℕ) (l : List ℕ) → ((i j : ℕ) → i < j → j < length l → getD l i 0 ≡ getD l j 0 → ⊥) → count x l ≤ 1
+unfolding count
+count-single x [] h = zero-le
+count-single x (y ∷ l) h = at (count-single x l (λ i j m k e. h (suc i) (suc j) (suc-le-suc m) (suc-le-suc k) e)) (eqb y x) refl (decLe 1 (count x l))
+  where
+    again : eqb y x ≡ true → Place x l → ⊥
+    again e p = h 0 (suc (p .place)) (suc-le-suc zero-le) (suc-le-suc (p .within)) (eqb-true y x e ∙ sym (p .here))
+
+    at : count x l ≤ 1 → (b : Bool) → eqb y x ≡ b → Dec (1 ≤ count x l) → pick b 1 0 + count x l ≤ 1
+    at r true e (yes m) = absurd (again e (place-of l (counted-in x l m)))
+    at r true e (no m) = omega arith
+    at r false e d = omega arith
+
 -- ---- sums
 unfoldable pub sum : (ℕ → ℕ) → ℕ → ℕ
 sum f zero = 0
@@ -93,6 +108,20 @@ pub sum-swap : (f : ℕ → ℕ → ℕ) (m n : ℕ) → sum (λ i. sum (f i) n)
 unfolding sum
 sum-swap f zero n = sym (sum-const 0 n ∙ omega arith)
 sum-swap f (suc m) n = omega (arith, sum-swap f m n, sum-add (f m) (λ j. sum (λ i. f i j) m) n)
+
+pub sum-less : (f g : ℕ → ℕ) (n : ℕ) → ((i : ℕ) → i < n → f i ≤ g i) → sum f n ≤ sum g n
+unfolding sum
+sum-less f g zero h = zero-le
+sum-less f g (suc n) h = omega (arith, h n (omega arith), sum-less f g n (λ i l. h i (omega arith)))
+
+-- no term is below its bound where the sum is not
+pub sum-tight : (f g : ℕ → ℕ) (n : ℕ) → ((i : ℕ) → i < n → f i ≤ g i) → sum g n ≤ sum f n → (i : ℕ) → i < n → f i ≡ g i
+unfolding sum
+sum-tight f g zero h e i l = absurd (not-suc-le-zero l)
+sum-tight f g (suc n) h e i l =
+    let a = h n (omega arith) in
+    let b = sum-less f g n (λ j m. h j (omega arith)) in
+    ⊎-elim (λ (q : i ≡ n). rw q (omega arith)) (λ (m : i < n). sum-tight f g n (λ j k. h j (omega arith)) (omega arith) i m) (eq-or-lt-of-le (le-of-suc-le-suc l))
 
 -- of the numbers below n, x is one
 nowhere : (x n : ℕ) → n ≤ x → sum (λ i. pick (eqb x i) 1 0) n ≡ 0

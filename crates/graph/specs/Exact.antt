@@ -15,7 +15,8 @@ use Rattle.graph.specs.Graph.{Lent, linkCount, nodeCount}
 use Rattle.graph.specs.Count.{count}
 use Rattle.graph.specs.Checks.{Room, aOf, bOf, nodeAt, entriesOf, unlike, fewPoints, unlikeBand, fewContours, linkWrong, badStarts, badNodes, apartAt, alikeAt, checkedNodes, checkedLinks, checked}
 use Rattle.graph.specs.Passes.{Even, EndAt, entry, endOf, awayOf, Passes}
-use Rattle.graph.specs.Tests.{Iff, Fails, then, both, or-fails, some-fails, two-fails, lt-fails, ne-fails, refuses, even, band-even, contours, placed, named, flagged, in-order, rising, no-stray, together, unlike-ways}
+use Rattle.laws.specs.Fails.{Iff, Fails, then, both, or-fails, some-fails, lt-fails, ne-fails}
+use Rattle.graph.specs.Tests.{two-fails, refuses, even, band-even, contours, placed, named, flagged, in-order, rising, no-stray, together, unlike-ways}
 
 module _ (g : Lent) (top state : List ℕ) (r : Room) where
   -- what the checks say one after the other
@@ -63,7 +64,7 @@ module _ (g : Lent) (top state : List ℕ) (r : Room) where
   nothing : {P : Type 0} → Iff (P × (Fine ≡ Fine)) P
   nothing = record { to = λ p. p .0; from = λ p. (p, refl) }
 
-  by-nodes : Iff (checkedNodes g state ≡ Fine) (Lists × (Points × Ways))
+  pub by-nodes : Iff (checkedNodes g state ≡ Fine) (Lists × (Points × Ways))
   unfolding checkedNodes
   by-nodes = then (refuses _ _ _ _) (both lists (then (refuses _ _ _ _) (both points (then (refuses _ _ _ _) (then nothing ways)))))
 

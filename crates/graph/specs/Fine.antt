@@ -117,7 +117,7 @@ module _ {start list : List ℕ} (h : Rising start list) where
       let e : getD start (v + 1) 0 - getD start v 0 ≡ 0 = omega arith in
       ap (λ (t : ℕ). take t (drop (getD start v 0) list)) e
 
-  lengths : (v : ℕ) → v ≤ length start - 1 → sum (λ u. length (part start list u)) v ≡ getD start v 0
+  pub lengths : (v : ℕ) → v ≤ length start - 1 → sum (λ u. length (part start list u)) v ≡ getD start v 0
   unfolding sum
   lengths zero l = sym (h .first)
   lengths (suc v) l = let e : getD start (v + 1) 0 ≡ getD start (suc v) 0 = ap (λ (t : ℕ). getD start t 0) (add-one v) in omega (arith, lengths v (omega arith), part-length v (omega arith))

@@ -19,11 +19,12 @@ pub record Grids (ax ay bx by : List ℤ) (n : ℕ) : Type 0 where
   pub a-grid : (k : ℕ) → k < n → OnGrid (pointAt ax ay k)
   pub b-grid : (k : ℕ) → k < n → OnGrid (pointAt bx by k)
 
--- every link has both its ends at nodes below m
+-- every link has its ends at two nodes below m
 pub record Ids (aId bId : List ℕ) (m : ℕ) : Type 0 where
   pub same : length bId ≡ length aId
   pub a-below : (k : ℕ) → k < length aId → getD aId k 0 < m
   pub b-below : (k : ℕ) → k < length aId → getD bId k 0 < m
+  pub two : (k : ℕ) → k < length aId → getD aId k 0 ≡ getD bId k 0 → ⊥
 
 -- every number of a list is below n
 abbrev pub Below : List ℕ → ℕ → Type 0

@@ -2,6 +2,7 @@
 pub mod Graph
 pub mod Count
 pub mod Checks
+pub mod Quick
 pub mod Examples
 pub mod Passes
 pub mod PointLaws
@@ -9,3 +10,4 @@ pub mod Known
 pub mod Tests
 pub mod Exact
 pub mod Fine
+pub mod Sound

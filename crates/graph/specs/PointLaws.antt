@@ -1,11 +1,9 @@
 -- Laws of points: the order, when two are one, the bounds; and that having one direction goes both ways.
-use native.Mathlib.Omega.{arith}
 use mathlib.Core.Path.{_≡_, refl, sym, ap, _∙_, subst}
 use mathlib.Core.Bool.{Bool, true, false, not, _&&_}
 use mathlib.Core.Logic.{_⊎_, inl, inr, ⊎-elim}
-use lib.IntN.{ℤ, pos, negsuc, negℤ}
+use lib.IntN.{ℤ, negℤ}
 use lib.Signed.{ltZ, _≤ℤ_, _<ℤ_, ltZ-no, ltZ-yes, <ℤ-irrefl, clashℤ, ≤ℤ-refl}
-use borrow.Author.Tests.{ltb-false, le-ltb}
 use lib.Dec.{T}
 use Rattle.laws.specs.Test.{or-false, false-or, and-false, true-is, is-true, not-true}
 use Rattle.laws.specs.Order.{lin, antisym, tricho}
@@ -14,7 +12,7 @@ use mathlib.Core.List.{[], _∷_}
 use Rattle.laws.specs.Ring.{ring, var, neg, _:-_, _:+_, _:*_}
 use Rattle.laws.specs.Sign.{Sgn, mns, zer, pls, sgn, flip, eqS, sgn-neg}
 use Rattle.turn.specs.declared.Vector.{Vector}
-use Rattle.turn.specs.Points.{before, differ, outside, Coord, cross, dot}
+use Rattle.turn.specs.Points.{before, differ, cross, dot}
 use Rattle.turn.specs.Angle.{sameDirection}
 
 -- ---- tests of integers
@@ -23,15 +21,6 @@ ltZ-false a b e = ltZ-no (true-is (ap not e) .is)
 
 le-ltZ : (a b : ℤ) → b ≤ℤ a → ltZ a b ≡ false
 le-ltZ a b h = not-true (ltZ a b) (λ e. clashℤ (ltZ-yes (true-is e .is)) h)
-
--- ---- bounds
-pub coord : (z : ℤ) → outside z ≡ false → Coord z
-coord (pos n) e = ltb-false 524288 n e
-coord (negsuc n) e = let h = ltb-false 524287 n (or-false _ _ e .0) in omega arith
-
-pub inside : (z : ℤ) → Coord z → outside z ≡ false
-inside (pos n) h = le-ltb 524288 n h
-inside (negsuc n) h = false-or _ _ (le-ltb 524287 n (omega arith)) refl
 
 -- ---- p is q or before q
 pub data Upto (p q : Point) : Type 0 where

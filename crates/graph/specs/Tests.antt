@@ -1,14 +1,15 @@
 -- What each test of the checks says, both ways: it fails exactly where the plain fact holds.
 use Prim.Native.Nat.{ℕ, zero, suc, _+_, _-_, _/_, _≤_, _<_}
 use native.Mathlib.Omega.{arith}
-use mathlib.Core.Path.{_≡_, refl, ap}
-use mathlib.Core.Bool.{Bool, true, false, not, _||_, _&&_}
+use mathlib.Core.Path.{_≡_, refl}
+use mathlib.Core.Bool.{Bool, true, false, not, _&&_}
 use mathlib.Core.Logic.{_⊎_, inl, inr, ⊎-elim}
 use mathlib.Core.List.{List}
-use lib.Dec.{ltb, leb, eqb}
+use lib.Dec.{ltb, eqb}
 use lib.ListN.{length, getD}
-use borrow.Author.Tests.{ltb-false, leb-false, eqb-true, eqb-false, le-ltb, lt-leb, eq-eqb, ne-eqb, lt-ltb, not-false}
-use Rattle.laws.specs.Test.{pick, or-false, false-or, and-false, true≢false}
+use borrow.Author.Tests.{eqb-false, ne-eqb, lt-ltb}
+use Rattle.laws.specs.Test.{pick, and-false, true≢false}
+use Rattle.laws.specs.Fails.{Iff, Fails, then, lt-fails, le-fails, eq-fails, ne-fails, not-fails, or-fails, some-fails}
 use Rattle.laws.specs.Lowest.{some, None, none-of, some-no}
 use Rattle.turn.specs.declared.Point.{Point}
 use Rattle.turn.specs.Points.{before, OnGrid}
@@ -18,47 +19,10 @@ use Rattle.graph.specs.declared.Checked.the-variants.{Fine, Refused}
 use Rattle.graph.specs.Graph.{Lent}
 use Rattle.graph.specs.Checks.{unlike, unlikeBand, fewContours, offGrid, misplaced, misnamed, misflagged, outOfOrder, badStarts, stray, someTwo, endAt, away, apart, skipped, alike}
 use Rattle.graph.specs.Passes.{Even, Rising, EndAt}
-use Rattle.graph.specs.PointLaws.{coord, inside, same-point, not-differ}
+use Rattle.turn.specs.PointOrder.{coord, inside}
+use Rattle.graph.specs.PointLaws.{same-point, not-differ}
 
--- ---- one fact exactly where another
-pub record Iff (P Q : Type 0) : Type 0 where
-  pub to : P → Q
-  pub from : Q → P
-
--- the test fails exactly where P holds
-abbrev pub Fails : Bool → Type 0 → Type 0
-Fails b P = Iff (b ≡ false) P
-
-pub then : {P Q R : Type 0} → Iff P Q → Iff Q R → Iff P R
-then h k = record { to = λ p. k .to (h .to p); from = λ r. h .from (k .from r) }
-
-pub both : {P Q R S : Type 0} → Iff P Q → Iff R S → Iff (P × R) (Q × S)
-both h k = record { to = λ p. (h .to (p .0), k .to (p .1)); from = λ q. (h .from (q .0), k .from (q .1)) }
-
--- ---- tests of numbers
-pub lt-fails : (m n : ℕ) → Fails (ltb m n) (n ≤ m)
-lt-fails m n = record { to = ltb-false m n; from = le-ltb m n }
-
-pub le-fails : (m n : ℕ) → Fails (leb m n) (n < m)
-le-fails m n = record { to = leb-false m n; from = lt-leb m n }
-
-pub eq-fails : (m n : ℕ) → Fails (eqb m n) (m ≡ n → ⊥)
-eq-fails m n = record { to = eqb-false m n; from = ne-eqb m n }
-
-pub ne-fails : (m n : ℕ) → Fails (not (eqb m n)) (m ≡ n)
-ne-fails m n = record { to = λ e. eqb-true m n (not-false (eqb m n) e); from = λ e. ap not (eq-eqb m n e) }
-
-pub not-fails : (b : Bool) → Fails (not b) (b ≡ true)
-not-fails b = record { to = not-false b; from = ap not }
-
--- ---- tests joined
-pub or-fails : {a b : Bool} {P Q : Type 0} → Fails a P → Fails b Q → Fails (a || b) (P × Q)
-or-fails {a} {b} h k = then (record { to = or-false a b; from = λ p. false-or a b (p .0) (p .1) }) (both h k)
-
-pub some-fails : {test : ℕ → Bool} {P : ℕ → Type 0} (n : ℕ) → ((k : ℕ) → Fails (test k) (P k)) → Fails (some test n) ((k : ℕ) → k < n → P k)
-some-fails {test} n h = record { to = λ e k l. h k .to (none-of test n e k l); from = λ p. some-no test n (λ k l. h k .from (p k l)) }
-
--- two of n places
+-- ---- two of n places
 pub two-fails : {test : ℕ → ℕ → Bool} {P : ℕ → ℕ → Type 0} (n : ℕ) → ((i j : ℕ) → Fails (test i j) (P i j)) → Fails (someTwo test n) ((j : ℕ) → j < n → (i : ℕ) → i < j → P i j)
 two-fails n h = some-fails n (λ j. some-fails j (λ i. h i j))
 

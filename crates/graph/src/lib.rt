@@ -4,10 +4,12 @@ ghost use Prim.Native.Nat.{ℕ, _+_, _-_, _<_, _≤_};
 ghost use lib.Dec.{ltb};
 ghost use lib.ListN.{length, getD};
 ghost use Rattle.laws.specs.Lowest.{lowest, some};
-ghost use Rattle.turn.specs.Points.{Short};
+ghost use Rattle.turn.specs.Limits.{maxLinks};
+ghost use Rattle.turn.specs.Points.{Short, fromTo};
 ghost use Rattle.graph.specs.Graph.{lent, pointAt, part};
 ghost use Rattle.graph.specs.Count.{count};
 ghost use Rattle.graph.specs.Checks.{room, unlike, fewPoints, unlikeBand, fewContours, offGrid, misplaced, misnamed, linkWrong, misflagged, outOfOrder, short, badStarts, stray, strayIn, strayAt, notOnce, missed, badNodes, nodeAt, endAt, away, apart, apartIn, apartAt, alike, alikeAt, checkedNodes, checkedLinks, checked};
+ghost use Rattle.graph.specs.Quick.{standsBefore, alikeBefore, clashAt, bridgeWrong, nodeWrong};
 ghost use Rattle.graph.specs.Passes.{Even, Rising};
 ghost use Rattle.graph.specs.Known.{Points, Grids, Ids, Below, Entries};
 use turn::MAX_LINKS;
@@ -15,6 +17,7 @@ use turn::Point;
 use turn::Vector;
 use turn::before;
 use turn::between;
+use turn::cross_product;
 use turn::differ;
 use turn::outside;
 use turn::same_direction;
@@ -111,6 +114,58 @@ fn misflagged(top: u8, state: u8) -> bool
     (1 < top) | (1 < state)
 }
 
+// Whether check 3 refuses link k.
+fn link_wrong(
+    ax: &[i32],
+    ay: &[i32],
+    bx: &[i32],
+    by: &[i32],
+    aid: &[u32],
+    bid: &[u32],
+    start: &[u32],
+    list: &[u32],
+    top: &[u8],
+    state: &[u8],
+    k: usize,
+) -> bool
+    requires { ⌜ Even (lent (now ax) (now ay) (now bx) (now by) (now aid) (now bid) (now start) (now list)) ⌝ }
+    requires { ⌜ (length (now top) ≡ length (now aid)) × (length (now state) ≡ length (now aid)) ⌝ }
+    requires { ⌜ (1 ≤ length (now start)) × (k < length (now aid)) ⌝ }
+    ensures { λ r. ⌜ r ≡ linkWrong (lent (now (ax .entry)) (now (ay .entry)) (now (bx .entry)) (now (by .entry)) (now (aid .entry)) (now (bid .entry)) (now (start .entry)) (now (list .entry))) (now (top .entry)) (now (state .entry)) k ⌝ }
+{
+    misplaced(point_at(ax, ay, k), point_at(bx, by, k))
+        | misnamed(start.len() - 1, aid[k], bid[k])
+        | misflagged(top[k], state[k])
+}
+
+// Whether check 3 refuses some link. No link ends the loop, so that the compiler may look at several at once.
+fn any_bad_link(
+    ax: &[i32],
+    ay: &[i32],
+    bx: &[i32],
+    by: &[i32],
+    aid: &[u32],
+    bid: &[u32],
+    start: &[u32],
+    list: &[u32],
+    top: &[u8],
+    state: &[u8],
+) -> bool
+    requires { ⌜ Even (lent (now ax) (now ay) (now bx) (now by) (now aid) (now bid) (now start) (now list)) ⌝ }
+    requires { ⌜ (length (now top) ≡ length (now aid)) × (length (now state) ≡ length (now aid)) ⌝ }
+    requires { ⌜ 1 ≤ length (now start) ⌝ }
+    ensures { λ r. ⌜ r ≡ some (linkWrong (lent (now (ax .entry)) (now (ay .entry)) (now (bx .entry)) (now (by .entry)) (now (aid .entry)) (now (bid .entry)) (now (start .entry)) (now (list .entry))) (now (top .entry)) (now (state .entry))) (length (now (aid .entry))) ⌝ }
+{
+    let n = aid.len();
+    let mut wrong = false;
+    let mut k = 0;
+    while k < n {
+        wrong = wrong | link_wrong(ax, ay, bx, by, aid, bid, start, list, top, state, k);
+        k += 1;
+    }
+    wrong
+}
+
 // The lowest link that check 3 refuses, among m nodes, or the number of links.
 fn bad_link(
     ax: &[i32],
@@ -130,13 +185,9 @@ fn bad_link(
     ensures { λ r. ⌜ r ≡ lowest (linkWrong (lent (now (ax .entry)) (now (ay .entry)) (now (bx .entry)) (now (by .entry)) (now (aid .entry)) (now (bid .entry)) (now (start .entry)) (now (list .entry))) (now (top .entry)) (now (state .entry))) (length (now (aid .entry))) ⌝ }
 {
     let n = aid.len();
-    let m = start.len() - 1;
     let mut k = 0;
     while k < n {
-        if misplaced(point_at(ax, ay, k), point_at(bx, by, k))
-            | misnamed(m, aid[k], bid[k])
-            | misflagged(top[k], state[k])
-        {
+        if link_wrong(ax, ay, bx, by, aid, bid, start, list, top, state, k) {
             return k;
         }
         k += 1;
@@ -144,7 +195,22 @@ fn bad_link(
     n
 }
 
-// ---- Check 4, of the shared graph: the lowest link whose a is before the previous link's a, or the number of links.
+// ---- Check 4, of the shared graph: whether some link's a is before the previous link's a.
+fn any_out_of_order(ax: &[i32], ay: &[i32]) -> bool
+    requires { ⌜ length (now ay) ≡ length (now ax) ⌝ }
+    ensures { λ r. ⌜ r ≡ some (outOfOrder (pointAt (now (ax .entry)) (now (ay .entry)))) (length (now (ax .entry))) ⌝ }
+{
+    let n = ax.len();
+    let mut wrong = false;
+    let mut k = 1;
+    while k < n {
+        wrong = wrong | before(point_at(ax, ay, k), point_at(ax, ay, k - 1));
+        k += 1;
+    }
+    wrong
+}
+
+// The lowest such link, or the number of links.
 fn out_of_order(ax: &[i32], ay: &[i32]) -> usize
     requires { ⌜ length (now ay) ≡ length (now ax) ⌝ }
     ensures { λ r. ⌜ r ≡ lowest (outOfOrder (pointAt (now (ax .entry)) (now (ay .entry)))) (length (now (ax .entry))) ⌝ }
@@ -173,14 +239,13 @@ fn any_short(start: &[u32]) -> bool
     ensures { λ r. ⌜ r ≡ some (short (now (start .entry))) (length (now (start .entry)) - 1) ⌝ }
 {
     let m = start.len() - 1;
+    let mut wrong = false;
     let mut v = 0;
     while v < m {
-        if short(start[v], start[v + 1]) {
-            return true;
-        }
+        wrong = wrong | short(start[v], start[v + 1]);
         v += 1;
     }
-    false
+    wrong
 }
 
 // Whether the starts are wrong for this list.
@@ -312,10 +377,12 @@ pub fn end_at(
     requires { ⌜ k < length (now aid) ⌝ }
     ensures { λ r. ⌜ r ≡ endAt (pointAt (now (ax .entry)) (now (ay .entry))) (pointAt (now (bx .entry)) (now (by .entry))) (nodeAt (now (aid .entry))) v k ⌝ }
 {
+    let a = point_at(ax, ay, k);
+    let b = point_at(bx, by, k);
     if wide(aid[k]) == v {
-        return point_at(ax, ay, k);
+        return a;
     }
-    point_at(bx, by, k)
+    b
 }
 
 // The way that link k runs from node v.
@@ -393,7 +460,17 @@ fn apart_node(
     m
 }
 
-// ---- Check 7, of one band: whether links e and f are unskipped and run from node v in one direction.
+// ---- Check 7, of one band: the way from link k's a to its b.
+fn along(ax: &[i32], ay: &[i32], bx: &[i32], by: &[i32], k: usize) -> Vector
+    requires { ⌜ Points (now ax) (now ay) (now bx) (now by) (length (now ax)) ⌝ }
+    requires { ⌜ Grids (now ax) (now ay) (now bx) (now by) (length (now ax)) ⌝ }
+    requires { ⌜ k < length (now ax) ⌝ }
+    ensures { λ r. ⌜ (r ≡ fromTo (pointAt (now (ax .entry)) (now (ay .entry)) k) (pointAt (now (bx .entry)) (now (by .entry)) k)) × (Short r) ⌝ }
+{
+    between(point_at(ax, ay, k), point_at(bx, by, k))
+}
+
+// Whether links e and f are unskipped and run from node v in one direction.
 fn alike(
     ax: &[i32],
     ay: &[i32],
@@ -411,6 +488,10 @@ fn alike(
     requires { ⌜ (e < length (now aid)) × (f < length (now aid)) ⌝ }
     ensures { λ r. ⌜ r ≡ alike (pointAt (now (ax .entry)) (now (ay .entry))) (pointAt (now (bx .entry)) (now (by .entry))) (nodeAt (now (aid .entry))) (now (state .entry)) v e f ⌝ }
 {
+    // of links that are not parallel it plays no role which end is at the node
+    if cross_product(along(ax, ay, bx, by, e), along(ax, ay, bx, by, f)) != 0 {
+        return false;
+    }
     if (state[e] == 1) | (state[f] == 1) {
         return false;
     }
@@ -459,8 +540,201 @@ fn alike_node(
     v
 }
 
-// ---- The order of the checks: what checks 5, 6 and 7 say.
-fn check_nodes(
+// ---- Checks 5 to 7 at once, of one node after the other: whether x stands among the first j of a list.
+fn stands_before(here: &[u32], j: usize, x: usize) -> bool
+    requires { ⌜ j ≤ length (now here) ⌝ }
+    ensures { λ r. ⌜ r ≡ standsBefore (now (here .entry)) j x ⌝ }
+{
+    let mut stands = false;
+    let mut i = 0;
+    while i < j {
+        stands = stands | (wide(here[i]) == x);
+        i += 1;
+    }
+    stands
+}
+
+// Whether one of the first j entries of node v is alike link f.
+fn alike_before(
+    ax: &[i32],
+    ay: &[i32],
+    bx: &[i32],
+    by: &[i32],
+    aid: &[u32],
+    state: &[u8],
+    here: &[u32],
+    v: usize,
+    j: usize,
+    f: usize,
+) -> bool
+    requires { ⌜ Points (now ax) (now ay) (now bx) (now by) (length (now aid)) ⌝ }
+    requires { ⌜ Grids (now ax) (now ay) (now bx) (now by) (length (now aid)) ⌝ }
+    requires { ⌜ length (now state) ≡ length (now aid) ⌝ }
+    requires { ⌜ (Below (now here) (length (now aid))) × (j ≤ length (now here)) × (f < length (now aid)) ⌝ }
+    ensures { λ r. ⌜ r ≡ alikeBefore (pointAt (now (ax .entry)) (now (ay .entry))) (pointAt (now (bx .entry)) (now (by .entry))) (nodeAt (now (aid .entry))) (now (state .entry)) (now (here .entry)) v j f ⌝ }
+{
+    let mut i = 0;
+    while i < j {
+        if alike(ax, ay, bx, by, aid, state, v, wide(here[i]), f) {
+            return true;
+        }
+        i += 1;
+    }
+    false
+}
+
+// Whether entry j of node v is an earlier one again, has another point than the first, or is alike an earlier one.
+fn clashes(
+    ax: &[i32],
+    ay: &[i32],
+    bx: &[i32],
+    by: &[i32],
+    aid: &[u32],
+    state: &[u8],
+    here: &[u32],
+    v: usize,
+    j: usize,
+) -> bool
+    requires { ⌜ Points (now ax) (now ay) (now bx) (now by) (length (now aid)) ⌝ }
+    requires { ⌜ Grids (now ax) (now ay) (now bx) (now by) (length (now aid)) ⌝ }
+    requires { ⌜ length (now state) ≡ length (now aid) ⌝ }
+    requires { ⌜ (Below (now here) (length (now aid))) × (j < length (now here)) ⌝ }
+    ensures { λ r. ⌜ r ≡ clashAt (pointAt (now (ax .entry)) (now (ay .entry))) (pointAt (now (bx .entry)) (now (by .entry))) (nodeAt (now (aid .entry))) (now (state .entry)) (now (here .entry)) v j ⌝ }
+{
+    let f = wide(here[j]);
+    stands_before(here, j, f)
+        | differ(
+            end_at(ax, ay, bx, by, aid, v, wide(here[0])),
+            end_at(ax, ay, bx, by, aid, v, f),
+        )
+        | alike_before(ax, ay, bx, by, aid, state, here, v, j, f)
+}
+
+// Whether some entry of node v does.
+fn any_clash(
+    ax: &[i32],
+    ay: &[i32],
+    bx: &[i32],
+    by: &[i32],
+    aid: &[u32],
+    state: &[u8],
+    here: &[u32],
+    v: usize,
+) -> bool
+    requires { ⌜ Points (now ax) (now ay) (now bx) (now by) (length (now aid)) ⌝ }
+    requires { ⌜ Grids (now ax) (now ay) (now bx) (now by) (length (now aid)) ⌝ }
+    requires { ⌜ length (now state) ≡ length (now aid) ⌝ }
+    requires { ⌜ Below (now here) (length (now aid)) ⌝ }
+    ensures { λ r. ⌜ r ≡ some (clashAt (pointAt (now (ax .entry)) (now (ay .entry))) (pointAt (now (bx .entry)) (now (by .entry))) (nodeAt (now (aid .entry))) (now (state .entry)) (now (here .entry)) v) (length (now (here .entry))) ⌝ }
+{
+    let mut j = 0;
+    while j < here.len() {
+        if clashes(ax, ay, bx, by, aid, state, here, v, j) {
+            return true;
+        }
+        j += 1;
+    }
+    false
+}
+
+// Whether checks 5 to 7 find something wrong with node v, a `Bridge` with entries e and f.
+fn bridge_wrong(
+    ax: &[i32],
+    ay: &[i32],
+    bx: &[i32],
+    by: &[i32],
+    aid: &[u32],
+    bid: &[u32],
+    state: &[u8],
+    v: usize,
+    e: usize,
+    f: usize,
+) -> bool
+    requires { ⌜ Points (now ax) (now ay) (now bx) (now by) (length (now aid)) ⌝ }
+    requires { ⌜ Grids (now ax) (now ay) (now bx) (now by) (length (now aid)) ⌝ }
+    requires { ⌜ length (now state) ≡ length (now aid) ⌝ }
+    requires { ⌜ length (now bid) ≡ length (now aid) ⌝ }
+    ensures { λ r. ⌜ r ≡ bridgeWrong (now (aid .entry)) (now (bid .entry)) (pointAt (now (ax .entry)) (now (ay .entry))) (pointAt (now (bx .entry)) (now (by .entry))) (nodeAt (now (aid .entry))) (now (state .entry)) v e f ⌝ }
+{
+    if stray(aid, bid, v, e) | stray(aid, bid, v, f) | (e == f) {
+        return true;
+    }
+    differ(
+        end_at(ax, ay, bx, by, aid, v, e),
+        end_at(ax, ay, bx, by, aid, v, f),
+    )
+        | alike(ax, ay, bx, by, aid, state, v, e, f)
+}
+
+// The same of any node, with these entries. Most nodes are `Bridge`s.
+fn node_wrong(
+    ax: &[i32],
+    ay: &[i32],
+    bx: &[i32],
+    by: &[i32],
+    aid: &[u32],
+    bid: &[u32],
+    state: &[u8],
+    here: &[u32],
+    v: usize,
+) -> bool
+    requires { ⌜ Points (now ax) (now ay) (now bx) (now by) (length (now aid)) ⌝ }
+    requires { ⌜ Grids (now ax) (now ay) (now bx) (now by) (length (now aid)) ⌝ }
+    requires { ⌜ length (now state) ≡ length (now aid) ⌝ }
+    requires { ⌜ length (now bid) ≡ length (now aid) ⌝ }
+    ensures { λ r. ⌜ r ≡ nodeWrong (now (aid .entry)) (now (bid .entry)) (pointAt (now (ax .entry)) (now (ay .entry))) (pointAt (now (bx .entry)) (now (by .entry))) (nodeAt (now (aid .entry))) (now (state .entry)) (now (here .entry)) v ⌝ }
+{
+    if here.len() == 2 {
+        return bridge_wrong(
+            ax,
+            ay,
+            bx,
+            by,
+            aid,
+            bid,
+            state,
+            v,
+            wide(here[0]),
+            wide(here[1]),
+        );
+    }
+    if stray_in(aid, bid, here, v) {
+        return true;
+    }
+    any_clash(ax, ay, bx, by, aid, state, here, v)
+}
+
+// Whether they find something wrong with some node.
+fn any_node_wrong(
+    ax: &[i32],
+    ay: &[i32],
+    bx: &[i32],
+    by: &[i32],
+    aid: &[u32],
+    bid: &[u32],
+    start: &[u32],
+    list: &[u32],
+    state: &[u8],
+) -> bool
+    requires { ⌜ Points (now ax) (now ay) (now bx) (now by) (length (now aid)) ⌝ }
+    requires { ⌜ Grids (now ax) (now ay) (now bx) (now by) (length (now aid)) ⌝ }
+    requires { ⌜ length (now state) ≡ length (now aid) ⌝ }
+    requires { ⌜ (length (now bid) ≡ length (now aid)) × (Rising (now start) (now list)) ⌝ }
+    ensures { λ r. ⌜ r ≡ some (λ v. nodeWrong (now (aid .entry)) (now (bid .entry)) (pointAt (now (ax .entry)) (now (ay .entry))) (pointAt (now (bx .entry)) (now (by .entry))) (nodeAt (now (aid .entry))) (now (state .entry)) (part (now (start .entry)) (now (list .entry)) v) v) (length (now (start .entry)) - 1) ⌝ }
+{
+    let m = start.len() - 1;
+    let mut v = 0;
+    while v < m {
+        if node_wrong(ax, ay, bx, by, aid, bid, state, entries(start, list, v), v) {
+            return true;
+        }
+        v += 1;
+    }
+    false
+}
+
+// ---- The order of the checks: what checks 5, 6 and 7 say, each over all nodes before the next.
+fn check_in_order(
     ax: &[i32],
     ay: &[i32],
     bx: &[i32],
@@ -502,6 +776,39 @@ fn check_nodes(
     Checked::Fine
 }
 
+// What checks 5, 6 and 7 say. A graph that is fine is found so in one pass over its nodes; which check refuses, and where, is then asked in order.
+fn check_nodes(
+    ax: &[i32],
+    ay: &[i32],
+    bx: &[i32],
+    by: &[i32],
+    aid: &[u32],
+    bid: &[u32],
+    start: &[u32],
+    list: &[u32],
+    state: &[u8],
+) -> Checked
+    requires { ⌜ Points (now ax) (now ay) (now bx) (now by) (length (now aid)) ⌝ }
+    requires { ⌜ Grids (now ax) (now ay) (now bx) (now by) (length (now aid)) ⌝ }
+    requires { ⌜ length (now state) ≡ length (now aid) ⌝ }
+    requires { ⌜ (Ids (now aid) (now bid) (length (now start) - 1)) × (length (now aid) ≤ maxLinks) ⌝ }
+    requires { ⌜ 1 ≤ length (now start) ⌝ }
+    ensures { λ r. ⌜ r ≡ checkedNodes (lent (now (ax .entry)) (now (ay .entry)) (now (bx .entry)) (now (by .entry)) (now (aid .entry)) (now (bid .entry)) (now (start .entry)) (now (list .entry))) (now (state .entry)) ⌝ }
+{
+    if bad_starts(start, list) {
+        return Checked::Refused {
+            number: 5,
+            place: 0,
+        };
+    }
+    if (list.len() == 2 * aid.len())
+        & !any_node_wrong(ax, ay, bx, by, aid, bid, start, list, state)
+    {
+        return Checked::Fine;
+    }
+    check_in_order(ax, ay, bx, by, aid, bid, start, list, state)
+}
+
 // What checks 3 to 7 say.
 fn check_links(
     ax: &[i32],
@@ -517,22 +824,19 @@ fn check_links(
 ) -> Checked
     requires { ⌜ Even (lent (now ax) (now ay) (now bx) (now by) (now aid) (now bid) (now start) (now list)) ⌝ }
     requires { ⌜ (length (now top) ≡ length (now aid)) × (length (now state) ≡ length (now aid)) ⌝ }
-    requires { ⌜ 1 ≤ length (now start) ⌝ }
+    requires { ⌜ (1 ≤ length (now start)) × (length (now aid) ≤ maxLinks) ⌝ }
     ensures { λ r. ⌜ r ≡ checkedLinks (lent (now (ax .entry)) (now (ay .entry)) (now (bx .entry)) (now (by .entry)) (now (aid .entry)) (now (bid .entry)) (now (start .entry)) (now (list .entry))) (now (top .entry)) (now (state .entry)) ⌝ }
 {
-    let n = aid.len();
-    let k = bad_link(ax, ay, bx, by, aid, bid, start, list, top, state);
-    if k < n {
+    if any_bad_link(ax, ay, bx, by, aid, bid, start, list, top, state) {
         return Checked::Refused {
             number: 3,
-            place: k,
+            place: bad_link(ax, ay, bx, by, aid, bid, start, list, top, state),
         };
     }
-    let l = out_of_order(ax, ay);
-    if l < n {
+    if any_out_of_order(ax, ay) {
         return Checked::Refused {
             number: 4,
-            place: l,
+            place: out_of_order(ax, ay),
         };
     }
     check_nodes(ax, ay, bx, by, aid, bid, start, list, state)

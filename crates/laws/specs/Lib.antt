@@ -1,6 +1,7 @@
 -- The laws, leaves first.
 pub mod Test
 pub mod Lowest
+pub mod Fails
 pub mod Int
 pub mod Ring
 pub mod Sign

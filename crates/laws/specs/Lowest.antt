@@ -1,8 +1,10 @@
 -- The search that every check is: the lowest number at which a test passes; and what a loop that searches has to show for it.
-use Prim.Native.Nat.{ℕ, zero, suc, _<_, _≤_, zero-le, suc-le-suc}
+use Prim.Native.Nat.{ℕ, zero, suc, _+_, _<_, _≤_, zero-le, suc-le-suc}
 use native.Mathlib.Nat.{not-suc-le-zero, le-of-suc-le-suc, le-of-eq}
+use native.Mathlib.Omega.{arith}
+use borrow.Author.Count.{below-more}
 use mathlib.Core.Path.{_≡_, refl, sym}
-use mathlib.Core.Bool.{Bool, true, false}
+use mathlib.Core.Bool.{Bool, true, false, _||_}
 use lib.Dec.{ltb}
 use borrow.Author.Tests.{lt-ltb, le-ltb, ltb-true, ltb-false}
 use Rattle.laws.specs.Test.{pick}
@@ -83,3 +85,12 @@ unfolding lowest
 lowest-same f g zero h = refl
 lowest-same f g (suc n) h =
     simp (h zero (suc-le-suc zero-le), lowest-same (λ k. f (suc k)) (λ k. g (suc k)) n (λ k l. h (suc k) (suc-le-suc l)))
+
+-- one number more: what a loop that looks at every number has to show
+pub some-more : (test : ℕ → Bool) (n : ℕ) → some test (n + 1) ≡ some test n || test n
+some-more test n = go (some test n) refl (test n) refl
+  where
+    go : (a : Bool) → some test n ≡ a → (b : Bool) → test n ≡ b → some test (n + 1) ≡ a || b
+    go true e b f = let h = some-of test n e in some-yes test (n + 1) (lowest test n) (omega (arith, h .within)) (h .lowest-one) (h .passes)
+    go false e true f = some-yes test (n + 1) n (omega arith) (none-of test n e) f
+    go false e false f = some-no test (n + 1) (below-more (λ k. test k ≡ false) n (none-of test n e) f)

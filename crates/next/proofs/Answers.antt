@@ -1,16 +1,15 @@
--- The node that a part of the list is, by the code's reads and its test, and the answers of the two public functions.
+-- The node that a part of the list is, by the code's reads and its test, and the answers of the function that names the first link.
 use Prim.Native.Nat.{ℕ, _+_, _-_, _≤_, _<_}
 use native.Mathlib.Omega.{arith}
 use mathlib.Core.Path.{_≡_, sym, ap, _∙_}
-use mathlib.Core.Bool.{Bool, true}
+use mathlib.Core.Bool.{true}
 use mathlib.Core.List.{List, [], _∷_}
 use lib.ListN.{length, getD}
 use Rattle.graph.specs.Graph.{Graph}
 use Rattle.next.specs.declared.Next.{Next}
 use Rattle.next.specs.declared.Next.the-variants.{Link}
-use Rattle.next.specs.Next.{isOpen, nextLink, replaces, topmost, firstLink}
-use Rattle.next.specs.Known.{Nodes, Numbers, Unvisited, stretch}
-use Rattle.next.specs.Choice.{next-unvisited}
+use Rattle.next.specs.Next.{isOpen, replaces, topmost, firstLink}
+use Rattle.next.specs.Known.{Entries, Numbers, Unvisited, stretch}
 use Rattle.next.specs.Topmost.{first-unvisited, first-at-cross, topmost-same}
 use Rattle.next.proofs.Stretch.{stretch-more, stretch-none, stretch-length}
 
@@ -21,11 +20,11 @@ pub record Part (start list : List ℕ) (v n from to : ℕ) : Type 0 where
   pub numbers : Numbers list from to n
   pub is : stretch list (getD start v 0) (getD start (v + 1) 0) ≡ stretch list from to
 
-pub part-of : {aId start list : List ℕ} {n v from to : ℕ} → Nodes aId start list n → v + 1 < length start → from ≡ getD start v 0 → to ≡ getD start (v + 1) 0 → Part start list v n from to
-part-of {aId} {start} {list} {n} {v} {from} {to} h l p q = record {
-  rises = rw (p, q) (h .rises v l);
-  ends = rw q (h .ends v l);
-  numbers = rw (p, q) (h .numbers v l);
+pub part-of : {start list : List ℕ} {n v from to : ℕ} → Entries start list v n → from ≡ getD start v 0 → to ≡ getD start (v + 1) 0 → Part start list v n from to
+part-of {start} {list} {n} {v} {from} {to} h p q = record {
+  rises = rw (p, q) (h .rises);
+  ends = rw q (h .ends);
+  numbers = rw (p, q) (h .numbers);
   is = rw (p, q);
 }
 
@@ -57,12 +56,9 @@ module _ {start list : List ℕ} {v n from to : ℕ} (p : Part start list v n fr
   cross-entries w e = w (sym (stretch-length list from to (p .rises) (p .ends)) ∙ sym (ap length (p .is)) ∙ e)
 
 -- ---- the answers: for any graph of the links lent, with the fact that a caller needs
-module _ (of : List ℕ → List ℕ → Graph) (st : List ℕ) (r : Next) where
-  pub next-answer : (sense : Bool) (v e : ℕ) → ((bid top : List ℕ) → r ≡ nextLink (of bid top) sense st v e) → ((bid top : List ℕ) → r ≡ nextLink (of bid top) sense st v e) × Unvisited st r
-  next-answer sense v e h = (h, rw (h [] []) (next-unvisited (of [] []) sense st v e))
-
-  pub first-answer : (k : ℕ) → isOpen st k ≡ true → ((bid top : List ℕ) → r ≡ firstLink (of bid top) st k) → ((bid top : List ℕ) → r ≡ firstLink (of bid top) st k) × Unvisited st r
-  first-answer k o h = (h, rw (h [] []) (first-unvisited (of [] []) st k o))
+pub first-answer : (of : List ℕ → List ℕ → Graph) (st : List ℕ) (r : Next) (k : ℕ) → isOpen st k ≡ true → ((bid top : List ℕ) → r ≡ firstLink (of bid top) st k)
+    → ((bid top : List ℕ) → r ≡ firstLink (of bid top) st k) × Unvisited st r
+first-answer of st r k o h = (h, rw (h [] []) (first-unvisited (of [] []) st k o))
 
 pub first-cross : (g h : Graph) (st : List ℕ) (k r : ℕ) (l : List ℕ) → g .entries (g .aNode k) ≡ l → (length (g .entries (g .aNode k)) ≡ 2 → ⊥)
     → ((c x : ℕ) → replaces h st k c x ≡ replaces g st k c x) → r ≡ topmost h st k k l → Link r ≡ firstLink g st k

@@ -1,16 +1,18 @@
 -- What one turn of each loop does, and what the loops answer; the laws of a turn are over plain values.
 use Prim.Native.Nat.{ℕ, _+_, _≤_, _<_}
 use native.Mathlib.Omega.{arith}
-use mathlib.Core.Path.{_≡_, sym, ap, ap₂, _∙_}
+use mathlib.Core.Path.{_≡_, refl, sym, ap, ap₂, _∙_}
 use mathlib.Core.Bool.{Bool, true, false}
 use mathlib.Core.List.{List, _∷_}
 use lib.ListN.{length, getD}
 use borrow.Author.Tests.{eq-eqb, ne-eqb}
 use Rattle.laws.specs.Test.{pick, pick-ind}
+use Rattle.laws.specs.Sign.{sgn, is-mns}
 use Rattle.turn.specs.declared.Point.{Point}
 use Rattle.turn.specs.declared.Vector.{Vector}
-use Rattle.turn.specs.Points.{Short, fromTo, clockwise}
-use Rattle.turn.specs.Angle.{metBefore}
+use Rattle.turn.specs.Points.{Short, fromTo, cross, clockwise}
+use Rattle.turn.specs.Angle.{halfOf, turned}
+use Rattle.turn.specs.Rank.{rank, byRank, met-by-rank}
 use Rattle.graph.specs.Graph.{Graph}
 use Rattle.next.specs.declared.Next.the-variants.{Link, Nothing}
 use Rattle.next.specs.declared.Ray.{Ray}
@@ -32,13 +34,18 @@ only-hit st k h e = rw (read-open st k h e)
 pub only-miss : (st : List ℕ) (k : ℕ) → k < length st → (getD st k 0 ≡ 0 → ⊥) → Nothing ≡ onlyOpen st k
 only-miss st k h n = rw (read-shut st k h n)
 
--- ---- a link with its way from a node, from its points
+-- ---- the way of a link from a node, from its points
 module _ (g : Graph) (v k : ℕ) (a b : Point) (p : a ≡ g .a k) (q : b ≡ g .b k) (w : Vector) where
-  pub ray-from-a : g .aNode k ≡ v → w ≡ fromTo a b → record { link = k; way = w } ≡ rayOf g v k
-  ray-from-a h e = rw (e, p, q, eq-eqb _ _ h)
+  pub way-from-a : g .aNode k ≡ v → w ≡ fromTo a b → w ≡ runs g v k
+  way-from-a h e = rw (e, p, q, eq-eqb _ _ h)
 
-  pub ray-from-b : (g .aNode k ≡ v → ⊥) → w ≡ fromTo b a → record { link = k; way = w } ≡ rayOf g v k
-  ray-from-b h e = rw (e, p, q, ne-eqb _ _ h)
+  pub way-from-b : (g .aNode k ≡ v → ⊥) → w ≡ fromTo b a → w ≡ runs g v k
+  way-from-b h e = rw (e, p, q, ne-eqb _ _ h)
+
+-- ---- a link as it is met at a node, from its way and its half turn
+pub ray-from : (g : Graph) (sense : Bool) (v : ℕ) (from : Vector) (k : ℕ) (w : Vector) (h : ℕ) → w ≡ runs g v k → h ≡ rank (halfOf sense from w)
+    → record { link = k; way = w; half = h } ≡ rayOf g sense v from k
+ray-from g sense v from k w h p q = rw (q, p)
 
 -- ---- rule 1 at a `Cross`: an entry x against the choice
 module _ (g : Graph) (st : List ℕ) (k x : ℕ) (choice : Side) (ok : choice ≡ sideOf g (choice .link)) where
@@ -90,58 +97,69 @@ module _ {g : Graph} {st list : List ℕ} {k from to i : ℕ} {choice : Side} (w
       sym (w .ends ∙ rw (e, stretch-none list to))
 
 -- ---- the loop of rule 3 at a `Cross`: the choice at position i, where an unvisited link stands, ends as the choice at the loop's start does
-pub record Turned (g : Graph) (sense : Bool) (st list : List ℕ) (v e k from to i : ℕ) (choice : Ray) : Type 0 where
+pub record Turned (g : Graph) (sense : Bool) (st list : List ℕ) (v e k from to i : ℕ) (way : Vector) (choice : Ray) : Type 0 where
   pub low : from ≤ i
   pub within : i ≤ to
   pub here : i < to → isOpen st (getD list i 0) ≡ true
-  pub ok : choice ≡ rayOf g v (choice .link)
+  pub base : way ≡ runs g v e
+  pub ok : choice ≡ rayOf g sense v way (choice .link)
   pub short : Short (choice .way)
   pub ends : best (metFirst g sense v e) k (opens st (stretch list from to)) ≡ best (metFirst g sense v e) (choice .link) (opens st (stretch list i to))
 
-pub turn-start : (g : Graph) (sense : Bool) (st list : List ℕ) (v e k from to : ℕ) (choice : Ray) → from ≤ to → (from < to → isOpen st (getD list from 0) ≡ true)
-    → choice ≡ rayOf g v k → Short (choice .way) → Turned g sense st list v e k from to from choice
-turn-start g sense st list v e k from to choice h o q s =
+pub turn-start : (g : Graph) (sense : Bool) (st list : List ℕ) (v e k from to : ℕ) (way : Vector) (choice : Ray) → from ≤ to → (from < to → isOpen st (getD list from 0) ≡ true)
+    → way ≡ runs g v e → choice ≡ rayOf g sense v way k → Short (choice .way) → Turned g sense st list v e k from to from way choice
+turn-start g sense st list v e k from to way choice h o b q s =
     let n : k ≡ choice .link = sym (ap (λ (y : Ray). y .link) q) in
     record {
       low = omega arith;
       within = h;
       here = o;
-      ok = q ∙ ap (rayOf g v) n;
+      base = b;
+      ok = q ∙ ap (rayOf g sense v way) n;
       short = s;
       ends = ap (λ (c : ℕ). best (metFirst g sense v e) c (opens st (stretch list from to))) n;
     }
 
-module _ {g : Graph} {sense : Bool} {st list : List ℕ} {v e k from to i : ℕ} {choice : Ray} (w : Turned g sense st list v e k from to i choice) where
-  module _ (h : i < to) (t : to ≤ length list) (way : Vector) (base : way ≡ runs g v e) {x j : ℕ} {other r : Ray}
-      (q : x ≡ getD list i 0) (o : other ≡ rayOf g v x) (s : Short (other .way))
-      (f : r ≡ pick (metBefore sense way (other .way) (choice .way)) other choice) (p : Passed list st (i + 1) to j) where
+-- the code's test of two links
+abbrev rayBefore : Bool → Ray → Ray → Bool
+rayBefore sense y z = byRank (y .half) (z .half) (is-mns (turned sense (sgn (cross (y .way) (z .way)))))
+
+ray-before : (g : Graph) (sense : Bool) (v e : ℕ) (way : Vector) (y z : Ray) (j c : ℕ) → way ≡ runs g v e → y ≡ rayOf g sense v way j → z ≡ rayOf g sense v way c
+    → rayBefore sense y z ≡ metFirst g sense v e j c
+ray-before g sense v e way y z j c b p q = rw (p, q, b) (met-by-rank sense (runs g v e) (runs g v j) (runs g v c) _ _ refl refl)
+
+module _ {g : Graph} {sense : Bool} {st list : List ℕ} {v e k from to i : ℕ} {way : Vector} {choice : Ray} (w : Turned g sense st list v e k from to i way choice) where
+  module _ (h : i < to) (t : to ≤ length list) {x j : ℕ} {other r : Ray}
+      (q : x ≡ getD list i 0) (o : other ≡ rayOf g sense v way x) (s : Short (other .way))
+      (f : r ≡ pick (rayBefore sense other choice) other choice) (p : Passed list st (i + 1) to j) where
     abbrev test : Bool
-    test = metBefore sense way (other .way) (choice .way)
-
-    test-is : test ≡ metFirst g sense v e x (choice .link)
-    test-is = rw (base, ap (λ (y : Ray). y .way) o, ap (λ (y : Ray). y .way) (w .ok))
-
-    link-is : pick test other choice .link ≡ pick test x (choice .link)
-    link-is = pick-ind test other choice (λ y. y .link ≡ pick test x (choice .link)) (λ b. rw b (ap (λ (y : Ray). y .link) o)) (λ b. rw b)
+    test = rayBefore sense other choice
 
     abbrev lt : ℕ → ℕ → Bool
     lt = metFirst g sense v e
 
+    test-is : test ≡ lt x (choice .link)
+    test-is = ray-before g sense v e way other choice x (choice .link) (w .base) o (w .ok)
+
+    link-is : pick test other choice .link ≡ pick test x (choice .link)
+    link-is = pick-ind test other choice (λ y. y .link ≡ pick test x (choice .link)) (λ b. rw b (ap (λ (y : Ray). y .link) o)) (λ b. rw b)
+
     chosen : pick (lt (getD list i 0) (choice .link)) (getD list i 0) (choice .link) ≡ r .link
     chosen = sym (ap (λ (y : Ray). y .link) f ∙ link-is ∙ ap (λ (b : Bool). pick b x (choice .link)) test-is ∙ ap (λ (z : ℕ). pick (lt z (choice .link)) z (choice .link)) q)
 
-    pub turn-on : Turned g sense st list v e k from to j r
+    pub turn-on : Turned g sense st list v e k from to j way r
     turn-on = record {
       low = omega (arith, w .low, p .low);
       within = p .high;
       here = p .here;
-      ok = rw f (pick-ind test other choice (λ y. y ≡ rayOf g v (y .link)) (λ _. o ∙ ap (rayOf g v) (sym (ap (λ (y : Ray). y .link) o))) (λ _. w .ok));
+      base = w .base;
+      ok = rw f (pick-ind test other choice (λ y. y ≡ rayOf g sense v way (y .link)) (λ _. o ∙ ap (rayOf g sense v way) (sym (ap (λ (y : Ray). y .link) o))) (λ _. w .ok));
       short = rw f (pick-ind test other choice (λ y. Short (y .way)) (λ _. s) (λ _. w .short));
       ends = w .ends ∙ ap (best lt (choice .link)) (opens-hit list st i to h t (w .here h)) ∙ ap₂ (best lt) chosen (p .rest);
     }
 
-  pub turned : to ≤ i → choice .link ≡ best (metFirst g sense v e) k (opens st (stretch list from to))
-  turned h =
+  pub turn-end : to ≤ i → choice .link ≡ best (metFirst g sense v e) k (opens st (stretch list from to))
+  turn-end h =
       let q : i ≡ to = omega (arith, w .within) in
       sym (w .ends ∙ rw (q, opens-none list st to))
 

@@ -1,10 +1,14 @@
 -- What the functions here require of what they are lent, and what they tell of the link that they name.
 use Prim.Native.Nat.{ℕ, _+_, _-_, _≤_, _<_}
 use mathlib.Core.Path.{_≡_}
+use mathlib.Core.Bool.{Bool}
 use mathlib.Core.List.{List, []}
 use lib.IntN.{ℤ}
 use lib.ListN.{length, getD, take, drop}
+use Rattle.turn.specs.declared.Vector.{Vector}
 use Rattle.turn.specs.Points.{OnGrid}
+use Rattle.turn.specs.Angle.{halfOf}
+use Rattle.turn.specs.Rank.{rank}
 use Rattle.graph.specs.Graph.{Graph, graphOf, lent, pointAt}
 use Rattle.next.specs.Next.{runs}
 use Rattle.next.specs.declared.Next.{Next}
@@ -33,6 +37,16 @@ pub record Nodes (aId start list : List ℕ) (n : ℕ) : Type 0 where
   pub ends : (v : ℕ) → v + 1 < length start → getD start (v + 1) 0 ≤ length list
   pub numbers : (v : ℕ) → v + 1 < length start → Numbers list (getD start v 0) (getD start (v + 1) 0) n
 
+-- what they say of one node
+pub record Entries (start list : List ℕ) (v n : ℕ) : Type 0 where
+  pub inside : v + 1 < length start
+  pub rises : getD start v 0 ≤ getD start (v + 1) 0
+  pub ends : getD start (v + 1) 0 ≤ length list
+  pub numbers : Numbers list (getD start v 0) (getD start (v + 1) 0) n
+
+pub node-entries : {aId start list : List ℕ} {n v : ℕ} → Nodes aId start list n → v + 1 < length start → Entries start list v n
+node-entries {v = v} h l = record { inside = l; rises = h .rises v l; ends = h .ends v l; numbers = h .numbers v l }
+
 -- an unvisited link, or nothing
 abbrev pub Unvisited : List ℕ → Next → Type 0
 Unvisited st Nothing = Unit
@@ -46,9 +60,9 @@ linksOf ax ay bx by aId = graphOf (lent ax ay bx by aId [] [] []) []
 abbrev pub stretch : List ℕ → ℕ → ℕ → List ℕ
 stretch list from to = take (to - from) (drop from list)
 
--- a link with the way that it runs from a node, and a link with its two points, as the code keeps them
-abbrev pub rayOf : Graph → ℕ → ℕ → Ray
-rayOf g v k = record { link = k; way = runs g v k }
+-- a link with the way that it runs from a node and its half turn from another way, and a link with its two points, as the code keeps them
+abbrev pub rayOf : Graph → Bool → ℕ → Vector → ℕ → Ray
+rayOf g sense v from k = record { link = k; way = runs g v k; half = rank (halfOf sense from (runs g v k)) }
 
 abbrev pub sideOf : Graph → ℕ → Side
 sideOf g k = record { link = k; a = g .a k; b = g .b k }

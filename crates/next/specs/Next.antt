@@ -1,6 +1,6 @@
 -- Visit states, the next link at a node (rule 3) and the first link of a walk (rule 1).
-use Prim.Native.Nat.{ℕ, zero, suc, _+_}
-use mathlib.Core.Bool.{Bool, true, false, not, _&&_}
+use Prim.Native.Nat.{ℕ, suc}
+use mathlib.Core.Bool.{Bool, true, not, _&&_}
 use mathlib.Core.List.{List, [], _∷_}
 use lib.ListN.{getD}
 use lib.Dec.{eqb}
@@ -11,6 +11,8 @@ use Rattle.turn.specs.Angle.{metBefore}
 use Rattle.graph.specs.Graph.{Graph}
 use Rattle.next.specs.declared.Next.{Next}
 use Rattle.next.specs.declared.Next.the-variants.{Link, Nothing}
+use Rattle.next.specs.declared.Across.{Across}
+use Rattle.next.specs.declared.Across.the-variants.{Named, Choice}
 
 -- ---- states: 0 unvisited, 1 skipped, 2 walked in a hole, 3 walked in a hull
 
@@ -69,10 +71,19 @@ abbrev pub firstMet : (ℕ → ℕ → Bool) → List ℕ → Next
 firstMet lt [] = Nothing
 firstMet lt (x ∷ l) = Link (best lt x l)
 
+-- at a `Bridge` with entries x and y: the one that is not e
+abbrev pub acrossFrom : List ℕ → ℕ → ℕ → ℕ → Next
+acrossFrom st e x y = onlyOpen st (pick (eqb x e) y x)
+
 -- "Next link at a `Bridge`: the other entry. At a `Cross`: of the unvisited links, the first met when turning from the link just walked, clockwise if the sense is true."
 abbrev pub nextAt : Graph → Bool → List ℕ → ℕ → ℕ → Node → Next
-nextAt g sense st v e (bridge x y) = onlyOpen st (pick (eqb x e) y x)
+nextAt g sense st v e (bridge x y) = acrossFrom st e x y
 nextAt g sense st v e (crossing l) = firstMet (metFirst g sense v e) (opens st l)
+
+-- what the code asks first: the link named at a `Bridge`, or that there is a choice
+abbrev pub acrossAt : List ℕ → ℕ → Node → Across
+acrossAt st e (bridge x y) = Named (acrossFrom st e x y)
+acrossAt st e (crossing l) = Choice
 
 unfoldable pub nextLink : Graph → Bool → List ℕ → ℕ → ℕ → Next
 nextLink g sense st v e = nextAt g sense st v e (nodeOf (g .entries v))

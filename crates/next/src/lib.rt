@@ -7,11 +7,13 @@ ghost use mathlib.Core.List.{List, []};
 ghost use Prim.Native.Nat.{ℕ, _+_, _<_, _≤_};
 ghost use lib.ListN.{length, getD};
 ghost use Rattle.laws.specs.Test.{pick};
-ghost use Rattle.turn.specs.Points.{Short, clockwise};
-ghost use Rattle.turn.specs.Angle.{metBefore};
-ghost use Rattle.graph.specs.Graph.{lent, graphOf, pointAt};
-ghost use Rattle.next.specs.Next.{isOpen, opens, onlyOpen, metFirst, best, firstMet, nextLink, replaces, topmost, firstLink};
-ghost use Rattle.next.specs.Known.{Links, Nodes, Numbers, Unvisited, linksOf, stretch, rayOf, sideOf};
+ghost use Rattle.laws.specs.Sign.{sgn, is-mns};
+ghost use Rattle.turn.specs.Points.{Short, clockwise, cross};
+ghost use Rattle.turn.specs.Angle.{turned};
+ghost use Rattle.turn.specs.Rank.{byRank};
+ghost use Rattle.graph.specs.Graph.{lent, graphOf, pointAt, part};
+ghost use Rattle.next.specs.Next.{isOpen, opens, onlyOpen, nodeOf, runs, metFirst, best, firstMet, acrossAt, nextLink, replaces, topmost, firstLink};
+ghost use Rattle.next.specs.Known.{Links, Nodes, Entries, Numbers, Unvisited, linksOf, stretch, rayOf, sideOf};
 ghost use Rattle.next.specs.Passed.{Passed};
 
 // What the rules name as the first, last or next link: an unvisited link, or nothing.
@@ -20,10 +22,17 @@ pub enum Next {
     Nothing,
 }
 
-// A link with the way that it runs from a node.
+// What rule 3 says where no direction is read: the link of a `Bridge`, or that there is a choice.
+pub enum Across {
+    Named(Next),
+    Choice,
+}
+
+// A link with the way that it runs from a node, and its half turn from the way of the link just walked.
 struct Ray {
     link: usize,
     way: Vector,
+    half: u8,
 }
 
 // A link with its points.
@@ -82,33 +91,60 @@ fn unvisited_from(list: &[u32], state: &[u8], from: usize, to: usize) -> usize
     i
 }
 
-// Link k with the way that it runs from its end at a node.
-fn ray_of(ax: &[i32], ay: &[i32], bx: &[i32], by: &[i32], aid: &[u32], node: usize, k: usize) -> Ray
+// The way that link k runs from its end at a node.
+fn way_of(
+    ax: &[i32],
+    ay: &[i32],
+    bx: &[i32],
+    by: &[i32],
+    aid: &[u32],
+    node: usize,
+    k: usize,
+) -> Vector
     requires { ⌜ Links (now ax) (now ay) (now bx) (now by) (length (now aid)) ⌝ }
     requires { ⌜ k < length (now aid) ⌝ }
-    ensures { λ r. ⌜ r ≡ rayOf (linksOf (now (ax .entry)) (now (ay .entry)) (now (bx .entry)) (now (by .entry)) (now (aid .entry))) node k ⌝ }
-    ensures { λ r. ⌜ Short (r .way) ⌝ }
+    ensures { λ r. ⌜ r ≡ runs (linksOf (now (ax .entry)) (now (ay .entry)) (now (bx .entry)) (now (by .entry)) (now (aid .entry))) node k ⌝ }
+    ensures { λ r. ⌜ Short r ⌝ }
 {
     let a = point(ax, ay, k);
     let b = point(bx, by, k);
     if number(aid, k) == node {
-        return Ray {
-            link: k,
-            way: turn::between(a, b),
-        };
+        return turn::between(a, b);
     }
+    turn::between(b, a)
+}
+
+// Link k as it is met at a node, turning from a way.
+fn ray_of(
+    ax: &[i32],
+    ay: &[i32],
+    bx: &[i32],
+    by: &[i32],
+    aid: &[u32],
+    sense: bool,
+    node: usize,
+    from: Vector,
+    k: usize,
+) -> Ray
+    requires { ⌜ Links (now ax) (now ay) (now bx) (now by) (length (now aid)) ⌝ }
+    requires { ⌜ (k < length (now aid)) × (Short from) ⌝ }
+    ensures { λ r. ⌜ r ≡ rayOf (linksOf (now (ax .entry)) (now (ay .entry)) (now (bx .entry)) (now (by .entry)) (now (aid .entry))) sense node from k ⌝ }
+    ensures { λ r. ⌜ Short (r .way) ⌝ }
+{
+    let way = way_of(ax, ay, bx, by, aid, node, k);
     Ray {
         link: k,
-        way: turn::between(b, a),
+        way: way,
+        half: turn::half_of(sense, from, way),
     }
 }
 
-// The one of two links that is met first, turning from a way; the choice so far where neither is before the other.
-fn nearer(sense: bool, from: Vector, choice: Ray, other: Ray) -> Ray
-    requires { ⌜ (Short from) × (Short (choice .way)) × (Short (other .way)) ⌝ }
-    ensures { λ r. ⌜ r ≡ pick (metBefore sense from (other .way) (choice .way)) other choice ⌝ }
+// The one of two links that is met first; the choice so far where neither is before the other.
+fn nearer(sense: bool, choice: Ray, other: Ray) -> Ray
+    requires { ⌜ (Short (choice .way)) × (Short (other .way)) ⌝ }
+    ensures { λ r. ⌜ r ≡ pick (byRank (other .half) (choice .half) (is-mns (turned sense (sgn (cross (other .way) (choice .way)))))) other choice ⌝ }
 {
-    if turn::met_before(sense, from, other.way, choice.way) {
+    if turn::met_before(sense, other.way, other.half, choice.way, choice.half) {
         return other;
     }
     choice
@@ -136,13 +172,12 @@ fn nearest(
     requires { ⌜ (second < to → isOpen (now state) (getD (now list) second 0) ≡ true) ⌝ }
     ensures { λ r. ⌜ r ≡ best (metFirst (linksOf (now (ax .entry)) (now (ay .entry)) (now (bx .entry)) (now (by .entry)) (now (aid .entry))) sense node link) k (opens (now (state .entry)) (stretch (now (list .entry)) second to)) ⌝ }
 {
-    let walked = ray_of(ax, ay, bx, by, aid, node, link);
-    let from = walked.way;
-    let mut choice = ray_of(ax, ay, bx, by, aid, node, k);
+    let from = way_of(ax, ay, bx, by, aid, node, link);
+    let mut choice = ray_of(ax, ay, bx, by, aid, sense, node, from, k);
     let mut i = second;
     while i < to {
-        let other = ray_of(ax, ay, bx, by, aid, node, number(list, i));
-        choice = nearer(sense, from, choice, other);
+        let other = ray_of(ax, ay, bx, by, aid, sense, node, from, number(list, i));
+        choice = nearer(sense, choice, other);
         i = unvisited_from(list, state, i + 1, to);
     }
     choice.link
@@ -194,6 +229,24 @@ fn find_nearest_link_to(
     ))
 }
 
+// Rule 3 at a `Bridge`: the other entry, if it is unvisited. At a `Cross` there is a choice, which this does not make.
+pub fn on_bridge(start: &[u32], list: &[u32], state: &[u8], node: usize, link: usize) -> Across
+    requires { ⌜ Entries (now start) (now list) node (length (now state)) ⌝ }
+    ensures { λ r. ⌜ r ≡ acrossAt (now (state .entry)) link (nodeOf (part (now (start .entry)) (now (list .entry)) node)) ⌝ }
+{
+    let from = number(start, node);
+    let to = number(start, node + 1);
+    if to - from == 2 {
+        let l0 = number(list, from);
+        let l1 = number(list, from + 1);
+        if l0 == link {
+            return Across::Named(only_unvisited(state, l1));
+        }
+        return Across::Named(only_unvisited(state, l0));
+    }
+    Across::Choice
+}
+
 // Rule 3: the next link at a node, turning clockwise from the link just walked if the sense is true.
 pub fn next_link(
     ax: &[i32],
@@ -214,30 +267,23 @@ pub fn next_link(
     ensures { λ r. ⌜ ((bid top : List ℕ) → r ≡ nextLink (graphOf (lent (now (ax .entry)) (now (ay .entry)) (now (bx .entry)) (now (by .entry)) (now (aid .entry)) bid (now (start .entry)) (now (list .entry))) top) sense (now (state .entry)) node link) ⌝ }
     ensures { λ r. ⌜ Unvisited (now (state .entry)) r ⌝ }
 {
-    let from = number(start, node);
-    let to = number(start, node + 1);
-    if to - from == 2 {
-        let l0 = number(list, from);
-        let l1 = number(list, from + 1);
-        if l0 == link {
-            return only_unvisited(state, l1);
-        }
-        return only_unvisited(state, l0);
+    match on_bridge(start, list, state, node, link) {
+        Across::Named(next) => next,
+        Across::Choice => find_nearest_link_to(
+            ax,
+            ay,
+            bx,
+            by,
+            aid,
+            list,
+            state,
+            sense,
+            node,
+            link,
+            number(start, node),
+            number(start, node + 1),
+        ),
     }
-    find_nearest_link_to(
-        ax,
-        ay,
-        bx,
-        by,
-        aid,
-        list,
-        state,
-        sense,
-        node,
-        link,
-        from,
-        to,
-    )
 }
 
 // Rule 1 at a `Bridge` with entries l0 and l1.

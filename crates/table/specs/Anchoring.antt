@@ -15,7 +15,8 @@ use Rattle.table.specs.declared.Checked.the-variants.{Fine}
 use Rattle.table.specs.Table.{Table, point, contourCount, firstOf, lenOf, isHole, holeBefore}
 use Rattle.table.specs.Anchor.{anchorPoint}
 use Rattle.table.specs.TableChecks.{outOfOrder, badAnchor, anchorsChecked}
-use Rattle.table.specs.Tests.{Iff, Fails, then, or-fails, some-fails, refuses}
+use Rattle.laws.specs.Fails.{Iff, Fails, then, or-fails, some-fails}
+use Rattle.table.specs.Tests.{refuses}
 use Rattle.table.specs.Sound.{Anchored}
 
 -- a test that is joined to another fails exactly where it fails wherever the other passes

@@ -17,7 +17,7 @@ use Rattle.table.specs.declared.records.Lookup.the-variants.{Found, Miss
 use Rattle.table.specs.Table.{Table, contourCount, kindOf, hullCount, shapeOf, droppedOwner}
 use Rattle.table.specs.TableChecks.{tableChecked, isFine}
 use Rattle.table.specs.Lookups.{ownerRight, roleOf, recordOf, lookedUp, roleKind, roleOwner}
-use Rattle.table.specs.Tests.{Iff}
+use Rattle.laws.specs.Fails.{Iff}
 
 abbrev right : Table → List ℕ → ℕ → Bool
 right t owner c = ownerRight (kindOf t c) (getD owner c 0) (shapeOf t c) (hullCount t)

@@ -17,7 +17,8 @@ use Rattle.table.specs.declared.Checked.the-variants.{Fine}
 use Rattle.table.specs.Table.{Table, pointCount, point, contourCount, firstOf, lenOf, endOf, kindOf, contourOf, nextIn, previousIn, next}
 use Rattle.table.specs.TableChecks.{misfit, startIn, unended, badContour, tableChecked}
 use Rattle.table.specs.TableLaws.{start-next, next-inside, next-last, previous-first, previous-inside}
-use Rattle.table.specs.Tests.{Iff, then, both, ne-fails, or-fails, some-fails, refuses, fitting, Ranged, Placed, contour-right}
+use Rattle.laws.specs.Fails.{Iff, then, both, ne-fails, or-fails, some-fails}
+use Rattle.table.specs.Tests.{refuses, fitting, Ranged, Placed, contour-right}
 use Rattle.table.specs.Sound.{Sound, Paired}
 
 -- ---- where points stand

@@ -1,52 +1,21 @@
 -- What each test of check 10 says, both ways: it fails exactly where the plain fact holds.
 use Prim.Native.Nat.{ℕ, _+_, _/_, _%_, _≤_, _<_}
 use native.Mathlib.Omega.{arith}
-use mathlib.Core.Path.{_≡_, refl, ap}
-use mathlib.Core.Bool.{Bool, true, false, not, _||_}
+use mathlib.Core.Path.{_≡_, refl}
+use mathlib.Core.Bool.{Bool, true, false, not}
 use mathlib.Core.List.{List}
-use lib.Dec.{ltb, eqb}
-use lib.IntN.{ℤ, pos, negsuc}
+use lib.IntN.{ℤ}
 use lib.ListN.{length}
-use borrow.Author.Tests.{ltb-false, eqb-true, le-ltb, eq-eqb, not-false}
-use Rattle.laws.specs.Test.{pick, or-false, false-or, true≢false}
-use Rattle.laws.specs.Lowest.{some, none-of, some-no}
+use Rattle.laws.specs.Test.{pick, true≢false}
+use Rattle.laws.specs.Fails.{Iff, Fails, then, lt-fails, ne-fails, not-fails, or-fails, some-fails}
 use Rattle.turn.specs.declared.Point.{Point}
 use Rattle.turn.specs.Limits.{maxLinks}
-use Rattle.turn.specs.Points.{differ, outside, Coord, OnGrid}
+use Rattle.turn.specs.PointOrder.{coord, inside}
+use Rattle.turn.specs.Points.{differ, OnGrid}
 use Rattle.table.specs.declared.Checked.{Checked}
 use Rattle.table.specs.declared.Checked.the-variants.{Fine, Refused}
 use Rattle.table.specs.Table.{pointAt, previousIn}
 use Rattle.table.specs.TableChecks.{misfit, rangeFault, offGrid, pointFault, somePointFault, contourFault}
-
--- ---- one fact exactly where another
-pub record Iff (P Q : Type 0) : Type 0 where
-  pub to : P → Q
-  pub from : Q → P
-
--- the test fails exactly where P holds
-abbrev pub Fails : Bool → Type 0 → Type 0
-Fails b P = Iff (b ≡ false) P
-
-pub then : {P Q R : Type 0} → Iff P Q → Iff Q R → Iff P R
-then h k = record { to = λ p. k .to (h .to p); from = λ r. h .from (k .from r) }
-
-pub both : {P Q R S : Type 0} → Iff P Q → Iff R S → Iff (P × R) (Q × S)
-both h k = record { to = λ p. (h .to (p .0), k .to (p .1)); from = λ q. (h .from (q .0), k .from (q .1)) }
-
-lt-fails : (m n : ℕ) → Fails (ltb m n) (n ≤ m)
-lt-fails m n = record { to = ltb-false m n; from = le-ltb m n }
-
-pub ne-fails : (m n : ℕ) → Fails (not (eqb m n)) (m ≡ n)
-ne-fails m n = record { to = λ e. eqb-true m n (not-false (eqb m n) e); from = λ e. ap not (eq-eqb m n e) }
-
-not-fails : (b : Bool) → Fails (not b) (b ≡ true)
-not-fails b = record { to = not-false b; from = ap not }
-
-pub or-fails : {a b : Bool} {P Q : Type 0} → Fails a P → Fails b Q → Fails (a || b) (P × Q)
-or-fails {a} {b} h k = then (record { to = or-false a b; from = λ p. false-or a b (p .0) (p .1) }) (both h k)
-
-pub some-fails : {test : ℕ → Bool} {P : ℕ → Type 0} (n : ℕ) → ((k : ℕ) → Fails (test k) (P k)) → Fails (some test n) ((k : ℕ) → k < n → P k)
-some-fails {test} n h = record { to = λ e k l. h k .to (none-of test n e k l); from = λ p. some-no test n (λ k l. h k .from (p k l)) }
 
 -- a check that refuses where a test passes, and else goes on
 pub refuses : (b : Bool) (k p : ℕ) (rest : Checked) → Iff (pick b (Refused k p) rest ≡ Fine) ((b ≡ false) × (rest ≡ Fine))
@@ -54,14 +23,6 @@ refuses true k p rest = record { to = λ e. let z : _≡_ {A = ℕ} 0 1 = cc in 
 refuses false k p rest = record { to = λ e. (refl, e); from = λ e. e .1 }
 
 -- ---- the bounds
-coord : (z : ℤ) → outside z ≡ false → Coord z
-coord (pos n) e = ltb-false 524288 n e
-coord (negsuc n) e = let h = ltb-false 524287 n (or-false _ _ e .0) in omega arith
-
-inside : (z : ℤ) → Coord z → outside z ≡ false
-inside (pos n) h = le-ltb 524288 n h
-inside (negsuc n) h = false-or _ _ (le-ltb 524287 n (omega arith)) refl
-
 pub on-grid : (p : Point) → Fails (offGrid p) (OnGrid p)
 on-grid p = or-fails (record { to = coord (p .x); from = inside (p .x) }) (record { to = coord (p .y); from = inside (p .y) })
 

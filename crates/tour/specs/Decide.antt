@@ -12,7 +12,7 @@ use Rattle.laws.specs.Lowest.{some, none-of, some-no}
 use Rattle.graph.specs.declared.Checked.the-variants.{Fine}
 use Rattle.graph.specs.Graph.{Lent, Graph, graphOf, nodeCount}
 use Rattle.graph.specs.Checks.{Room, checked}
-use Rattle.graph.specs.Tests.{Iff}
+use Rattle.laws.specs.Fails.{Iff}
 use Rattle.graph.specs.Fine.{fine}
 use Rattle.next.specs.declared.Next.{Next}
 use Rattle.next.specs.declared.Next.the-variants.{Link, Nothing}

@@ -1,15 +1,11 @@
--- What the code's tests tell of the halves of a turn: the sense of a product, the half of a vector, and the order of two halves by their ranks.
+-- What the code's tests tell of the halves of a turn: the sense of a product, and the half of a vector.
 use mathlib.Core.Path.{_≡_, refl, sym, ap, _∙_}
 use mathlib.Core.Bool.{Bool, true, false, not, _&&_, _||_}
-use Prim.Native.Nat.{ℕ}
-use lib.Dec.{ltb, eqb}
 use lib.IntN.{ℤ, pos}
 use lib.Signed.{ltZ}
 use Rattle.laws.specs.Test.{pick, true≢false}
 use Rattle.laws.specs.Sign.{Sgn, mns, zer, pls, sgn, is-mns, eqS, ltZ-sgn, gtZ-sgn}
-use Rattle.turn.specs.declared.Vector.{Vector}
-use Rattle.turn.specs.Points.{cross}
-use Rattle.turn.specs.Angle.{Half, early, back, late, full, half, halfOf, sooner, turned, metBefore}
+use Rattle.turn.specs.Angle.{half, turned}
 use Rattle.turn.specs.Rank.{rank}
 
 -- ---- the sense
@@ -62,29 +58,3 @@ by-dot pls = refl
 pub in-flat : (w : Bool) (s : Sgn) (z : ℤ) → is-mns (turned w s) ≡ false → is-mns (turned (not w) s) ≡ false
     → rank (half (turned w s) (sgn z)) ≡ pick (ltZ z (pos 0)) 1 3
 in-flat w s z p q = rw (flat w s p q, ltZ-sgn z) (by-dot (sgn z))
-
--- ---- the order of two halves of ranks h and k, as the code decides it; t is what the cross product of the two vectors tells
-abbrev pub byRank : ℕ → ℕ → Bool → Bool
-byRank h k t = pick (ltb h k) true (pick (ltb k h) false (pick (eqb h 1 || eqb h 3) false t))
-
-rank-sooner : (h k : Half) (s : Sgn) → byRank (rank h) (rank k) (is-mns s) ≡ sooner h k s
-rank-sooner early early s = refl
-rank-sooner early back s = refl
-rank-sooner early late s = refl
-rank-sooner early full s = refl
-rank-sooner back early s = refl
-rank-sooner back back s = refl
-rank-sooner back late s = refl
-rank-sooner back full s = refl
-rank-sooner late early s = refl
-rank-sooner late back s = refl
-rank-sooner late late s = refl
-rank-sooner late full s = refl
-rank-sooner full early s = refl
-rank-sooner full back s = refl
-rank-sooner full late s = refl
-rank-sooner full full s = refl
-
-pub met-by-rank : (w : Bool) (e f g : Vector) (h k : ℕ) → h ≡ rank (halfOf w e f) → k ≡ rank (halfOf w e g)
-    → byRank h k (is-mns (turned w (sgn (cross f g)))) ≡ metBefore w e f g
-met-by-rank w e f g h k p q = rw (p, q) (rank-sooner (halfOf w e f) (halfOf w e g) (turned w (sgn (cross f g))))

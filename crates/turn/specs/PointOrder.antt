@@ -1,16 +1,17 @@
--- The order of points: strict, transitive, total; and that the vector between two points that differ is not 0.
+-- The order of points: strict, transitive, total; that the vector between two points that differ is not 0; and what the test of the bounds says.
 use mathlib.Core.Path.{_≡_, refl, sym, _∙_, subst}
 use mathlib.Core.Logic.{_⊎_, inl, inr, ⊎-elim}
 use mathlib.Core.Bool.{Bool, true, false, not, _&&_, _||_}
 use native.Mathlib.Omega.{arith}
-use lib.IntN.{ℤ, _-ℤ_}
+use lib.IntN.{ℤ, pos, negsuc, _-ℤ_}
 use lib.Signed.{ltZ}
-use Rattle.laws.specs.Test.{Is, yes!, true-is, true≢false, not-true, not-is, or-false, or-true, and-true}
+use borrow.Author.Tests.{ltb-false, le-ltb}
+use Rattle.laws.specs.Test.{Is, yes!, true-is, true≢false, not-true, not-is, or-false, false-or, or-true, and-true}
 use Rattle.laws.specs.Int.{same, sub-zero-eq}
 use Rattle.laws.specs.Sign.{zer, sgn, eqS, eqS-eq, sgn-zer}
 use Rattle.laws.specs.Order.{ltZ-true, ltZ-false, true-ltZ, false-ltZ}
 use Rattle.turn.specs.declared.Point.{Point}
-use Rattle.turn.specs.Points.{before, differ, fromTo}
+use Rattle.turn.specs.Points.{before, differ, outside, Coord, fromTo}
 use Rattle.turn.specs.Angle.{nonzero}
 
 -- ---- the two ways to be before
@@ -111,3 +112,12 @@ nonzero-forward p q e = nonzero-between p q (before-differ p q e)
 
 pub nonzero-back : (p q : Point) → before p q ≡ true → Is (nonzero (fromTo q p))
 nonzero-back p q e = nonzero-between q p (differ-sym q p ∙ before-differ p q e)
+
+-- ---- within the bounds
+pub coord : (z : ℤ) → outside z ≡ false → Coord z
+coord (pos n) e = ltb-false 524288 n e
+coord (negsuc n) e = let h = ltb-false 524287 n (or-false _ _ e .0) in omega arith
+
+pub inside : (z : ℤ) → Coord z → outside z ≡ false
+inside (pos n) h = le-ltb 524288 n h
+inside (negsuc n) h = false-or _ _ (le-ltb 524287 n (omega arith)) refl

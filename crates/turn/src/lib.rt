@@ -6,10 +6,10 @@ ghost use lib.ListN.{length};
 ghost use Rattle.laws.specs.Sign.{sgn, is-mns};
 ghost use Rattle.turn.specs.Limits.{maxLinks, maxCoordinate};
 ghost use Rattle.turn.specs.Points.{before, differ, outside, Coord, OnGrid, Short, fromTo, cross, dot, turn, clockwise, productBound, span, Grid};
-ghost use Rattle.turn.specs.Angle.{halfOf, metBefore, sameDirection, turned};
+ghost use Rattle.turn.specs.Angle.{halfOf, sameDirection, turned};
 ghost use Rattle.turn.specs.Area.{wedge, area, pointsOf, wedgeBound};
 ghost use Rattle.turn.specs.Size.{half, isKept};
-ghost use Rattle.turn.specs.Rank.{rank};
+ghost use Rattle.turn.specs.Rank.{rank, byRank};
 
 // The most links of a graph, and the most points of a contour table.
 pub const MAX_LINKS: usize = 4096;
@@ -39,7 +39,7 @@ pub fn before(p: Point, q: Point) -> bool
 pub fn differ(p: Point, q: Point) -> bool
     ensures { λ r. ⌜ r ≡ differ p q ⌝ }
 {
-    before(p, q) | before(q, p)
+    (p.x != q.x) | (p.y != q.y)
 }
 
 // Whether a coordinate is out of bounds.
@@ -54,7 +54,7 @@ fn difference(a: i32, b: i32) -> i64
     requires { ⌜ (Coord a) × (Coord b) ⌝ }
     ensures { λ r. ⌜ (r ≡ a -ℤ b) × (natAbs r ≤ span) ⌝ }
 {
-    a as i64 - b as i64
+    (a - b) as i64
 }
 
 // The vector from p to q.
@@ -114,7 +114,7 @@ fn turns(sense: bool, product: i64) -> bool
 }
 
 // Where f lies, turning from e: 0 in the first half turn, 1 opposite, 2 in the second half turn, 3 a full turn away.
-fn half_of(sense: bool, e: Vector, f: Vector) -> u8
+pub fn half_of(sense: bool, e: Vector, f: Vector) -> u8
     requires { ⌜ (Short e) × (Short f) ⌝ }
     ensures { λ r. ⌜ r ≡ rank (halfOf sense e f) ⌝ }
 {
@@ -131,13 +131,11 @@ fn half_of(sense: bool, e: Vector, f: Vector) -> u8
     3
 }
 
-// Whether, turning from e, clockwise or counterclockwise, f is met strictly before g.
-pub fn met_before(sense: bool, e: Vector, f: Vector, g: Vector) -> bool
-    requires { ⌜ (Short e) × (Short f) × (Short g) ⌝ }
-    ensures { λ r. ⌜ r ≡ metBefore sense e f g ⌝ }
+// Whether f is met strictly before g, turning clockwise or counterclockwise from a vector. By `half_of`, they lie h and k from it.
+pub fn met_before(sense: bool, f: Vector, h: u8, g: Vector, k: u8) -> bool
+    requires { ⌜ (Short f) × (Short g) ⌝ }
+    ensures { λ r. ⌜ r ≡ byRank h k (is-mns (turned sense (sgn (cross f g)))) ⌝ }
 {
-    let h = half_of(sense, e, f);
-    let k = half_of(sense, e, g);
     if h < k {
         return true;
     }

@@ -187,6 +187,19 @@ fn product_lines() {
     );
 }
 
+// Whether, turning from e, f is met before g.
+fn is_met_before(sense: bool, e: Vector, f: Vector, g: Vector) -> bool
+    requires { ⌜ (Short e) × (Short f) × (Short g) ⌝ }
+{
+    turn::met_before(
+        sense,
+        f,
+        turn::half_of(sense, e, f),
+        g,
+        turn::half_of(sense, e, g),
+    )
+}
+
 // Turning from e, clockwise and then counterclockwise: whether f is met before g, and whether g is met before f.
 fn met(e: Vector, f: Vector, g: Vector)
     requires { ⌜ (Short e) × (Short f) × (Short g) ⌝ }
@@ -195,10 +208,10 @@ fn met(e: Vector, f: Vector, g: Vector)
     say_vector(e);
     say_vector(f);
     say_vector(g);
-    say_flag(turn::met_before(true, e, f, g));
-    say_flag(turn::met_before(true, e, g, f));
-    say_flag(turn::met_before(false, e, f, g));
-    say_flag(turn::met_before(false, e, g, f));
+    say_flag(is_met_before(true, e, f, g));
+    say_flag(is_met_before(true, e, g, f));
+    say_flag(is_met_before(false, e, f, g));
+    say_flag(is_met_before(false, e, g, f));
     say(b"\n");
 }
 

@@ -12,13 +12,14 @@ ghost use Rattle.laws.specs.Test.{pick};
 ghost use Rattle.laws.specs.Lists.{mapFrom};
 ghost use Rattle.graph.specs.Graph.{lent, graphOf, pointAt};
 ghost use Rattle.next.specs.Next.{isOpen, unvisited, nextLink, firstLink};
-ghost use Rattle.next.specs.Known.{Links, Nodes};
+ghost use Rattle.next.specs.Known.{Links, Nodes, Unvisited};
 ghost use Rattle.walk.specs.Walk.{walkOn, walkFrom, markOf, scan};
 ghost use Rattle.graph.specs.Checks.{checked, room};
 ghost use Rattle.graph.specs.declared.Checked.the-variants.{Fine};
 ghost use Rattle.walk.specs.Extract.{extractedAs, buffers, afterScan, extracted};
 ghost use Rattle.walk.specs.Code.{put, unmark, plain, otherNode, Shape, Marks, stepOut, stepOf, Goes, Kept, WalkLeaves, Counted, Within, Roomy, WalkNoted, FirstNoted, Fewer, ScanLeaves, Ends, noCounts, tables, enterKept, enterLost, enter};
 use graph::Checked;
+use next::Across;
 use next::Next;
 use turn::Point;
 
@@ -164,6 +165,44 @@ fn zero_bytes(s: &mut [u8], from: usize)
     }
 }
 
+// Rule 3. Most nodes are `Bridge`s: their other entry is read here, and only a `Cross` costs a call.
+fn next_from(
+    ax: &[i32],
+    ay: &[i32],
+    bx: &[i32],
+    by: &[i32],
+    aid: &[u32],
+    start: &[u32],
+    list: &[u32],
+    state: &[u8],
+    sense: bool,
+    node: usize,
+    link: usize,
+) -> Next
+    requires { ⌜ Links (now ax) (now ay) (now bx) (now by) (length (now state)) ⌝ }
+    requires { ⌜ Nodes (now aid) (now start) (now list) (length (now state)) ⌝ }
+    requires { ⌜ (node + 1 < length (now start)) × (link < length (now state)) ⌝ }
+    ensures { λ r. ⌜ ((bid top : List ℕ) → r ≡ nextLink (graphOf (lent (now (ax .entry)) (now (ay .entry)) (now (bx .entry)) (now (by .entry)) (now (aid .entry)) bid (now (start .entry)) (now (list .entry))) top) sense (now (state .entry)) node link) ⌝ }
+    ensures { λ r. ⌜ Unvisited (now (state .entry)) r ⌝ }
+{
+    match next::on_bridge(start, list, state, node, link) {
+        Across::Named(next) => next,
+        Across::Choice => next::next_link(
+            ax,
+            ay,
+            bx,
+            by,
+            aid,
+            start,
+            list,
+            state,
+            sense,
+            node,
+            link,
+        ),
+    }
+}
+
 // One step from the walker's node: the next link is marked, and the point of the node is written.
 fn one_step(
     ax: &[i32],
@@ -189,7 +228,7 @@ fn one_step(
 {
     let node = w.node;
     let at = w.written;
-    match next::next_link(ax, ay, bx, by, aid, start, list, state, sense, node, w.link) {
+    match next_from(ax, ay, bx, by, aid, start, list, state, sense, node, w.link) {
         Next::Nothing => Stepped::Nowhere,
         Next::Link(k) => {
             let forward = node_at(aid, k) == node;

@@ -4,7 +4,8 @@
 mod graphs;
 
 use generators::Sample;
-use guovdamas::{ContourDirection, Lists, Options, lent};
+use guovdamas::{ContourDirection, Options, lent};
+use lending::{buffers, lists};
 use reading::Settings;
 use reading::graph::Buffers;
 use std::hint::black_box;
@@ -33,25 +34,8 @@ impl<'a> Ours<'a> {
     fn extract(&mut self) {
         let Sample { graph, state } = self.sample;
         self.lent.state.copy_from_slice(state);
-        let lists = Lists {
-            ax: &graph.ax,
-            ay: &graph.ay,
-            bx: &graph.bx,
-            by: &graph.by,
-            a_id: &graph.a_id,
-            b_id: &graph.b_id,
-            top: &graph.top,
-            start: &graph.start,
-            list: &graph.list,
-        };
-        let buffers = lent::Buffers {
-            state: &mut self.lent.state,
-            points: &mut self.lent.points,
-            first: &mut self.lent.first,
-            len: &mut self.lent.len,
-            kind: &mut self.lent.kind,
-        };
-        self.counts = lent::extract(lists, Options::default(), buffers).expect("the graphs are walked");
+        self.counts =
+            lent::extract(lists(graph), Options::default(), buffers(&mut self.lent)).expect("the graphs are walked");
     }
 
     fn kinds(&self) -> &[u8] {

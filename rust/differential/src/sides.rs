@@ -76,35 +76,14 @@ pub fn by_crate_rules(sample: &Sample, settings: Settings) -> Option<Outcome> {
 /// The library's answer.
 #[cfg(feature = "library")]
 pub fn by_library(sample: &Sample, settings: Settings) -> Result<Outcome, Refusal> {
-    use guovdamas::lent;
-    let refused = |refusal: guovdamas::Refusal| Refusal { number: refusal.number(), place: refusal.place() };
-    let direction = guovdamas::ContourDirection::from_clockwise(settings.clockwise);
-    let options = guovdamas::Options { output_direction: direction, min_output_area: settings.minimum };
-    let graph = &sample.graph;
-    let lists = guovdamas::Lists {
-        ax: &graph.ax,
-        ay: &graph.ay,
-        bx: &graph.bx,
-        by: &graph.by,
-        a_id: &graph.a_id,
-        b_id: &graph.b_id,
-        top: &graph.top,
-        start: &graph.start,
-        list: &graph.list,
-    };
+    use guovdamas::{ContourDirection, lent};
+    use lending::{buffers, lists, options, refusal};
     let mut lent = Buffers::for_states(sample.state.clone());
-    let buffers = lent::Buffers {
-        state: &mut lent.state,
-        points: &mut lent.points,
-        first: &mut lent.first,
-        len: &mut lent.len,
-        kind: &mut lent.kind,
-    };
-    let counts = lent::extract(lists, options, buffers).map_err(refused)?;
+    let counts = lent::extract(lists(&sample.graph), options(settings), buffers(&mut lent)).map_err(refusal)?;
     let table = kept(lent.points, lent.first, lent.len, lent.kind, counts.points, counts.contours);
     let mut owner = vec![0; table.contours()];
-    let borrowed = lent::Table { points: &table.points, first: &table.first, len: &table.len, kind: &table.kind };
-    let owners = lent::bind(borrowed, direction, &mut owner).map(|_| owner).map_err(refused);
+    let direction = ContourDirection::from_clockwise(settings.clockwise);
+    let owners = lent::bind(lending::table(&table), direction, &mut owner).map(|_| owner).map_err(refusal);
     Ok(Outcome::new(&table, lent.state, owners))
 }
 

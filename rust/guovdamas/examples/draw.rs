@@ -4,7 +4,8 @@
 //! graph is 0.01 mm). A study that is refused is not drawn, and the reason is printed.
 
 use guovdamas::lent::Role;
-use guovdamas::{Contour, ContourDirection, Lists, Options, Shapes};
+use guovdamas::{Contour, Shapes};
+use lending::{lists, options};
 use reading::Refusal;
 use reading::file::{Study, parse};
 use std::error::Error;
@@ -35,28 +36,9 @@ fn draw(study: &str, picture: &str) -> Result<Shapes, Box<dyn Error>> {
     let Study { settings, graph, state } = parse(&fs::read(study)?).map_err(|Refusal { number, place }| {
         format!("refused {number} at {place}: the file is malformed, or holds too many links, nodes or list entries")
     })?;
-    let options = Options {
-        output_direction: ContourDirection::from_clockwise(settings.clockwise),
-        min_output_area: settings.minimum,
-    };
-    let shapes = lend(&graph).extract_shapes(&state, options)?;
+    let shapes = lists(&graph).extract_shapes(&state, options(settings))?;
     fs::write(picture, svg(&shapes))?;
     Ok(shapes)
-}
-
-/// The study's lists.
-fn lend(graph: &reading::graph::Graph) -> Lists<'_> {
-    Lists {
-        ax: &graph.ax,
-        ay: &graph.ay,
-        bx: &graph.bx,
-        by: &graph.by,
-        a_id: &graph.a_id,
-        b_id: &graph.b_id,
-        top: &graph.top,
-        start: &graph.start,
-        list: &graph.list,
-    }
 }
 
 /// The picture. SVG's y runs downward, so every y is turned round.

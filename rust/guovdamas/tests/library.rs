@@ -4,7 +4,8 @@
 use generators::planar::{FAMILIES, sample};
 use generators::rng::Rng;
 use generators::{Sample, damage, planar, tables, wild};
-use guovdamas::{ContourDirection, Lists, Options, Refusal, lent};
+use guovdamas::{ContourDirection, lent};
+use lending::{buffers, lists, options, refusal, table};
 use reading::bind::{Role, Table};
 use reading::graph::{Buffers, Graph};
 use reading::{Settings, bind, walk};
@@ -28,43 +29,10 @@ impl Tally {
     }
 }
 
-fn parts(refusal: Refusal) -> reading::Refusal {
-    reading::Refusal { number: refusal.number(), place: refusal.place() }
-}
-
-fn lists(graph: &Graph) -> Lists<'_> {
-    Lists {
-        ax: &graph.ax,
-        ay: &graph.ay,
-        bx: &graph.bx,
-        by: &graph.by,
-        a_id: &graph.a_id,
-        b_id: &graph.b_id,
-        top: &graph.top,
-        start: &graph.start,
-        list: &graph.list,
-    }
-}
-
 fn extract(graph: &Graph, settings: Settings, lent: &mut Buffers) -> Result<walk::Counts, reading::Refusal> {
-    let options = Options {
-        output_direction: ContourDirection::from_clockwise(settings.clockwise),
-        min_output_area: settings.minimum,
-    };
-    let buffers = lent::Buffers {
-        state: &mut lent.state,
-        points: &mut lent.points,
-        first: &mut lent.first,
-        len: &mut lent.len,
-        kind: &mut lent.kind,
-    };
     let lent::Counts { contours, points, rejected, walked, kept_area, rejected_area } =
-        lent::extract(lists(graph), options, buffers).map_err(parts)?;
+        lent::extract(lists(graph), options(settings), buffers(lent)).map_err(refusal)?;
     Ok(walk::Counts { contours, points, rejected, walked, kept_area, rejected_area })
-}
-
-fn table(table: &Table) -> lent::Table<'_> {
-    lent::Table { points: &table.points, first: &table.first, len: &table.len, kind: &table.kind }
 }
 
 /// Extracts by both, then binds what was found by both; all answers and buffers must be equal.
@@ -96,7 +64,7 @@ fn compare_binding(lent: &Table, room: usize, clockwise: bool, tally: &mut Tally
     let due = bind::bind(lent, clockwise, &mut read);
     let answer = lent::bind(table(lent), ContourDirection::from_clockwise(clockwise), &mut ours);
     let answer = answer.map(|bound| bind::Bound { shapes: bound.shapes, dropped: bound.dropped });
-    assert_eq!(answer.map_err(parts), due, "{lent:?} {clockwise}");
+    assert_eq!(answer.map_err(refusal), due, "{lent:?} {clockwise}");
     assert_eq!(ours, read, "{lent:?} {clockwise}");
     tally.count(due.err().map_or(0, |refusal| refusal.number));
     compare_lookups(lent, &read);

@@ -1,3 +1,4 @@
+-- `answer::answer_contours` meets its contract: extraction, then binding on what it wrote.
 use Rattle.graph.specs.Graph.{Lent, lent}
 use Rattle.walk.specs.Extract.{Buffers, buffers}
 use native.Mathlib.Omega.{arith}

@@ -1,3 +1,4 @@
+-- `answer::answer_lists` meets its contract: what reading left, then extraction and binding.
 use Rattle.format.specs.File.{Buffers, buffers}
 use native.Mathlib.Omega.{arith}
 use Rattle.answer.proofs.Fronts.{Fronts, graph-holds, refusal-text}

@@ -1,3 +1,4 @@
+-- `answer::answer_table` meets its contract: binding, then printing.
 use Rattle.table.specs.Table.{Table, table}
 use Rattle.answer.proofs.Prints.{printable, bound-text, wrote-as}
 use borrow.Author.Needs.{needs}

@@ -45,7 +45,7 @@ check-links-requires : tie.Need-check-links-requires
 check-links-requires c κs =
     let x = c .before .before .before .before .before .before .before .before .before .before .before .before .args in
     let e = even (lent (x .ax .now) (x .ay .now) (x .bx .now) (x .by .now) (x .aid .now) (x .bid .now) (x .start .now) (x .list .now)) .to (fit c .0) in
-    (e .0, (band-even (length (x .aid .now)) (x .top .now) (x .state .now) .to (fit c .1), e .1))
+    (e .0, (band-even (length (x .aid .now)) (x .top .now) (x .state .now) .to (fit c .1), (e .1, c .before .before .before .before .before .if1 .left)))
 
 returns-3 : tie.Need-returns-3
 unfolding checked

@@ -1,3 +1,4 @@
+-- `guovdamas::binding_of` meets its contract: by the answer's case.
 use mathlib.Core.Path.{sym, ap}
 use Rattle.guovdamas.specs.Numbers.{bindingOf}
 use borrow.Author.Needs.{needs}

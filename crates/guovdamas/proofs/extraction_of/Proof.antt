@@ -1,3 +1,4 @@
+-- `guovdamas::extraction_of` meets its contract: by the answer's case.
 use mir.ValLaws.{toZ-ofZ}
 use mir.Syntax.{w64}
 use mathlib.Core.Path.{_≡_, refl, sym, ap, _∙_}

@@ -1,3 +1,4 @@
+-- `guovdamas::found_record` meets its contract: field by field.
 use mathlib.Core.Path.{_≡_, refl, sym, ap, _∙_}
 use Rattle.guovdamas.specs.Numbers.{foundRecord}
 use borrow.Author.Needs.{needs}

@@ -1,3 +1,4 @@
+-- `guovdamas::guovdamas_bind` meets its contract: what `bind::bind` promises, by numbers.
 use Rattle.guovdamas.proofs.Numbered.{binding-numbered}
 use borrow.Author.Needs.{needs}
 use Rattle.guovdamas.proofs.guovdamas_bind.Statement.{statement}

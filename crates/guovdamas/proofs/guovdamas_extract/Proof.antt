@@ -1,3 +1,4 @@
+-- `guovdamas::guovdamas_extract` meets its contract: what `walk::extract` promises, by numbers.
 use Rattle.guovdamas.proofs.Numbered.{extraction-numbered}
 use borrow.Author.Needs.{needs}
 use Rattle.guovdamas.proofs.guovdamas_extract.Statement.{statement}

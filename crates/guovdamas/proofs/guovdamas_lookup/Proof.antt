@@ -1,3 +1,4 @@
+-- `guovdamas::guovdamas_lookup` meets its contract: what `table::lookup` promises, by numbers.
 use mathlib.Core.Path.{_≡_, refl, sym, ap, _∙_}
 use Rattle.guovdamas.specs.Numbers.{recordOf}
 use borrow.Author.Needs.{needs}

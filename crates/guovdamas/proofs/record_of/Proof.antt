@@ -1,3 +1,4 @@
+-- `guovdamas::record_of` meets its contract: by the answer's case.
 use mathlib.Core.Path.{_≡_, refl, sym, ap, _∙_}
 use Rattle.guovdamas.specs.Numbers.{recordOf}
 use borrow.Author.Needs.{needs}

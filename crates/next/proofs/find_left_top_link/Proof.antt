@@ -6,7 +6,7 @@ use mathlib.Core.Path.{_≡_, refl, sym, ap, _∙_}
 use lib.ListN.{length, getD}
 use borrow.Author.Needs.{needs}
 use Rattle.graph.specs.Graph.{Graph, graphOf, lent}
-use Rattle.next.specs.Known.{linksOf, stretch}
+use Rattle.next.specs.Known.{node-entries, linksOf, stretch}
 use Rattle.next.specs.Topmost.{first-at-bridge}
 use Rattle.next.specs.States.{open-below}
 use Rattle.next.specs.declared.Next.the-variants.{Link}
@@ -48,7 +48,7 @@ inside d = let s = d .before .before .before .before .before .before in rw (d .b
 here : (d : Known) → Part (starts d) (list d) (node d) (n d) (from d) (to d)
 here d =
     let s = entry d in
-    part-of (s .pre .1 .0) (inside (d .before)) (d .before .number2 .ensures) (d .number3 .ensures)
+    part-of (node-entries (s .pre .1 .0) (inside (d .before))) (d .before .number2 .ensures) (d .number3 .ensures)
 
 -- the graph, with any ids of b's nodes and any tops
 abbrev graph : Known → List ℕ → List ℕ → Graph

@@ -1,52 +1,24 @@
--- `next::ray_of` meets its contract: the test on a's node tells from which end the link runs.
-use mathlib.Core.Path.{sym, _∙_}
+-- `next::ray_of` meets its contract: the way of the link, and its half turn from the other way.
 use borrow.Author.Needs.{needs}
 use Rattle.graph.specs.Graph.{Graph}
 use Rattle.next.specs.Known.{linksOf}
-use Rattle.next.proofs.Loops.{ray-from-a, ray-from-b}
+use Rattle.next.proofs.Loops.{ray-from}
 use Rattle.next.proofs.ray_of.Statement.{statement}
 use Rattle.next.proofs.ray_of.Tie as tie
 
 abbrev g : tie.Start → Graph
 g s = let a = s .args in linksOf (a .ax .now) (a .ay .now) (a .bx .now) (a .by .now) (a .aid .now)
 
-point-requires : tie.Need-point-requires
-point-requires c κs = search needs
+way-of-requires : tie.Need-way-of-requires
+way-of-requires c κs = search needs
 
-point-requires-2 : tie.Need-point-requires-2
-point-requires-2 c κs = search needs
-
-number-requires : tie.Need-number-requires
-number-requires c κs = search needs
-
-between-requires : tie.Need-between-requires
-between-requires c κs =
-    let s = c .before .before .before .before .before in let a = s .args in
-    (rw (c .before .before .before .point .ensures) (s .pre .0 .a-grid (a .k) (s .pre .1)), rw (c .before .before .point2 .ensures) (s .pre .0 .b-grid (a .k) (s .pre .1)))
+half-of-requires : tie.Need-half-of-requires
+half-of-requires c κs = search needs
 
 returns : tie.Need-returns
 returns c =
-    let s = c .before .before .before .before .before .before in let a = s .args in let p = c .before .before .before .before .point in let q = c .before .before .before .point2 in let w = c .between in
-    (ray-from-a (g s) (a .node) (a .k) (p .result) (q .result) (p .ensures) (q .ensures) (w .result) (sym (c .before .before .number .ensures) ∙ c .before .if1 .taken) (w .ensures .0), w .ensures .1)
-
-between-requires-2 : tie.Need-between-requires-2
-between-requires-2 c κs =
-    let s = c .before .before .before .before .before in let a = s .args in
-    (rw (c .before .before .point2 .ensures) (s .pre .0 .b-grid (a .k) (s .pre .1)), rw (c .before .before .before .point .ensures) (s .pre .0 .a-grid (a .k) (s .pre .1)))
-
-returns-2 : tie.Need-returns-2
-returns-2 c =
-    let s = c .before .before .before .before .before .before in let a = s .args in let p = c .before .before .before .before .point in let q = c .before .before .before .point2 in let w = c .between2 in
-    (ray-from-b (g s) (a .node) (a .k) (p .result) (q .result) (p .ensures) (q .ensures) (w .result) (λ e. c .before .if1 .left (c .before .before .number .ensures ∙ e)) (w .ensures .0), w .ensures .1)
+    let s = c .before .before .before in let a = s .args in let w = c .before .way-of in let h = c .half-of in
+    (ray-from (g s) (a .sense) (a .node) (a .from) (a .k) (w .result) (h .result) (w .ensures .0) (h .ensures), w .ensures .1)
 
 pub ray-of-spec : {M : Type 1} → statement M
-ray-of-spec =
-    tie.close
-    (tie.spec
-    point-requires
-    point-requires-2
-    number-requires
-    between-requires
-    returns
-    between-requires-2
-    returns-2)
+ray-of-spec = tie.close (tie.spec way-of-requires half-of-requires returns)

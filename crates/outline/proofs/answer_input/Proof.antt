@@ -1,3 +1,4 @@
+-- `outline::answer_input` meets its contract: the answer to what was read.
 use native.Mathlib.Omega.{arith}
 use Rattle.outline.proofs.Counted.{read-within, part-long}
 use borrow.Author.Needs.{needs}

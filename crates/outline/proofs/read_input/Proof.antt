@@ -1,3 +1,4 @@
+-- `outline::read_input` meets its contract; the invariant: what is read so far stands at the buffer's front.
 use Prim.Native.Nat.{_≤_, _-_}
 use mathlib.Core.Path.{_≡_, _∙_}
 use lib.ListN.{length}

@@ -1,3 +1,4 @@
+-- `outline::write_answer` meets its contract: what is written is the front of the buffer.
 use Rattle.outline.proofs.Counted.{wrote-within, wrote-part}
 use borrow.Author.Needs.{needs}
 use Rattle.outline.proofs.write_answer.Statement.{statement}

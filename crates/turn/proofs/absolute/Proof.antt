@@ -1,3 +1,4 @@
+-- `turn::absolute` meets its contract, at the least i64 too.
 use native.Mathlib.Omega.{arith}
 use lib.IntN.{pos}
 use mir.Syntax.{w64}

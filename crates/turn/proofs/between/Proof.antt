@@ -1,3 +1,4 @@
+-- `turn::between` meets its contract: by its two differences.
 use native.Mathlib.Omega.{arith}
 use Rattle.laws.specs.Bounds.{same32, same64}
 use borrow.Author.Needs.{needs}

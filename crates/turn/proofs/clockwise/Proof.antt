@@ -1,3 +1,4 @@
+-- `turn::clockwise` meets its contract: the turn is below 0.
 use native.Mathlib.Omega.{arith}
 use mathlib.Core.Path.{ap}
 use lib.IntN.{pos}

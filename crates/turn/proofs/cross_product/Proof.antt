@@ -1,3 +1,4 @@
+-- `turn::cross_product` meets its contract: within the bounds nothing overflows.
 use native.Mathlib.Omega.{arith}
 use Rattle.laws.specs.Bounds.{mul-fits, sub-fits, sub-small, sub-value}
 use Rattle.turn.specs.Points.{span}

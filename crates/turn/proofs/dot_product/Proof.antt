@@ -1,3 +1,4 @@
+-- `turn::dot_product` meets its contract: within the bounds nothing overflows.
 use native.Mathlib.Omega.{arith}
 use Rattle.laws.specs.Bounds.{mul-fits, add-fits, add-small, add-value}
 use Rattle.turn.specs.Points.{span}

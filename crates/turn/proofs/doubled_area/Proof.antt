@@ -1,3 +1,4 @@
+-- `turn::doubled_area` meets its contract; the invariant: the sum so far and what is left make the area.
 use mathlib.Core.Path.{sym, ap, _∙_}
 use Prim.Native.Nat.{_-_}
 use native.Mathlib.Omega.{arith}

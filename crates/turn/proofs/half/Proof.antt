@@ -1,3 +1,4 @@
+-- `turn::half` meets its contract: half of the absolute value.
 use mir.Syntax.{w64}
 use mir.ValLaws.{toZ-ofZ}
 use Prim.Native.Nat.{_/_}

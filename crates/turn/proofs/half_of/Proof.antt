@@ -1,3 +1,4 @@
+-- `turn::half_of` meets its contract: by the sign of the cross product, and of the dot product where that is 0.
 use native.Mathlib.Omega.{arith}
 use mathlib.Core.Path.{_≡_, sym, ap, _∙_}
 use mathlib.Core.Bool.{not}

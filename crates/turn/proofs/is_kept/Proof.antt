@@ -1,3 +1,4 @@
+-- `turn::is_kept` meets its contract: by half the area.
 use mathlib.Core.Path.{ap}
 use mathlib.Core.Bool.{_&&_, _||_}
 use mir.Syntax.{w64}

@@ -1,3 +1,4 @@
+-- `turn::same_direction` meets its contract: by the signs of the cross and the dot product.
 use native.Mathlib.Omega.{arith}
 use mathlib.Core.Path.{ap, ap₂, _∙_}
 use mathlib.Core.Bool.{_&&_}

@@ -1,3 +1,4 @@
+-- `turn::turn_of` meets its contract: the cross product of the two ways from a.
 use native.Mathlib.Omega.{arith}
 use Rattle.laws.specs.Bounds.{same64}
 use borrow.Author.Needs.{needs}

@@ -1,3 +1,4 @@
+-- `turn::turns` meets its contract: by the sign of the product.
 use mir.Syntax.{w64}
 use mir.ValLaws.{toZ-ofZ}
 use Rattle.turn.proofs.Halves.{sense-is}

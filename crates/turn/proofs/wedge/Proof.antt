@@ -1,3 +1,4 @@
+-- `turn::wedge` meets its contract: within the bounds nothing overflows.
 use native.Mathlib.Omega.{arith}
 use Rattle.laws.specs.Bounds.{fits32, cast-fits, mul-fits, sub-fits, sub-small, sub-value}
 use Rattle.turn.specs.Limits.{maxCoordinate}

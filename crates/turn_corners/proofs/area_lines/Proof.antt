@@ -1,3 +1,4 @@
+-- `turn_corners::area_lines` runs safely: its points are on the grid.
 use mathlib.Core.List.{List, [], _∷_}
 use lib.ListN.{take}
 use lib.IntN.{ℤ, pos, negsuc}

@@ -1,3 +1,4 @@
+-- `turn_corners::outside` runs safely: a coordinate widens to itself.
 use Rattle.laws.specs.Bounds.{cast-fits}
 use borrow.Author.Needs.{needs}
 use Rattle.turn_corners.proofs.outside.Statement.{statement}

@@ -1,3 +1,4 @@
+-- `turn_corners::say_point` runs safely: coordinates widen to themselves.
 use native.Mathlib.Omega.{arith}
 use Rattle.laws.specs.Bounds.{cast-fits}
 use borrow.Author.Needs.{needs}

@@ -1,4 +1,4 @@
--- `walk::one_step` meets its contract: what `next_link` names is unvisited, is marked, and its point is written; else nothing changes.
+-- `walk::one_step` meets its contract: what `next_from` names is unvisited, is marked, and its point is written; else nothing changes.
 use Prim.Native.Nat.{ℕ, suc, _<_}
 use mathlib.Core.Path.{_≡_, refl, sym, ap, _∙_}
 use mathlib.Core.List.{List, []}
@@ -14,7 +14,6 @@ use Rattle.walk.proofs.one_step.Tie as tie
 use Rattle.walk.proofs.one_step.Reads as reads
 use Rattle.walk.proofs.one_step.Lts as lts
 use Rattle.walk.proofs.end_point.Reads as end-point-reads
-use Rattle.next.proofs.next_link.Reads as next-link-reads
 use Rattle.walk.proofs.node_at.Reads as node-at-reads
 use Rattle.walk.proofs.other_node.Reads as other-node-reads
 use Rattle.walk.proofs.put_point.Reads as put-point-reads
@@ -33,13 +32,13 @@ abbrev link : tie.After-k → ℕ
 link c = c .k .given .0 .0
 
 ok : (c : tie.After-k) → (link c < length (st (at-start c))) × (getD (st (at-start c)) (link c) 1 ≡ 0)
-ok c = rw (c .k .given .1) at (c .before .before .next-link .ensures .1)
+ok c = rw (c .k .given .1) at (c .before .before .next-from .ensures .1)
 
 less : (c : tie.After-k) → unvisited (st (at-start c)) ≡ suc (unvisited (set (st (at-start c)) (link c) (at-start c .args .mark)))
 less c = fewer (st (at-start c)) (link c) (at-start c .args .mark) (at-start c .pre .1 .0 .2) (ok c .1)
 
-next-link-requires : tie.Need-next-link-requires
-next-link-requires c κs = let s = c .before .before .before .before .before .before in (s .pre .0 .links, (s .pre .0 .nodes, (s .pre .1 .0 .0, s .pre .1 .0 .1)))
+next-from-requires : tie.Need-next-from-requires
+next-from-requires c κs = let s = c .before .before .before .before .before .before in (s .pre .0 .links, (s .pre .0 .nodes, (s .pre .1 .0 .0, s .pre .1 .0 .1)))
 
 enum-told : tie.Need-enum-told
 enum-told c = search needs
@@ -71,7 +70,7 @@ same-length c = search needs
 returns : tie.Need-returns
 returns c =
     let s = c .before .before .before .before .before .before .before .before .before in
-    (step-nowhere (g s) (s .args .sense) (s .args .mark) (st s) (s .args .points .now) (s .args .w) (sym (c .enum-told .given .1) ∙ c .before .before .next-link .ensures .0 (s .args .bid .now) []), (tt, kept-none (st s)))
+    (step-nowhere (g s) (s .args .sense) (s .args .mark) (st s) (s .args .points .now) (s .args .w) (sym (c .enum-told .given .1) ∙ c .before .before .next-from .ensures .0 (s .args .bid .now) []), (tt, kept-none (st s)))
 
 same-length-2 : tie.Need-same-length-2
 same-length-2 c = search needs
@@ -84,7 +83,7 @@ returns-2 c =
     let a = c .before .before .before .before .before .before .before in
     let s = at-start a in (
       step-went (g s) (s .args .sense) (s .args .mark) (st s) (s .args .points .now) (s .args .w) (link a) _ _ _ _
-          (sym (a .k .given .1) ∙ a .before .before .next-link .ensures .0 (s .args .bid .now) []) (ap (λ x. eqb x (s .args .w .node)) (c .before .before .before .before .before .node-at .ensures))
+          (sym (a .k .given .1) ∙ a .before .before .next-from .ensures .0 (s .args .bid .now) []) (ap (λ x. eqb x (s .args .w .node)) (c .before .before .before .before .before .node-at .ensures))
           (c .before .before .before .before .end-point .ensures) (c .before .before .before .other-node .ensures) (c .before .put-point .ensures),
       ((rw (c .before .before .before .other-node .ensures) (other-there (g s) _ (s .args .w .node) (link a) (s .pre .0) (ok a .0)), ok a .0, refl, less a), kept-mark (st s) (link a) _ (s .pre .1 .0 .2) (ok a .1)),
     )
@@ -93,7 +92,7 @@ pub one-step-spec : {M : Type 1} → statement M
 one-step-spec =
     tie.close
     (tie.spec
-    next-link-requires
+    next-from-requires
     enum-told
     enum-known-k
     node-at-requires
