@@ -32,8 +32,18 @@ impl<'a> Ours<'a> {
 
     /// Extraction with all its checks; the states are set as the text's link filter sets its own.
     fn extract(&mut self) {
-        let Sample { graph, state } = self.sample;
-        self.lent.state.copy_from_slice(state);
+        self.lent.state.copy_from_slice(&self.sample.state);
+        self.walk();
+    }
+
+    /// The same with every link skipped: the checks, and nothing to walk.
+    fn check(&mut self) {
+        self.lent.state.fill(1);
+        self.walk();
+    }
+
+    fn walk(&mut self) {
+        let graph = &self.sample.graph;
         self.counts =
             lent::extract(lists(graph), Options::default(), buffers(&mut self.lent)).expect("the graphs are walked");
     }
@@ -87,8 +97,11 @@ fn least<A, B, R>(
     least
 }
 
+fn micros(time: Duration) -> f64 {
+    time.as_nanos() as f64 / 1000.0
+}
+
 fn print(name: &str, step: &str, (ours, theirs): (Duration, Duration)) {
-    let micros = |time: Duration| time.as_nanos() as f64 / 1000.0;
     let ratio = micros(ours) / micros(theirs);
     println!("| {name} | {step} | {:.1} | {:.1} | {ratio:.2} |", micros(ours), micros(theirs));
 }
@@ -102,6 +115,8 @@ fn main() -> ExitCode {
     for (name, sample) in graphs::all() {
         let mut ours = Ours::new(&sample);
         let mut theirs = Run::new(&sample.graph, &sample.state, Settings { clockwise: false, minimum: 0 }, 0);
+        let (checks, _) = least(|| (), || ours.check(), |()| ());
+        println!("| {name} | its checks alone | {:.1} | | |", micros(checks));
         let times = least(|| (), || ours.extract(), |()| theirs.extract_contours());
         print(name, "extraction", times);
         let points: Vec<i32> = theirs.contours().concat().iter().flat_map(|point| [point.x, point.y]).collect();
