@@ -691,8 +691,9 @@ fn coordinates(out: &mut [i32], from: &[u32]) {
     }
 }
 
-// 4,096 links with room exactly enough, and with a point and a contour less.
+// 4,096 links, with room for so many numbers and contours.
 fn at_the_limit(
+    label: &[u8],
     ax: &[i32],
     ay: &[i32],
     bx: &[i32],
@@ -702,9 +703,11 @@ fn at_the_limit(
     start: &[u32],
     list: &[u32],
     flags: &[u8],
+    numbers: usize,
+    contours: usize,
 ) {
     show(
-        b"1 4096 links, room exactly enough",
+        label,
         check_graph(
             ax,
             ay,
@@ -716,48 +719,10 @@ fn at_the_limit(
             list,
             flags,
             flags,
-            8192,
-            1365,
-            1365,
-            1365,
-        ),
-    );
-    show(
-        b"2 4096 links, a point short",
-        check_graph(
-            ax,
-            ay,
-            bx,
-            by,
-            aid,
-            bid,
-            start,
-            list,
-            flags,
-            flags,
-            8191,
-            1365,
-            1365,
-            1365,
-        ),
-    );
-    show(
-        b"2 4096 links, a contour short",
-        check_graph(
-            ax,
-            ay,
-            bx,
-            by,
-            aid,
-            bid,
-            start,
-            list,
-            flags,
-            flags,
-            8192,
-            1364,
-            1364,
-            1364,
+            numbers,
+            contours,
+            contours,
+            contours,
         ),
     );
 }
@@ -784,7 +749,7 @@ fn row_of_nodes(aid: &mut [u32], bid: &mut [u32], start: &mut [u32], list: &mut 
 }
 
 // As many links as there may be: 1,024 squares.
-fn squares() {
+fn squares(label: &[u8], numbers: usize, contours: usize) {
     let mut plan = [0u32; 4096];
     let mut ax = [0i32; 4096];
     let mut ay = [0i32; 4096];
@@ -797,7 +762,26 @@ fn squares() {
     let flags = [0u8; 4096];
     row_of_links(&mut plan, &mut ax, &mut ay, &mut bx, &mut by);
     row_of_nodes(&mut aid, &mut bid, &mut start, &mut list);
-    at_the_limit(&ax, &ay, &bx, &by, &aid, &bid, &start, &list, &flags);
+    at_the_limit(
+        label,
+        &ax,
+        &ay,
+        &bx,
+        &by,
+        &aid,
+        &bid,
+        &start,
+        &list,
+        &flags,
+        numbers,
+        contours,
+    );
+}
+
+fn limits() {
+    squares(b"1 4096 links, room exactly enough", 8192, 1365);
+    squares(b"2 4096 links, a point short", 8191, 1365);
+    squares(b"2 4096 links, a contour short", 8192, 1364);
 }
 
 // More links than there may be; nothing else is looked at.
@@ -851,7 +835,7 @@ fn whole() {
 fn main() {
     whole();
     too_many();
-    squares();
+    limits();
     point_lists();
     other_lists();
     room_for_points();

@@ -203,6 +203,45 @@ fn next_from(
     }
 }
 
+// Rule 4: the last link of a walk that begins at a node with a link: the next link there under the opposite sense. It is read as in `next_from`,
+// but not by it: called twice, `next_from` would not be compiled into its place.
+fn last_link(
+    ax: &[i32],
+    ay: &[i32],
+    bx: &[i32],
+    by: &[i32],
+    aid: &[u32],
+    start: &[u32],
+    list: &[u32],
+    state: &[u8],
+    sense: bool,
+    node: usize,
+    link: usize,
+) -> Next
+    requires { ⌜ Links (now ax) (now ay) (now bx) (now by) (length (now state)) ⌝ }
+    requires { ⌜ Nodes (now aid) (now start) (now list) (length (now state)) ⌝ }
+    requires { ⌜ (node + 1 < length (now start)) × (link < length (now state)) ⌝ }
+    ensures { λ r. ⌜ ((bid top : List ℕ) → r ≡ nextLink (graphOf (lent (now (ax .entry)) (now (ay .entry)) (now (bx .entry)) (now (by .entry)) (now (aid .entry)) bid (now (start .entry)) (now (list .entry))) top) (not sense) (now (state .entry)) node link) ⌝ }
+    ensures { λ r. ⌜ Unvisited (now (state .entry)) r ⌝ }
+{
+    match next::on_bridge(start, list, state, node, link) {
+        Across::Named(next) => next,
+        Across::Choice => next::next_link(
+            ax,
+            ay,
+            bx,
+            by,
+            aid,
+            start,
+            list,
+            state,
+            !sense,
+            node,
+            link,
+        ),
+    }
+}
+
 // One step from the walker's node: the next link is marked, and the point of the node is written.
 fn one_step(
     ax: &[i32],
@@ -331,13 +370,14 @@ fn find_contour(
     let begin = end_point(ax, ay, bx, by, forward, s);
     state[s] = mark;
     put_point(points, at, begin);
-    match next::next_link(ax, ay, bx, by, aid, start, list, state, !sense, home, s) {
+    match last_link(ax, ay, bx, by, aid, start, list, state, sense, home, s) {
         Next::Nothing => Ended::Stuck(8),
         Next::Link(last) => {
+            let written = at + 1;
             let w = Walker {
                 link: s,
                 node: ahead,
-                written: at + 1,
+                written: written,
             };
             walk_on(
                 ax,

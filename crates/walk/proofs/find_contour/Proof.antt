@@ -15,7 +15,7 @@ use Rattle.walk.proofs.find_contour.Reads as reads
 use Rattle.walk.proofs.find_contour.Lts as lts
 use Rattle.walk.proofs.end_node.Reads as end-node-reads
 use Rattle.walk.proofs.end_point.Reads as end-point-reads
-use Rattle.next.proofs.next_link.Reads as next-link-reads
+use Rattle.walk.proofs.last_link.Reads as last-link-reads
 use Rattle.walk.proofs.put_point.Reads as put-point-reads
 use Rattle.walk.proofs.walk_on.Reads as walk-on-reads
 
@@ -49,8 +49,8 @@ slice-write-state c = search needs
 put-point-requires : tie.Need-put-point-requires
 put-point-requires c κs = let s = c .before .before .before .before .before .before .before .before .before in omega (arith, s .pre .1 .1, less s)
 
-next-link-requires : tie.Need-next-link-requires
-next-link-requires c κs =
+last-link-requires : tie.Need-last-link-requires
+last-link-requires c κs =
     let s = c .before .before .before .before .before .before .before .before .before .before .before .before in
     let e = length-set (st s) (s .args .s) (s .args .mark) in
     (rw e (s .pre .0 .links), (rw e (s .pre .0 .nodes), (rw (c .before .before .before .before .before .before .end-node .ensures) (end-there (g s) _ (s .args .s) (s .args .forward) (s .pre .0) (s .pre .1 .0 .0) .0), rw e (s .pre .1 .0 .0))))
@@ -61,8 +61,8 @@ enum-told c = search needs
 enum-known-last : tie.Need-enum-known-last
 enum-known-last c = search needs
 
-add-t30 : tie.Need-add-t30
-add-t30 c = let s = c .before .before .before .before .before .before .before .before .before .before .before .before .before .before .before .before in omega (arith, s .pre .1 .1, less s, s .good .1 .1 .1 .1 .1 .1 .1 .1 .1 .1 .1 .1 .0)
+add-written : tie.Need-add-written
+add-written c = let s = c .before .before .before .before .before .before .before .before .before .before .before .before .before .before .before .before in omega (arith, s .pre .1 .1, less s, s .good .1 .1 .1 .1 .1 .1 .1 .1 .1 .1 .1 .1 .0)
 
 walk-on-requires : tie.Need-walk-on-requires
 walk-on-requires c κs =
@@ -85,7 +85,7 @@ returns : tie.Need-returns
 returns c =
     let s = c .before .before .before .before .before .before .before .before .before .before .before .before .before .before .before in (
       starts-nowhere (plain (g s)) (s .args .forward) (s .args .sense) (s .args .mark) (st s) (s .args .s) (s .args .points .now) (s .args .at) _ _ _ _ (c .before .before .before .before .before .before .before .before .before .end-node .ensures)
-          (sym (c .enum-told .given .1) ∙ c .before .before .next-link .ensures .0 (s .args .bid .now) []) refl,
+          (sym (c .enum-told .given .1) ∙ c .before .before .last-link .ensures .0 (s .args .bid .now) []) refl,
       (tt, mark-kept s),
     )
 
@@ -100,7 +100,7 @@ returns-2 c =
     let o = c .before .before .before in
     let s = o .before .before .before .before .before .before .before .before .before .before .before .before .before .before .before .before .before .before .before in (
       starts-on (plain (g s)) (s .args .forward) (s .args .sense) (s .args .mark) (st s) (s .args .s) (s .args .points .now) (s .args .at) _ _ _ _ (o .before .before .before .before .before .before .before .before .before .before .before .before .before .end-node .ensures) _ _ _ _
-          (sym (o .before .before .before .before .last .given .1) ∙ o .before .before .before .before .before .before .next-link .ensures .0 (s .args .bid .now) []) (o .before .before .before .before .before .before .before .before .before .before .before .before .end-node2 .ensures) (o .before .before .before .before .before .before .before .before .before .before .before .end-point .ensures) (o .before .before .before .before .before .before .before .before .before .put-point .ensures) (o .walk-on .ensures .0),
+          (sym (o .before .before .before .before .last .given .1) ∙ o .before .before .before .before .before .before .last-link .ensures .0 (s .args .bid .now) []) (o .before .before .before .before .before .before .before .before .before .before .before .before .end-node2 .ensures) (o .before .before .before .before .before .before .before .before .before .before .before .end-point .ensures) (o .before .before .before .before .before .before .before .before .before .put-point .ensures) (o .walk-on .ensures .0),
       (counted-on (s .args .at) (st s) (marked s) (o .walk-on .last .1 .1 .1 .1 .1 .1 .1 .1 .1 .1 .1 .1 .0) (o .walk-on .result) (less s) (o .walk-on .ensures .1 .0), kept-then (mark-kept s) (o .walk-on .ensures .1 .1)),
     )
 
@@ -113,10 +113,10 @@ find-contour-spec =
     end-point-requires
     slice-write-state
     put-point-requires
-    next-link-requires
+    last-link-requires
     enum-told
     enum-known-last
-    add-t30
+    add-written
     walk-on-requires
     same-length
     same-length-2
