@@ -1,28 +1,28 @@
 -- What the layers above may cite of a graph that `checked` calls fine, over the view `graphOf` that the rules of walking read.
 use Prim.Native.Nat.{ℕ, zero, suc, _+_, _*_, _-_, _/_, _≤_, _<_}
 use native.Mathlib.Omega.{arith}
-use native.Mathlib.Decide.{decLe, ℕ-discrete}
+use native.Mathlib.Decide.{decLe}
 use native.Mathlib.Nat.{le-of-eq}
-use native.Mathlib.Numerals.{add-one}
-use mathlib.Core.Path.{_≡_, refl, sym, ap, ap₂, _∙_, subst}
+use mathlib.Core.Path.{_≡_, refl, sym, ap, _∙_, subst}
 use mathlib.Core.Bool.{true, false}
 use mathlib.Core.Logic.{_⊎_, ⊎-elim}
 use mathlib.Core.List.{List, [], List·Memᴰ, List·Memᴰ·not-nil}
-use lib.Dec.{eqb}
-use lib.ListN.{length, getD, take, drop, length-take, length-drop, List·getD-eq-default}
+use lib.ListN.{length, getD}
 use borrow.Author.Tests.{eq-eqb, ne-eqb}
-use Rattle.laws.specs.Test.{pick, pick-true, pick-false}
+use Rattle.laws.specs.Test.{pick-true, pick-false}
 use Rattle.turn.specs.declared.Point.{Point}
 use Rattle.turn.specs.declared.Vector.{Vector}
 use Rattle.turn.specs.Limits.{maxLinks}
 use Rattle.turn.specs.Points.{before, OnGrid}
 use Rattle.turn.specs.Angle.{sameDirection}
 use Rattle.graph.specs.declared.Checked.the-variants.{Fine}
-use Rattle.graph.specs.Graph.{Lent, Graph, graphOf, linkCount, nodeCount, part}
-use Rattle.graph.specs.Count.{count, Place, place-of, member, counted-in, count-two, sum, sum-same, sum-add, sum-const, sum-swap, sum-once, counted}
+use Rattle.graph.specs.Graph.{Lent, Graph, graphOf, linkCount, nodeCount}
+use Rattle.graph.specs.Count.{count, Place, place-of, member, counted-in, count-two}
 use Rattle.graph.specs.Checks.{Room, endAt, away, checked}
 use Rattle.graph.specs.Passes.{Even, Rising, EndAt, entry, SharedPasses, BandPasses, Passes}
 use Rattle.graph.specs.PointLaws.{Upto, upto, upto-refl, upto-trans, not-before, same-direction-sym}
+use Rattle.graph.specs.Known.{Ids}
+use Rattle.graph.specs.Total.{starts-within, part-length, part-empty, total}
 use Rattle.graph.specs.Exact.{exact}
 
 -- the point of link k's end at node v, and the way that link k runs from there
@@ -95,32 +95,6 @@ pub record FineGraph (g : Lent) (top state : List ℕ) (r : Room) : Type 0 where
   pub total : length (g .list) ≡ 2 * linkCount g
   pub one-point : OnePoint (graphOf g top)
   pub band : FineBand (graphOf g top) top state
-
--- ---- the starts
-module _ {start list : List ℕ} (h : Rising start list) where
-  near : (d v : ℕ) → v + d ≡ length start - 1 → getD start v 0 ≤ length list
-  near zero v e = let q : v ≡ length start - 1 = omega arith in rw q (le-of-eq (h .last))
-  near (suc d) v e = let k = near d (v + 1) (omega arith) in omega (arith, h .step v (omega arith))
-
-  pub starts-within : (v : ℕ) → v ≤ length start - 1 → getD start v 0 ≤ length list
-  starts-within v l = near (length start - 1 - v) v (omega arith)
-
-  pub part-length : (v : ℕ) → v < length start - 1 → getD start v 0 + length (part start list v) ≡ getD start (v + 1) 0
-  part-length v l =
-      let a = h .step v l in
-      let b = starts-within (v + 1) (omega arith) in
-      simp (length-take, length-drop) (omega arith)
-
-  pub part-empty : (v : ℕ) → length start - 1 ≤ v → part start list v ≡ []
-  part-empty v l =
-      let z : getD start (v + 1) 0 ≡ 0 = List·getD-eq-default start 0 {n = v + 1} (omega (arith, h .any)) in
-      let e : getD start (v + 1) 0 - getD start v 0 ≡ 0 = omega arith in
-      ap (λ (t : ℕ). take t (drop (getD start v 0) list)) e
-
-  pub lengths : (v : ℕ) → v ≤ length start - 1 → sum (λ u. length (part start list u)) v ≡ getD start v 0
-  unfolding sum
-  lengths zero l = sym (h .first)
-  lengths (suc v) l = let e : getD start (v + 1) 0 ≡ getD start (suc v) 0 = ap (λ (t : ℕ). getD start t 0) (add-one v) in omega (arith, lengths v (omega arith), part-length v (omega arith))
 
 -- ---- the links
 module _ {g : Lent} {points : ℕ} (top : List ℕ) (h : SharedPasses g points) where
@@ -203,34 +177,6 @@ module _ {g : Lent} {points : ℕ} (top : List ℕ) (h : SharedPasses g points) 
     no-twice = no-twice;
   }
 
-  -- ---- how many entries
-  at-node : (k v : ℕ) → k < linkCount g → count k (G .entries v) ≡ pick (eqb (G .aNode k) v) 1 0 + pick (eqb (G .bNode k) v) 1 0
-  at-node k v l = go (ℕ-discrete (G .aNode k) v) (ℕ-discrete (G .bNode k) v)
-    where
-      sums : (x y : ℕ) → pick (eqb (G .aNode k) v) 1 0 ≡ x → pick (eqb (G .bNode k) v) 1 0 ≡ y → count k (G .entries v) ≡ x + y → count k (G .entries v) ≡ pick (eqb (G .aNode k) v) 1 0 + pick (eqb (G .bNode k) v) 1 0
-      sums x y p q e = omega arith
-
-      none : (G .aNode k ≡ v → ⊥) → (G .bNode k ≡ v → ⊥) → 1 ≤ count k (G .entries v) → ⊥
-      none p q c = ⊎-elim p q (an-end v k (counted-in k (G .entries v) c) .end)
-
-      go : Dec (G .aNode k ≡ v) → Dec (G .bNode k ≡ v) → count k (G .entries v) ≡ pick (eqb (G .aNode k) v) 1 0 + pick (eqb (G .bNode k) v) 1 0
-      go (yes p) (yes q) = absurd (h .two-nodes k l (p ∙ sym q))
-      go (yes p) (no q) = sums 1 0 (pick-true 1 0 (eq-eqb _ v p)) (pick-false 1 0 (ne-eqb _ v q)) (subst (λ (u : ℕ). count k (G .entries u) ≡ 1) p (h .once-a k l))
-      go (no p) (yes q) = sums 0 1 (pick-false 1 0 (ne-eqb _ v p)) (pick-true 1 0 (eq-eqb _ v q)) (subst (λ (u : ℕ). count k (G .entries u) ≡ 1) q (h .once-b k l))
-      go (no p) (no q) = sums 0 0 (pick-false 1 0 (ne-eqb _ v p)) (pick-false 1 0 (ne-eqb _ v q)) (let n = none p q in omega arith)
-
-  twice : (k : ℕ) → k < linkCount g → sum (λ v. count k (G .entries v)) (nodeCount g) ≡ 2
-  twice k l =
-      sum-same _ _ (nodeCount g) (λ v b. at-node k v l) ∙ sum-add _ _ (nodeCount g) ∙ ap₂ _+_ (sum-once (G .aNode k) (nodeCount g) (h .a-node k l)) (sum-once (G .bNode k) (nodeCount g) (h .b-node k l))
-
-  total : length (g .list) ≡ 2 * linkCount g
-  total =
-      sym (lengths (h .rising) (nodeCount g) (omega arith) ∙ h .rising .last) ∙
-      sum-same _ _ (nodeCount g) (λ v l. sym (counted (G .entries v) (linkCount g) (λ i b. h .ends v i l b .below))) ∙
-      sum-swap (λ v k. count k (G .entries v)) (nodeCount g) (linkCount g) ∙
-      sum-same _ _ (linkCount g) twice ∙
-      sum-const 2 (linkCount g)
-
   -- ---- the points
   end-a : (k : ℕ) → k < linkCount g → endPoint G (G .aNode k) k ≡ G .a k
   end-a k l = pick-true (G .a k) (G .b k) (eq-eqb (G .aNode k) (G .aNode k) refl)
@@ -297,6 +243,10 @@ module _ {g : Lent} {points : ℕ} (top : List ℕ) (h : SharedPasses g points) 
       spread = spread;
     }
 
+-- the ids, as they are cited
+ids : {g : Lent} {points : ℕ} → SharedPasses g points → Ids (g .aId) (g .bId) (nodeCount g)
+ids s = record { same = s .even .bId; a-below = s .a-node; b-below = s .b-node; two = s .two-nodes }
+
 pub facts : (g : Lent) (top state : List ℕ) (r : Room) → Passes g top state r → FineGraph g top state r
 facts g top state r h =
     let s = h .shared in
@@ -309,7 +259,7 @@ facts g top state r h =
       rising = s .rising;
       within = starts-within (s .rising);
       lists = fine-lists top s;
-      total = total top s;
+      total = total (g .aId) (g .bId) (g .start) (g .list) (s .rising) (ids s) (λ v i l b. s .ends v i l b) (s .once-a) (s .once-b);
       one-point = one-point top s;
       band = fine-band top s b;
     }

@@ -8,6 +8,7 @@ pub mod Passes
 pub mod PointLaws
 pub mod Known
 pub mod Tests
+pub mod Total
 pub mod Exact
 pub mod Fine
 pub mod Sound

@@ -22,7 +22,7 @@ use Rattle.graph.specs.Known.{Ids}
 use Rattle.laws.specs.Fails.{some-fails, eq-fails}
 use Rattle.graph.specs.Tests.{no-stray, together, unlike-ways}
 use Rattle.graph.specs.Exact.{by-nodes}
-use Rattle.graph.specs.Fine.{lengths}
+use Rattle.graph.specs.Total.{lengths}
 
 -- ---- one node
 module _ (aId bId : List ℕ) (a b : ℕ → Point) (aNode : ℕ → ℕ) (state l : List ℕ) (v : ℕ) where

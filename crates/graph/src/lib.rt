@@ -795,15 +795,14 @@ fn check_nodes(
     requires { ⌜ 1 ≤ length (now start) ⌝ }
     ensures { λ r. ⌜ r ≡ checkedNodes (lent (now (ax .entry)) (now (ay .entry)) (now (bx .entry)) (now (by .entry)) (now (aid .entry)) (now (bid .entry)) (now (start .entry)) (now (list .entry))) (now (state .entry)) ⌝ }
 {
-    if bad_starts(start, list) {
+    // each link has two entries, so a list of any other length is wrong, and may be as long as it likes
+    if bad_starts(start, list) | (list.len() != 2 * aid.len()) {
         return Checked::Refused {
             number: 5,
             place: 0,
         };
     }
-    if (list.len() == 2 * aid.len())
-        & !any_node_wrong(ax, ay, bx, by, aid, bid, start, list, state)
-    {
+    if !any_node_wrong(ax, ay, bx, by, aid, bid, start, list, state) {
         return Checked::Fine;
     }
     check_in_order(ax, ay, bx, by, aid, bid, start, list, state)

@@ -5,7 +5,7 @@ use Rattle.graph.proofs.entries.Tie as tie
 use Prim.Native.Nat.{_≤_, _+_}
 use native.Mathlib.Omega.{arith}
 use lib.ListN.{length}
-use Rattle.graph.specs.Fine.{starts-within}
+use Rattle.graph.specs.Total.{starts-within}
 
 mul-wide : tie.Need-mul-wide
 mul-wide c = search needs
