@@ -12,7 +12,8 @@ use Rattle.turn.specs.declared.Point.{Point}
 use Rattle.turn.specs.Points.{before}
 use Rattle.graph.specs.Graph.{Lent, Graph, graphOf, linkCount, nodeCount}
 use Rattle.graph.specs.Checks.{Room}
-use Rattle.graph.specs.Fine.{FineGraph, part-length}
+use Rattle.graph.specs.Fine.{FineGraph}
+use Rattle.graph.specs.Total.{part-length}
 use Rattle.next.specs.Next.{isOpen, topmost}
 use Rattle.next.specs.Known.{Links, Nodes}
 use Rattle.next.specs.Choice.{Mem}
