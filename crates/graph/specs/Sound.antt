@@ -33,7 +33,7 @@ module _ (aId bId : List ℕ) (a b : ℕ → Point) (aNode : ℕ → ℕ) (state
     pub point : (i j : ℕ) → i < j → j < length l → endAt a b aNode v (getD l i 0) ≡ endAt a b aNode v (getD l j 0)
     pub ways : (i j : ℕ) → i < j → j < length l → alike a b aNode state v (getD l i 0) (getD l j 0) ≡ false
 
-  -- a test that passes nowhere and another that fails
+  -- a choice that is false: its test fails, and so does what is left
   neither : (t r : Bool) → pick t true r ≡ false → (t ≡ false) × (r ≡ false)
   neither true r e = absurd (true≢false refl e)
   neither false r e = (refl, e)
