@@ -8,8 +8,8 @@ use lib.IntN.{ℤ, pos}
 use lib.ListN.{length, replicate, length-append, length-map}
 use Rattle.graph.specs.Graph.{Lent, graphOf, Graph}
 use Rattle.graph.specs.Checks.{checked, room}
-use Rattle.graph.specs.declared.Checked.{Checked}
-use Rattle.graph.specs.declared.Checked.the-variants as check
+use Rattle.turn.specs.declared.Checked.{Checked}
+use Rattle.turn.specs.declared.Checked.the-variants as check
 use Rattle.walk.specs.declared.Counts.{Counts}
 use Rattle.walk.specs.declared.Extraction.{Extraction}
 use Rattle.walk.specs.declared.Extraction.the-variants.{Done, Refused}

@@ -7,10 +7,11 @@ use mathlib.Core.List.{List, [], _∷_, _++_}
 use lib.Dec.{eqb}
 use lib.ListN.{length, drop, replicate, length-append, length-drop, length-replicate}
 use Rattle.laws.specs.Test.{pick, pick-ind}
-use Rattle.table.specs.declared.Checked.{Checked}
-use Rattle.table.specs.declared.Checked.the-variants.{Fine, Refused as AtFault}
+use Rattle.turn.specs.declared.Checked.{Checked}
+use Rattle.turn.specs.declared.Checked.the-variants.{Fine, Refused as AtFault}
 use Rattle.table.specs.Table.{Table, contourCount, pointCount, hulls, hullCount}
-use Rattle.table.specs.TableChecks.{tableChecked, anchorsChecked, followedBy, bothChecked}
+use Rattle.table.specs.TableChecks.{tableChecked, anchorsChecked, bothChecked}
+use Rattle.turn.specs.Refusals.{first-fine}
 use Rattle.table.specs.Sound.{Sound}
 use Rattle.table.specs.Passing.{passes-sound, ranges-within}
 use Rattle.bind.specs.declared.Binding.{Binding}
@@ -74,10 +75,6 @@ module _ (t : Table) (cw : Bool) (buffer : List ℕ) where
       → MayPrint t (boundAfter k t cw buffer .answer) (boundAfter k t cw buffer .owner)
   after-may (AtFault number place) h = tt
   after-may Fine h = let p = h refl in handed-may (p .0) (p .1) (ownersOf t cw .answer) (ownersOf t cw .owners)
-
-  first-fine : (k : Checked) (rest : Checked) → followedBy k rest ≡ Fine → k ≡ Fine
-  first-fine Fine rest e = refl
-  first-fine (AtFault number place) rest e = e
 
   bound-may : MayPrint t (bound t cw buffer .answer) (bound t cw buffer .owner)
   bound-may =

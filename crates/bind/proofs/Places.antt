@@ -7,10 +7,11 @@ use lib.ListN.{length}
 use Rattle.laws.specs.Test.{pick, or-false}
 use Rattle.laws.specs.Lowest.{lowest, some, None, some-of}
 use Rattle.turn.specs.Limits.{maxLinks}
-use Rattle.table.specs.declared.Checked.{Checked}
-use Rattle.table.specs.declared.Checked.the-variants.{Fine, Refused}
+use Rattle.turn.specs.declared.Checked.{Checked}
+use Rattle.turn.specs.declared.Checked.the-variants.{Fine, Refused}
 use Rattle.table.specs.Table.{Table, pointCount, contourCount, firstOf, lenOf, kindOf}
-use Rattle.table.specs.TableChecks.{misfit, startIn, unended, badContour, badAnchor, tableChecked, anchorsChecked, followedBy, bothChecked}
+use Rattle.table.specs.TableChecks.{misfit, startIn, unended, badContour, badAnchor, tableChecked, anchorsChecked, bothChecked}
+use Rattle.turn.specs.Refusals.{followedBy}
 use Rattle.table.specs.Tests.{Ranged, fitting, contour-right}
 use Rattle.table.specs.Passing.{passes-sound}
 use Rattle.nearest.proofs.Same.{contours-few}

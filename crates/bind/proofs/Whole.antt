@@ -15,10 +15,11 @@ use Rattle.turn.specs.declared.Point.{Point}
 use Rattle.turn.specs.Limits.{maxLinks}
 use Rattle.turn.specs.Points.{before, OnGrid}
 use Rattle.table.specs.declared.Anchor.{Anchor}
-use Rattle.table.specs.declared.Checked.{Checked}
-use Rattle.table.specs.declared.Checked.the-variants.{Fine, Refused as AtFault}
+use Rattle.turn.specs.declared.Checked.{Checked}
+use Rattle.turn.specs.declared.Checked.the-variants.{Fine, Refused as AtFault}
 use Rattle.table.specs.Table.{Table, contourCount, hulls, hullCount, droppedOwner}
-use Rattle.table.specs.TableChecks.{tableChecked, anchorsChecked, followedBy, bothChecked}
+use Rattle.table.specs.TableChecks.{tableChecked, anchorsChecked, bothChecked}
+use Rattle.turn.specs.Refusals.{followedBy}
 use Rattle.table.specs.Anchor.{anchorEdge}
 use Rattle.table.specs.Sound.{Sound, Anchored}
 use Rattle.table.specs.Passing.{passes-sound}

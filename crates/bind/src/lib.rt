@@ -1,6 +1,6 @@
 // Binding: checks 10 to 12, the holes in binding's order, and the owner of every contour.
 use table::Anchor;
-use table::Checked;
+use turn::Checked;
 ghost use mathlib.Core.Path.{_≡_};
 ghost use Prim.Native.Nat.{ℕ, suc, _<_, _≤_};
 ghost use lib.ListN.{length, getD, take, replicate};

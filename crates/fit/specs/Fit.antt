@@ -12,8 +12,8 @@ use Rattle.laws.specs.Test.{pick, true≢false}
 use Rattle.turn.specs.Points.{before}
 use Rattle.graph.specs.Graph.{Graph, Lent, graphOf}
 use Rattle.graph.specs.Checks.{Room, room, checked}
-use Rattle.graph.specs.declared.Checked.{Checked}
-use Rattle.graph.specs.declared.Checked.the-variants as graph
+use Rattle.turn.specs.declared.Checked.{Checked}
+use Rattle.turn.specs.declared.Checked.the-variants as graph
 use Rattle.graph.specs.Fine.{FineGraph, fine}
 use Rattle.next.specs.Next.{unvisited}
 use Rattle.walk.specs.declared.Counts.{Counts}
@@ -27,7 +27,7 @@ use Rattle.tour.specs.ThreePoints.{finished}
 use Rattle.table.specs.Table.{Table, table, firstOf, endOf, contourCount, point, isHole}
 use Rattle.table.specs.Anchor.{anchorPoint}
 use Rattle.table.specs.TableChecks.{tableChecked, anchorsChecked}
-use Rattle.table.specs.declared.Checked.the-variants as table
+use Rattle.turn.specs.declared.Checked.the-variants as table
 use Rattle.table.specs.Sound.{Anchored}
 use Rattle.table.specs.Passing.{passes-sound}
 use Rattle.table.specs.Anchoring.{passes-anchored}

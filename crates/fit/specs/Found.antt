@@ -11,9 +11,10 @@ use borrow.Author.Tests.{eq-eqb, eqb-true, eqb-false, lt-ltb}
 use Rattle.laws.specs.Test.{pick}
 use Rattle.table.specs.Table.{Table, contourCount, kindOf, hullCount, shapeOf, hulls, droppedOwner}
 use Rattle.table.specs.TableLaws.{hulls-more}
-use Rattle.table.specs.TableChecks.{tableChecked, anchorsChecked, bothChecked, followedBy}
-use Rattle.table.specs.declared.Checked.{Checked}
-use Rattle.table.specs.declared.Checked.the-variants.{Fine, Refused}
+use Rattle.table.specs.TableChecks.{tableChecked, anchorsChecked, bothChecked}
+use Rattle.turn.specs.Refusals.{first-fine}
+use Rattle.turn.specs.declared.Checked.{Checked}
+use Rattle.turn.specs.declared.Checked.the-variants.{Fine, Refused}
 use Rattle.table.specs.Sound.{Sound}
 use Rattle.table.specs.Passing.{passes-sound}
 use Rattle.table.specs.Lookups.{ownerRight, recordOf, lookedUp}
@@ -151,15 +152,11 @@ module _ (t : Table) (cw : Bool) (buffer owner : List ℕ) (shapes dropped : ℕ
       go All q h = (q, ap (λ (x : Outcome). x .owner) h)
       go (Stuck c) q h = let z = ap (λ (x : Outcome). x .answer) h in let x : _≡_ {A = ℕ} 0 1 = cc in absurd (zero-one x)
 
-  fine-first : (a b : Checked) → followedBy a b ≡ Fine → a ≡ Fine
-  fine-first Fine b e = refl
-  fine-first (Refused number place) b e = let x : _≡_ {A = ℕ} 0 1 = cc in absurd (zero-one x)
-
   -- The theorem: where binding answers Bound, a lookup finds every contour below the count, and its record has the kind and the owner that were written.
   pub every-found : outcome (binding.Bound shapes dropped) owner ≡ bound t cw buffer → (c : ℕ) → c < contourCount t → lookedUp t owner c ≡ Found (recordOf t owner c)
   every-found h c l =
       let q = by-checked (bothChecked t (length buffer) cw) refl h in
-      let ten : tableChecked t (length buffer) ≡ Fine = fine-first (tableChecked t (length buffer)) (anchorsChecked t cw) (q .0) in
+      let ten : tableChecked t (length buffer) ≡ Fine = first-fine (tableChecked t (length buffer)) (anchorsChecked t cw) (q .0) in
       let p = passes-sound t (length buffer) .to ten in
       let w = by-given (ownersOf t cw) (q .1) in
       let r : Right t (ownersOf t cw .owners) = owners-right t (p .0) cw (ownersOf t cw .owners) (ap (λ a. owned a (ownersOf t cw .owners)) (w .0)) in

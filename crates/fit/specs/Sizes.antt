@@ -16,7 +16,7 @@ use Rattle.turn.specs.Limits.{maxLinks}
 use Rattle.turn.specs.Points.{differ, Grid, OnGrid}
 use Rattle.graph.specs.Graph.{Graph, Lent, graphOf}
 use Rattle.graph.specs.Checks.{Room, checked}
-use Rattle.graph.specs.declared.Checked.the-variants.{Fine}
+use Rattle.turn.specs.declared.Checked.the-variants.{Fine}
 use Rattle.graph.specs.Fine.{FineGraph, fine}
 use Rattle.next.specs.Next.{unvisited}
 use Rattle.walk.specs.Walk.{Step, Walk, Scanned, walks, scan}

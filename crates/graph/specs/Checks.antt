@@ -10,10 +10,11 @@ use Rattle.laws.specs.Lowest.{lowest, some}
 use Rattle.turn.specs.declared.Point.{Point}
 use Rattle.turn.specs.declared.Vector.{Vector}
 use Rattle.turn.specs.Limits.{maxLinks}
-use Rattle.turn.specs.Points.{before, differ, outside, fromTo}
+use Rattle.turn.specs.Points.{before, differ, offGrid, fromTo}
 use Rattle.turn.specs.Angle.{sameDirection}
-use Rattle.graph.specs.declared.Checked.{Checked}
-use Rattle.graph.specs.declared.Checked.the-variants.{Fine, Refused}
+use Rattle.turn.specs.Refusals.{refuseIf, refuseAt}
+use Rattle.turn.specs.declared.Checked.{Checked}
+use Rattle.turn.specs.declared.Checked.the-variants.{Fine, Refused}
 use Rattle.graph.specs.Graph.{Lent, linkCount, nodeCount, pointAt, part}
 use Rattle.graph.specs.Count.{count}
 
@@ -63,9 +64,6 @@ abbrev pub fewContours : ℕ → ℕ → ℕ → ℕ → Bool
 fewContours n firsts lens kinds = not (eqb lens firsts) || not (eqb kinds firsts) || ltb firsts (n / 3)
 
 -- ---- 3, of the shared graph: "coordinate outside -524,288 to 524,288; a not strictly before b"
-abbrev pub offGrid : Point → Bool
-offGrid p = outside (p .x) || outside (p .y)
-
 abbrev pub misplaced : Point → Point → Bool
 misplaced a b = offGrid a || offGrid b || not (before a b)
 
@@ -159,14 +157,6 @@ abbrev pub alikeAt : (ℕ → Point) → (ℕ → Point) → (ℕ → ℕ) → L
 alikeAt a b aNode state entries v = someTwo (λ i j. alike a b aNode state v (getD (entries v) i 0) (getD (entries v) j 0)) (length (entries v))
 
 -- ---- the order: each check "over all the input before the next"; 1 is "n above 4,096"
-
--- a check refuses the lowest place below n at which its test passes; else the next check says
-abbrev pub refuseAt : ℕ → (ℕ → Bool) → ℕ → Checked → Checked
-refuseAt number test n next = pick (some test n) (Refused number (lowest test n)) next
-
--- a check without a place refuses at 0
-abbrev pub refuseIf : ℕ → Bool → Checked → Checked
-refuseIf number test next = pick test (Refused number 0) next
 
 unfoldable pub checkedNodes : Lent → List ℕ → Checked
 checkedNodes g state =

@@ -10,13 +10,14 @@ use Rattle.laws.specs.Lowest.{some}
 use Rattle.turn.specs.Limits.{maxLinks}
 use Rattle.turn.specs.Points.{before, OnGrid}
 use Rattle.turn.specs.Angle.{sameDirection}
-use Rattle.graph.specs.declared.Checked.the-variants.{Fine}
+use Rattle.turn.specs.declared.Checked.the-variants.{Fine}
 use Rattle.graph.specs.Graph.{Lent, linkCount, nodeCount}
 use Rattle.graph.specs.Count.{count}
 use Rattle.graph.specs.Checks.{Room, aOf, bOf, nodeAt, entriesOf, unlike, fewPoints, unlikeBand, fewContours, linkWrong, badStarts, badNodes, apartAt, alikeAt, checkedNodes, checkedLinks, checked}
 use Rattle.graph.specs.Passes.{Even, EndAt, entry, endOf, awayOf, Passes}
 use Rattle.laws.specs.Fails.{Iff, Fails, then, both, or-fails, some-fails, lt-fails, ne-fails}
-use Rattle.graph.specs.Tests.{two-fails, refuses, even, band-even, contours, placed, named, flagged, in-order, rising, no-stray, together, unlike-ways}
+use Rattle.graph.specs.Tests.{two-fails, even, band-even, contours, placed, named, flagged, in-order, rising, no-stray, together, unlike-ways}
+use Rattle.turn.specs.Refusals.{refuses}
 
 module _ (g : Lent) (top state : List ℕ) (r : Room) where
   -- what the checks say one after the other

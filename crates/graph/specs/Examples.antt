@@ -4,8 +4,8 @@ use mathlib.Core.Path.{_≡_, refl}
 use mathlib.Core.List.{List, [], _∷_}
 use lib.IntN.{ℤ, pos, negsuc}
 use Rattle.laws.specs.Lowest.{lowest}
-use Rattle.graph.specs.declared.Checked.{Checked}
-use Rattle.graph.specs.declared.Checked.the-variants.{Fine, Refused}
+use Rattle.turn.specs.declared.Checked.{Checked}
+use Rattle.turn.specs.declared.Checked.the-variants.{Fine, Refused}
 use Rattle.graph.specs.Graph.{Lent, lent}
 use Rattle.graph.specs.Count.{count}
 use Rattle.graph.specs.Checks.{Room, room, checked, checkedLinks, checkedNodes}

@@ -15,7 +15,7 @@ use Rattle.turn.specs.declared.Vector.{Vector}
 use Rattle.turn.specs.Limits.{maxLinks}
 use Rattle.turn.specs.Points.{before, OnGrid}
 use Rattle.turn.specs.Angle.{sameDirection}
-use Rattle.graph.specs.declared.Checked.the-variants.{Fine}
+use Rattle.turn.specs.declared.Checked.the-variants.{Fine}
 use Rattle.graph.specs.Graph.{Lent, Graph, graphOf, linkCount, nodeCount}
 use Rattle.graph.specs.Count.{count, Place, place-of, member, counted-in, count-two}
 use Rattle.graph.specs.Checks.{Room, endAt, away, checked}

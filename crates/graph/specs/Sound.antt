@@ -12,7 +12,7 @@ use borrow.Author.Tests.{eqb-true, eq-eqb, ne-eqb}
 use Rattle.laws.specs.Test.{pick, pick-true, pick-false, or-false, true≢false}
 use Rattle.laws.specs.Lowest.{some, none-of}
 use Rattle.turn.specs.declared.Point.{Point}
-use Rattle.graph.specs.declared.Checked.the-variants.{Fine}
+use Rattle.turn.specs.declared.Checked.the-variants.{Fine}
 use Rattle.graph.specs.Graph.{Lent, linkCount, nodeCount}
 use Rattle.graph.specs.Count.{count, counted-in, place-of, count-single, sum, sum-same, sum-add, sum-const, sum-swap, sum-once, sum-less, sum-tight, counted}
 use Rattle.graph.specs.Checks.{room, aOf, bOf, nodeAt, entriesOf, badStarts, stray, strayIn, endAt, apart, alike, checkedNodes}

@@ -14,22 +14,17 @@ use Rattle.laws.specs.Lowest.{some, None, none-of, some-no}
 use Rattle.turn.specs.declared.Point.{Point}
 use Rattle.turn.specs.Points.{before, OnGrid}
 use Rattle.turn.specs.Angle.{sameDirection}
-use Rattle.graph.specs.declared.Checked.{Checked}
-use Rattle.graph.specs.declared.Checked.the-variants.{Fine, Refused}
+use Rattle.turn.specs.declared.Checked.{Checked}
+use Rattle.turn.specs.declared.Checked.the-variants.{Fine, Refused}
 use Rattle.graph.specs.Graph.{Lent}
-use Rattle.graph.specs.Checks.{unlike, unlikeBand, fewContours, offGrid, misplaced, misnamed, misflagged, outOfOrder, badStarts, stray, someTwo, endAt, away, apart, skipped, alike}
+use Rattle.graph.specs.Checks.{unlike, unlikeBand, fewContours, misplaced, misnamed, misflagged, outOfOrder, badStarts, stray, someTwo, endAt, away, apart, skipped, alike}
 use Rattle.graph.specs.Passes.{Even, Rising, EndAt}
-use Rattle.turn.specs.PointOrder.{coord, inside}
+use Rattle.turn.specs.PointOrder.{on-grid}
 use Rattle.graph.specs.PointLaws.{same-point, not-differ}
 
 -- ---- two of n places
 pub two-fails : {test : ℕ → ℕ → Bool} {P : ℕ → ℕ → Type 0} (n : ℕ) → ((i j : ℕ) → Fails (test i j) (P i j)) → Fails (someTwo test n) ((j : ℕ) → j < n → (i : ℕ) → i < j → P i j)
 two-fails n h = some-fails n (λ j. some-fails j (λ i. h i j))
-
--- a check that refuses
-pub refuses : (b : Bool) (k p : ℕ) (next : Checked) → Iff (pick b (Refused k p) next ≡ Fine) ((b ≡ false) × (next ≡ Fine))
-refuses true k p next = record { to = λ e. let z : _≡_ {A = ℕ} 0 1 = cc in absurd (omega arith); from = λ e. absurd (true≢false refl (e .0)) }
-refuses false k p next = record { to = λ e. (refl, e); from = λ e. e .1 }
 
 -- ---- 2
 pub even : (g : Lent) → Fails (unlike g) ((Even g) × (1 ≤ length (g .start)))
@@ -54,9 +49,6 @@ pub contours : (n firsts lens kinds : ℕ) → Fails (fewContours n firsts lens 
 contours n firsts lens kinds = or-fails (or-fails (ne-fails _ _) (ne-fails _ _)) (lt-fails _ _)
 
 -- ---- 3
-pub on-grid : (p : Point) → Fails (offGrid p) (OnGrid p)
-on-grid p = or-fails (record { to = coord (p .x); from = inside (p .x) }) (record { to = coord (p .y); from = inside (p .y) })
-
 pub placed : (a b : Point) → Fails (misplaced a b) (((OnGrid a) × (OnGrid b)) × (before a b ≡ true))
 placed a b = or-fails (or-fails (on-grid a) (on-grid b)) (not-fails (before a b))
 

@@ -8,10 +8,11 @@ ghost use Rattle.turn.specs.Limits.{maxLinks};
 ghost use Rattle.turn.specs.Points.{Short, fromTo};
 ghost use Rattle.graph.specs.Graph.{lent, pointAt, part};
 ghost use Rattle.graph.specs.Count.{count};
-ghost use Rattle.graph.specs.Checks.{room, unlike, fewPoints, unlikeBand, fewContours, offGrid, misplaced, misnamed, linkWrong, misflagged, outOfOrder, short, badStarts, stray, strayIn, strayAt, notOnce, missed, badNodes, nodeAt, endAt, away, apart, apartIn, apartAt, alike, alikeAt, checkedNodes, checkedLinks, checked};
+ghost use Rattle.graph.specs.Checks.{room, unlike, fewPoints, unlikeBand, fewContours, misplaced, misnamed, linkWrong, misflagged, outOfOrder, short, badStarts, stray, strayIn, strayAt, notOnce, missed, badNodes, nodeAt, endAt, away, apart, apartIn, apartAt, alike, alikeAt, checkedNodes, checkedLinks, checked};
 ghost use Rattle.graph.specs.Quick.{standsBefore, alikeBefore, clashAt, bridgeWrong, nodeWrong};
 ghost use Rattle.graph.specs.Passes.{Even, Rising};
 ghost use Rattle.graph.specs.Known.{Points, Grids, Ids, Below, Entries};
+use turn::Checked;
 use turn::MAX_LINKS;
 use turn::Point;
 use turn::Vector;
@@ -19,21 +20,9 @@ use turn::before;
 use turn::between;
 use turn::cross_product;
 use turn::differ;
-use turn::outside;
+use turn::off_grid;
 use turn::same_direction;
-
-// What the checks say: nothing is wrong, or document 01's number and place.
-pub enum Checked {
-    Fine,
-    Refused { number: u32, place: usize },
-}
-
-// A link or node number, as an index.
-pub fn wide(x: u32) -> usize
-    ensures { λ r. ⌜ r ≡ x ⌝ }
-{
-    x as usize
-}
+use turn::wide;
 
 // The point at k of two lists of coordinates.
 pub fn point_at(xs: &[i32], ys: &[i32], k: usize) -> Point
@@ -86,14 +75,7 @@ fn few_contours(n: usize, firsts: usize, lens: usize, kinds: usize) -> bool
     (lens != firsts) | (kinds != firsts) | (firsts < n / 3)
 }
 
-// ---- Check 3, of the shared graph: whether a point is out of bounds.
-fn off_grid(p: Point) -> bool
-    ensures { λ r. ⌜ r ≡ offGrid p ⌝ }
-{
-    outside(p.x) | outside(p.y)
-}
-
-// Whether a link's points are out of bounds, or a is not strictly before b.
+// ---- Check 3, of the shared graph: whether a link's points are out of bounds, or a is not strictly before b.
 fn misplaced(a: Point, b: Point) -> bool
     ensures { λ r. ⌜ r ≡ misplaced a b ⌝ }
 {

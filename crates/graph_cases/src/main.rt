@@ -1,7 +1,7 @@
 // Document 01's square E2, whole and with one thing wrong at a time, and graphs at the limits, through checks 1 to 7: one line for each answer.
 ghost use mathlib.Core.Path.{_≡_};
 ghost use lib.ListN.{length};
-use graph::Checked;
+use turn::Checked;
 use graph::check_graph;
 
 // One answer, as a program's refusal prints it, after what was tried.

@@ -11,13 +11,14 @@ use borrow.Author.Tests.{eq-eqb, ne-eqb, lt-ltb, le-ltb}
 use Rattle.laws.specs.Test.{pick}
 use Rattle.laws.specs.Lowest.{lowest, some, None, found, some-yes, some-no}
 use Rattle.turn.specs.declared.Point.{Point}
-use Rattle.table.specs.declared.Checked.{Checked}
-use Rattle.table.specs.declared.Checked.the-variants.{Fine, Refused}
+use Rattle.turn.specs.declared.Checked.{Checked}
+use Rattle.turn.specs.declared.Checked.the-variants.{Fine, Refused}
 use Rattle.table.specs.declared.records.Role.{Role}
 use Rattle.table.specs.declared.records.Lookup.{Lookup}
 use Rattle.table.specs.declared.records.Lookup.the-variants.{Found, Missing}
 use Rattle.table.specs.Table.{Table, contourCount, pointCount, firstOf, lenOf, kindOf, isHole, hulls, holeBefore}
-use Rattle.table.specs.TableChecks.{misfit, startIn, unended, badContour, notLeast, beforeLast, badAnchor, tableChecked, anchorsChecked, isFine}
+use Rattle.table.specs.TableChecks.{misfit, startIn, unended, badContour, notLeast, beforeLast, badAnchor, tableChecked, anchorsChecked}
+use Rattle.turn.specs.Refusals.{isFine}
 use Rattle.table.specs.Anchor.{anchorAt, anchorPoint}
 use Rattle.table.specs.Lookups.{ownerRight, roleOf, recordIfRight, lookedUp}
 

@@ -7,10 +7,10 @@ use native.Mathlib.Omega.{arith}
 use native.Mathlib.Nat.{add-zero}
 use lib.IntN.{ℤ}
 use Rattle.turn.specs.declared.Point.{Point}
-use Rattle.turn.specs.Points.{differ}
+use Rattle.turn.specs.Points.{differ, offGrid}
 use Rattle.table.specs.Table.{pointAt, previousIn}
 use Rattle.table.specs.TableLaws.{previous-first, previous-inside}
-use Rattle.table.specs.TableChecks.{offGrid, pointFault}
+use Rattle.table.specs.TableChecks.{pointFault}
 
 -- the position before position from + k, at the loop's start and a turn later
 pub previous-start : (from to : ℕ) → previousIn from to (from + 0) ≡ to - 1

@@ -11,12 +11,12 @@ use Rattle.laws.specs.Test.{pick, true≢false}
 use Rattle.laws.specs.Lowest.{lowest, some}
 use Rattle.turn.specs.Points.{before}
 use Rattle.turn.specs.PointOrder.{before-irreflexive, not-before-transitive}
-use Rattle.table.specs.declared.Checked.the-variants.{Fine}
+use Rattle.turn.specs.declared.Checked.the-variants.{Fine}
 use Rattle.table.specs.Table.{Table, point, contourCount, firstOf, lenOf, isHole, holeBefore}
 use Rattle.table.specs.Anchor.{anchorPoint}
 use Rattle.table.specs.TableChecks.{outOfOrder, badAnchor, anchorsChecked}
 use Rattle.laws.specs.Fails.{Iff, Fails, then, or-fails, some-fails}
-use Rattle.table.specs.Tests.{refuses}
+use Rattle.turn.specs.Refusals.{refuses}
 use Rattle.table.specs.Sound.{Anchored}
 
 -- a test that is joined to another fails exactly where it fails wherever the other passes

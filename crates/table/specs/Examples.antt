@@ -4,7 +4,7 @@ use mathlib.Core.Bool.{true, false}
 use mathlib.Core.List.{List, [], _∷_, _++_}
 use lib.IntN.{ℤ, pos, negsuc}
 use Rattle.laws.specs.Lowest.{lowest}
-use Rattle.table.specs.declared.Checked.the-variants.{Fine, Refused}
+use Rattle.turn.specs.declared.Checked.the-variants.{Fine, Refused}
 use Rattle.table.specs.declared.records.Role.the-variants.{Hull, Hole, Dropped}
 use Rattle.table.specs.declared.records.Lookup.the-variants.{Found, Missing}
 use Rattle.table.specs.Table.{Table, table, hulls, holeBefore}

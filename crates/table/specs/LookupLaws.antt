@@ -9,13 +9,14 @@ use lib.Dec.{eqb, ltb}
 use lib.ListN.{length, getD}
 use borrow.Author.Tests.{eq-eqb, ne-eqb, eqb-true, ltb-true, lt-ltb}
 use Rattle.laws.specs.Test.{pick, true≢false}
-use Rattle.table.specs.declared.Checked.{Checked}
-use Rattle.table.specs.declared.Checked.the-variants.{Fine, Refused}
+use Rattle.turn.specs.declared.Checked.{Checked}
+use Rattle.turn.specs.declared.Checked.the-variants.{Fine, Refused}
 use Rattle.table.specs.declared.records.ContourRecord.{ContourRecord}
 use Rattle.table.specs.declared.records.Lookup.{Lookup}
 use Rattle.table.specs.declared.records.Lookup.the-variants.{Found, Missing}
 use Rattle.table.specs.Table.{Table, contourCount, kindOf, hullCount, shapeOf, droppedOwner}
-use Rattle.table.specs.TableChecks.{tableChecked, isFine}
+use Rattle.table.specs.TableChecks.{tableChecked}
+use Rattle.turn.specs.Refusals.{isFine, fine-is}
 use Rattle.table.specs.Lookups.{ownerRight, roleOf, recordOf, lookedUp, roleKind, roleOwner}
 use Rattle.laws.specs.Fails.{Iff}
 
@@ -27,10 +28,6 @@ pub record Present (t : Table) (owner : List ℕ) (c : ℕ) : Type 0 where
   pub below : c < contourCount t
   pub passes : tableChecked t (length owner) ≡ Fine
   pub owned : ownerRight (kindOf t c) (getD owner c 0) (shapeOf t c) (hullCount t) ≡ true
-
-fine-is : (k : Checked) → isFine k ≡ true → k ≡ Fine
-fine-is Fine e = refl
-fine-is (Refused number place) e = absurd (true≢false e refl)
 
 -- by the three tests
 abbrev ways : Bool → Bool → Bool → ContourRecord → Lookup

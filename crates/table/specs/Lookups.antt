@@ -11,7 +11,8 @@ use Rattle.table.specs.declared.records.ContourRecord.{ContourRecord}
 use Rattle.table.specs.declared.records.Lookup.{Lookup}
 use Rattle.table.specs.declared.records.Lookup.the-variants.{Found, Missing}
 use Rattle.table.specs.Table.{Table, contourCount, firstOf, lenOf, kindOf, hullCount, shapeOf, droppedOwner}
-use Rattle.table.specs.TableChecks.{tableChecked, isFine}
+use Rattle.table.specs.TableChecks.{tableChecked}
+use Rattle.turn.specs.Refusals.{isFine}
 
 -- "the owner is not right: for a hull its own number, for a hole one below the hull count, or 65,535 with no hulls"
 abbrev pub ownerRight : (kind owner shape hulls : ℕ) → Bool

@@ -9,9 +9,10 @@ use Rattle.laws.specs.Test.{pick}
 use Rattle.laws.specs.Lowest.{lowest, some}
 use Rattle.turn.specs.Limits.{maxLinks}
 use Rattle.turn.specs.declared.Point.{Point}
-use Rattle.turn.specs.Points.{before, differ, outside}
-use Rattle.table.specs.declared.Checked.{Checked}
-use Rattle.table.specs.declared.Checked.the-variants.{Fine, Refused}
+use Rattle.turn.specs.Points.{before, differ, offGrid}
+use Rattle.turn.specs.Refusals.{refuseIf, refuseAt, followedBy}
+use Rattle.turn.specs.declared.Checked.{Checked}
+use Rattle.turn.specs.declared.Checked.the-variants.{Fine, Refused}
 use Rattle.table.specs.Table.{Table, pointAt, pointCount, point, contourCount, firstOf, lenOf, kindOf, isHole, previousIn, holeBefore}
 use Rattle.table.specs.Anchor.{anchorAt, anchorPoint}
 
@@ -36,11 +37,7 @@ abbrev pub rangeFault : (count start first len kind : ℕ) → Bool
 rangeFault count start first len kind =
     not (eqb first start) || ltb count (first + len) || ltb len 3 || ltb 1 kind
 
--- "coordinate out of range"
-abbrev pub offGrid : Point → Bool
-offGrid p = outside (p .x) || outside (p .y)
-
--- of the contour that stands from a position up to another, the point at p is off the grid or, "round it", equal to the one before it
+-- "coordinate out of range": of the contour that stands from a position up to another, the point at p is off the grid or, "round it", equal to the one before it
 abbrev pub pointFault : List ℤ → ℕ → ℕ → ℕ → Bool
 pointFault points from to p = offGrid (pointAt points p) || not (differ (pointAt points (previousIn from to p)) (pointAt points p))
 
@@ -70,12 +67,6 @@ abbrev pub badAnchor : Table → Bool → ℕ → Bool
 badAnchor t cw c = isHole t c && (notLeast (t .points) (firstOf t c) (lenOf t c) (anchorPoint t cw c) || outOfOrder t cw c)
 
 -- ---- the checks, in their order
-abbrev pub refuseIf : ℕ → Bool → Checked → Checked
-refuseIf number test rest = pick test (Refused number 0) rest
-
-abbrev pub refuseAt : ℕ → (ℕ → Bool) → ℕ → Checked → Checked
-refuseAt number test n rest = pick (some test n) (Refused number (lowest test n)) rest
-
 -- check 10, of a table and the length of the owner buffer
 unfoldable pub tableChecked : Table → ℕ → Checked
 tableChecked t owners =
@@ -87,23 +78,6 @@ tableChecked t owners =
 unfoldable pub anchorsChecked : Table → Bool → Checked
 anchorsChecked t cw = refuseAt 11 (badAnchor t cw) (contourCount t) Fine
 
-abbrev pub followedBy : Checked → Checked → Checked
-followedBy Fine rest = rest
-followedBy (Refused number place) rest = Refused number place
-
 -- both
 abbrev pub bothChecked : Table → ℕ → Bool → Checked
 bothChecked t owners cw = followedBy (tableChecked t owners) (anchorsChecked t cw)
-
--- ---- document 01's number and place for each answer: 0 is done
-abbrev pub numberOf : Checked → ℕ
-numberOf Fine = 0
-numberOf (Refused number place) = number
-
-abbrev pub placeOf : Checked → ℕ
-placeOf Fine = 0
-placeOf (Refused number place) = place
-
-abbrev pub isFine : Checked → Bool
-isFine Fine = true
-isFine (Refused number place) = false

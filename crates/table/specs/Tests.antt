@@ -10,21 +10,12 @@ use Rattle.laws.specs.Test.{pick, true≢false}
 use Rattle.laws.specs.Fails.{Iff, Fails, then, lt-fails, ne-fails, not-fails, or-fails, some-fails}
 use Rattle.turn.specs.declared.Point.{Point}
 use Rattle.turn.specs.Limits.{maxLinks}
-use Rattle.turn.specs.PointOrder.{coord, inside}
+use Rattle.turn.specs.PointOrder.{on-grid}
 use Rattle.turn.specs.Points.{differ, OnGrid}
-use Rattle.table.specs.declared.Checked.{Checked}
-use Rattle.table.specs.declared.Checked.the-variants.{Fine, Refused}
+use Rattle.turn.specs.declared.Checked.{Checked}
+use Rattle.turn.specs.declared.Checked.the-variants.{Fine, Refused}
 use Rattle.table.specs.Table.{pointAt, previousIn}
-use Rattle.table.specs.TableChecks.{misfit, rangeFault, offGrid, pointFault, somePointFault, contourFault}
-
--- a check that refuses where a test passes, and else goes on
-pub refuses : (b : Bool) (k p : ℕ) (rest : Checked) → Iff (pick b (Refused k p) rest ≡ Fine) ((b ≡ false) × (rest ≡ Fine))
-refuses true k p rest = record { to = λ e. let z : _≡_ {A = ℕ} 0 1 = cc in absurd (omega arith); from = λ e. absurd (true≢false refl (e .0)) }
-refuses false k p rest = record { to = λ e. (refl, e); from = λ e. e .1 }
-
--- ---- the bounds
-pub on-grid : (p : Point) → Fails (offGrid p) (OnGrid p)
-on-grid p = or-fails (record { to = coord (p .x); from = inside (p .x) }) (record { to = coord (p .y); from = inside (p .y) })
+use Rattle.table.specs.TableChecks.{misfit, rangeFault, pointFault, somePointFault, contourFault}
 
 -- ---- the parts of check 10
 pub fitting : (points first len kind owners : ℕ) → Fails (misfit points first len kind owners) (((((len ≡ first) × (kind ≡ first)) × (first ≤ owners)) × (points / 2 ≤ maxLinks)) × (points % 2 ≡ 0))

@@ -2,7 +2,10 @@
 use records::ContourRecord;
 use records::Lookup;
 use records::Role;
+use turn::Checked;
 use turn::Point;
+use turn::off_grid;
+use turn::wide;
 ghost use mathlib.Core.Path.{_≡_};
 ghost use Prim.Native.Nat.{ℕ, _+_, _*_, _^_, _<_, _≤_};
 ghost use lib.Dec.{eqb};
@@ -12,7 +15,7 @@ ghost use Rattle.laws.specs.Test.{pick};
 ghost use Rattle.laws.specs.Lowest.{lowest};
 ghost use Rattle.turn.specs.Points.{Grid, OnGrid};
 ghost use Rattle.table.specs.Table.{table, pointAt, previousIn, hulls, holeBefore};
-ghost use Rattle.table.specs.TableChecks.{misfit, startIn, rangeFault, offGrid, somePointFault, contourFault, badContour, notLeast, beforeLast, badAnchor, tableChecked, anchorsChecked};
+ghost use Rattle.table.specs.TableChecks.{misfit, startIn, rangeFault, somePointFault, contourFault, badContour, notLeast, beforeLast, badAnchor, tableChecked, anchorsChecked};
 ghost use Rattle.table.specs.Anchor.{anchorIn, anchorAt, lowerEnd, anchorEdgeIn};
 ghost use Rattle.table.specs.Lookups.{ownerRight, roleOf, recordIfRight, lookedUp};
 ghost use Rattle.table.specs.Sound.{Sound, Paired};
@@ -21,12 +24,6 @@ pub mod records;
 
 // The owner of a hole where there is no hull.
 pub const DROPPED: u16 = 65535;
-
-// What a check says of a table.
-pub enum Checked {
-    Fine,
-    Refused { number: u32, place: usize },
-}
 
 // A hole's anchor and the other end of its anchor edge.
 pub struct Anchor {
@@ -81,13 +78,6 @@ fn range_fault(count: usize, start: usize, first: u32, len: u32, kind: u8) -> bo
     ensures { λ r. ⌜ r ≡ rangeFault count start first len kind ⌝ }
 {
     (first as usize != start) | (count < first as usize + len as usize) | (len < 3) | (1 < kind)
-}
-
-// Whether a coordinate of a point is out of range.
-fn off_grid(p: Point) -> bool
-    ensures { λ r. ⌜ r ≡ offGrid p ⌝ }
-{
-    turn::outside(p.x) | turn::outside(p.y)
 }
 
 // Whether a contour has a point off the grid or, round it, equal neighbours.
@@ -199,12 +189,6 @@ fn not_least(points: &[i32], from: usize, len: usize, anchor: Point) -> bool
         k += 1;
     }
     false
-}
-
-fn wide(x: u32) -> usize
-    ensures { λ r. ⌜ r ≡ x ⌝ }
-{
-    x as usize
 }
 
 // Whether the anchor is before that of the last hole, whose number and 1 is given; 0 is none.

@@ -1,5 +1,5 @@
 // One line for each case.
-use table::Checked;
+use turn::Checked;
 use table::records::Lookup;
 use table::records::Role;
 

@@ -5,7 +5,7 @@ use mathlib.Core.Bool.{Bool}
 use mathlib.Core.List.{List}
 use lib.ListN.{length}
 use lib.IntN.{_+ℤ_}
-use Rattle.graph.specs.declared.Checked.the-variants as check
+use Rattle.turn.specs.declared.Checked.the-variants as check
 use Rattle.graph.specs.Graph.{Lent, Graph, graphOf}
 use Rattle.graph.specs.Checks.{Room, room, checked}
 use Rattle.next.specs.Next.{unvisited}

@@ -9,7 +9,7 @@ use mathlib.Core.List.{List, [], _∷_, List·Memᴰ·head, List·Memᴰ·tail, 
 use borrow.Author.Tests.{not-false}
 use Rattle.laws.specs.Test.{and-true, true-and, not-is}
 use Rattle.laws.specs.Lowest.{some, none-of, some-no}
-use Rattle.graph.specs.declared.Checked.the-variants.{Fine}
+use Rattle.turn.specs.declared.Checked.the-variants.{Fine}
 use Rattle.graph.specs.Graph.{Lent, Graph, graphOf, nodeCount}
 use Rattle.graph.specs.Checks.{Room, checked}
 use Rattle.laws.specs.Fails.{Iff}

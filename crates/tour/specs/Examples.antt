@@ -7,7 +7,7 @@ use lib.Dec.{eqb}
 use lib.IntN.{ℤ, pos, negℤ}
 use Rattle.laws.specs.Test.{true≢false}
 use Rattle.laws.specs.Lowest.{lowest, some}
-use Rattle.graph.specs.declared.Checked.the-variants.{Fine}
+use Rattle.turn.specs.declared.Checked.the-variants.{Fine}
 use Rattle.graph.specs.Graph.{Lent, lent, Graph, graphOf}
 use Rattle.graph.specs.Count.{count}
 use Rattle.graph.specs.Checks.{room, checkedNodes, checkedLinks, checked}

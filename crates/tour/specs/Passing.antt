@@ -12,7 +12,7 @@ use Rattle.turn.specs.declared.Point.{Point}
 use Rattle.turn.specs.Points.{fromTo}
 use Rattle.turn.specs.Angle.{nonzero, sameDirection}
 use Rattle.turn.specs.PointOrder.{before-differ, differ-sym, nonzero-between}
-use Rattle.graph.specs.declared.Checked.the-variants.{Fine}
+use Rattle.turn.specs.declared.Checked.the-variants.{Fine}
 use Rattle.graph.specs.Graph.{Lent, Graph, graphOf}
 use Rattle.graph.specs.Checks.{Room, checked}
 use Rattle.graph.specs.Fine.{FineGraph, wayFrom, fine}

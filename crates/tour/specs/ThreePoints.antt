@@ -13,7 +13,7 @@ use Rattle.turn.specs.Points.{fromTo}
 use Rattle.turn.specs.Directions.{same-refl}
 use Rattle.turn.specs.Angle.{sameDirection}
 use Rattle.turn.specs.Size.{half}
-use Rattle.graph.specs.declared.Checked.the-variants.{Fine}
+use Rattle.turn.specs.declared.Checked.the-variants.{Fine}
 use Rattle.graph.specs.Graph.{Lent, Graph, graphOf}
 use Rattle.graph.specs.Checks.{Room, checked}
 use Rattle.next.specs.declared.Next.{Next}

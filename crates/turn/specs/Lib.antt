@@ -9,4 +9,5 @@ pub mod Directions
 pub mod Angular
 pub mod First
 pub mod PointOrder
+pub mod Refusals
 pub mod Areas

@@ -7,11 +7,12 @@ use lib.IntN.{ℤ, pos, negsuc, _-ℤ_}
 use lib.Signed.{ltZ}
 use borrow.Author.Tests.{ltb-false, le-ltb}
 use Rattle.laws.specs.Test.{Is, yes!, true-is, true≢false, not-true, not-is, or-false, false-or, or-true, and-true}
+use Rattle.laws.specs.Fails.{Fails, or-fails}
 use Rattle.laws.specs.Int.{same, sub-zero-eq}
 use Rattle.laws.specs.Sign.{zer, sgn, eqS, eqS-eq, sgn-zer}
 use Rattle.laws.specs.Order.{ltZ-true, ltZ-false, true-ltZ, false-ltZ}
 use Rattle.turn.specs.declared.Point.{Point}
-use Rattle.turn.specs.Points.{before, differ, outside, Coord, fromTo}
+use Rattle.turn.specs.Points.{before, differ, outside, offGrid, Coord, OnGrid, fromTo}
 use Rattle.turn.specs.Angle.{nonzero}
 
 -- ---- the two ways to be before
@@ -121,3 +122,7 @@ coord (negsuc n) e = let h = ltb-false 524287 n (or-false _ _ e .0) in omega ari
 pub inside : (z : ℤ) → Coord z → outside z ≡ false
 inside (pos n) h = le-ltb 524288 n h
 inside (negsuc n) h = false-or _ _ (le-ltb 524287 n (omega arith)) refl
+
+-- a point is out of bounds exactly where it is not on the grid
+pub on-grid : (p : Point) → Fails (offGrid p) (OnGrid p)
+on-grid p = or-fails (record { to = coord (p .x); from = inside (p .x) }) (record { to = coord (p .y); from = inside (p .y) })

@@ -21,6 +21,10 @@ differ p q = before p q || before q p
 abbrev pub outside : ℤ → Bool
 outside z = ltZ z (negℤ (pos maxCoordinate)) || ltZ (pos maxCoordinate) z
 
+-- a point with such a coordinate
+abbrev pub offGrid : Point → Bool
+offGrid p = outside (p .x) || outside (p .y)
+
 -- a coordinate, a point, within the bounds
 abbrev pub Coord : ℤ → Type 0
 Coord z = natAbs z ≤ maxCoordinate

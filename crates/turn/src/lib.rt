@@ -1,11 +1,11 @@
-// Points, turns, the angular order, areas and the size test, all exact.
+// What every layer above reads: points, turns, the angular order, areas and the size test, all exact; the limits; what a check answers.
 ghost use mathlib.Core.Path.{_≡_};
 ghost use Prim.Native.Nat.{_+_, _*_, _<_, _≤_, _/_};
 ghost use lib.IntN.{pos, natAbs, _-ℤ_};
 ghost use lib.ListN.{length};
 ghost use Rattle.laws.specs.Sign.{sgn, is-mns};
 ghost use Rattle.turn.specs.Limits.{maxLinks, maxCoordinate};
-ghost use Rattle.turn.specs.Points.{before, differ, outside, Coord, OnGrid, Short, fromTo, cross, dot, turn, clockwise, productBound, span, Grid};
+ghost use Rattle.turn.specs.Points.{before, differ, outside, offGrid, Coord, OnGrid, Short, fromTo, cross, dot, turn, clockwise, productBound, span, Grid};
 ghost use Rattle.turn.specs.Angle.{halfOf, sameDirection, turned};
 ghost use Rattle.turn.specs.Area.{wedge, area, pointsOf, wedgeBound};
 ghost use Rattle.turn.specs.Size.{half, isKept};
@@ -16,6 +16,12 @@ pub const MAX_LINKS: usize = 4096;
 
 // Coordinates lie from -MAX_COORDINATE to MAX_COORDINATE.
 pub const MAX_COORDINATE: i32 = 524288;
+
+// What a check says: nothing is wrong, or document 01's number and place.
+pub enum Checked {
+    Fine,
+    Refused { number: u32, place: usize },
+}
 
 pub struct Point {
     pub x: i32,
@@ -47,6 +53,20 @@ pub fn outside(z: i32) -> bool
     ensures { λ r. ⌜ r ≡ outside z ⌝ }
 {
     (z < -MAX_COORDINATE) | (MAX_COORDINATE < z)
+}
+
+// Whether a point is out of bounds.
+pub fn off_grid(p: Point) -> bool
+    ensures { λ r. ⌜ r ≡ offGrid p ⌝ }
+{
+    outside(p.x) | outside(p.y)
+}
+
+// A 32-bit number as an index.
+pub fn wide(x: u32) -> usize
+    ensures { λ r. ⌜ r ≡ x ⌝ }
+{
+    x as usize
 }
 
 // The difference of two coordinates.

@@ -8,8 +8,8 @@ use lib.ListN.{length, getD, replicate}
 use lib.IntN.{ℤ, pos}
 use Rattle.laws.specs.Lists.{mapFrom, map-same, map-const}
 use Rattle.graph.specs.Graph.{Graph, Lent, graphOf, linkCount}
-use Rattle.graph.specs.declared.Checked.{Checked}
-use Rattle.graph.specs.declared.Checked.the-variants as check
+use Rattle.turn.specs.declared.Checked.{Checked}
+use Rattle.turn.specs.declared.Checked.the-variants as check
 use Rattle.graph.specs.Checks.{room, checked}
 use Rattle.graph.specs.Fine.{FineGraph}
 use Rattle.next.specs.Fine.{links-known, nodes-known}

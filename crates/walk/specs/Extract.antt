@@ -5,8 +5,8 @@ use mathlib.Core.List.{List, _++_}
 use lib.ListN.{length, replicate}
 use lib.IntN.{ℤ, pos}
 use Rattle.graph.specs.Graph.{Graph, Lent, graphOf}
-use Rattle.graph.specs.declared.Checked.{Checked}
-use Rattle.graph.specs.declared.Checked.the-variants as check
+use Rattle.turn.specs.declared.Checked.{Checked}
+use Rattle.turn.specs.declared.Checked.the-variants as check
 use Rattle.graph.specs.Checks.{checked, room}
 use Rattle.walk.specs.declared.Extraction.{Extraction}
 use Rattle.walk.specs.declared.Extraction.the-variants.{Done, Refused}

@@ -13,8 +13,8 @@ use lib.IntN.{pos, _+ℤ_, +ℤ-assoc, +ℤ-idl}
 use borrow.Author.Tests.{eqb-true, eq-eqb}
 use Rattle.laws.specs.Test.{pick, true≢false}
 use Rattle.laws.specs.Int.{+ℤ-left}
-use Rattle.graph.specs.declared.Checked.{Checked}
-use Rattle.graph.specs.declared.Checked.the-variants as check
+use Rattle.turn.specs.declared.Checked.{Checked}
+use Rattle.turn.specs.declared.Checked.the-variants as check
 use Rattle.graph.specs.Graph.{Graph, Lent, graphOf}
 use Rattle.graph.specs.Checks.{checked, room}
 use Rattle.next.specs.Next.{isOpen, unvisited}
