@@ -13,7 +13,6 @@ use Rattle.turn.specs.Points.{before}
 use Rattle.graph.specs.Graph.{Graph, Lent, graphOf}
 use Rattle.graph.specs.Checks.{Room, room, checked}
 use Rattle.turn.specs.declared.Checked.{Checked}
-use Rattle.turn.specs.declared.Checked.the-variants as graph
 use Rattle.graph.specs.Fine.{FineGraph, fine}
 use Rattle.next.specs.Next.{unvisited}
 use Rattle.walk.specs.declared.Counts.{Counts}
@@ -27,7 +26,7 @@ use Rattle.tour.specs.ThreePoints.{finished}
 use Rattle.table.specs.Table.{Table, table, firstOf, endOf, contourCount, point, isHole}
 use Rattle.table.specs.Anchor.{anchorPoint}
 use Rattle.table.specs.TableChecks.{tableChecked, anchorsChecked}
-use Rattle.turn.specs.declared.Checked.the-variants as table
+use Rattle.turn.specs.declared.Checked.the-variants as check
 use Rattle.table.specs.Sound.{Anchored}
 use Rattle.table.specs.Passing.{passes-sound}
 use Rattle.table.specs.Anchoring.{passes-anchored}
@@ -36,7 +35,7 @@ use Rattle.fit.specs.Sizes.{table-sound, at-walks, three, links-in}
 use Rattle.fit.specs.Anchors.{AllBegin, Led, scan-begins}
 use Rattle.fit.specs.Leads.{lead, Leads, all-lead, all-ordered, kept-ordered, ordered-at, anchor-lead}
 
-module _ (g : Lent) (top st : List ℕ) (r : Room) (e : checked g top st r ≡ graph.Fine) (cw : Bool) (minimum : ℕ) (ws : List Walk) (after : List ℕ) (s : scan (graphOf g top) cw st ≡ walks ws after) where
+module _ (g : Lent) (top st : List ℕ) (r : Room) (e : checked g top st r ≡ check.Fine) (cw : Bool) (minimum : ℕ) (ws : List Walk) (after : List ℕ) (s : scan (graphOf g top) cw st ≡ walks ws after) where
   abbrev G : Graph
   G = graphOf g top
 
@@ -50,7 +49,7 @@ module _ (g : Lent) (top st : List ℕ) (r : Room) (e : checked g top st r ≡ g
   many = firsts-length 0 (lens ks) ∙ lens-length ks
 
   -- check 10
-  pub passes-10 : (owners : ℕ) → length ks ≤ owners → tableChecked t owners ≡ table.Fine
+  pub passes-10 : (owners : ℕ) → length ks ≤ owners → tableChecked t owners ≡ check.Fine
   passes-10 owners h = passes-sound t owners .from (table-sound g top st r e cw minimum ws after s, rw many h)
 
   -- ---- check 11
@@ -104,7 +103,7 @@ module _ (g : Lent) (top st : List ℕ) (r : Room) (e : checked g top st r ≡ g
       each (q ∷ l) a zero h = a q (List·Memᴰ·head refl)
       each (q ∷ l) a (suc i) h = each l (λ x m. a x (List·Memᴰ·tail m)) i (omega arith)
 
-  pub passes-11 : anchorsChecked t cw ≡ table.Fine
+  pub passes-11 : anchorsChecked t cw ≡ check.Fine
   passes-11 = passes-anchored t cw .from (record {
     least = least;
     order = λ c d h k hc hd.
@@ -125,7 +124,7 @@ module _ (g : Lent) (top : List ℕ) (cw : Bool) (minimum : ℕ) (b b′ : Buffe
 
   -- the run behind a success: the checks passed, and these walks were done
   pub record Ran : Type 0 where
-    pub fine-graph : checked g top (b .state) rooms ≡ graph.Fine
+    pub fine-graph : checked g top (b .state) rooms ≡ check.Fine
     pub all : List Walk
     pub states : List ℕ
     pub scanned-as : scan H cw (b .state) ≡ walks all states
@@ -136,7 +135,7 @@ module _ (g : Lent) (top : List ℕ) (cw : Bool) (minimum : ℕ) (b b′ : Buffe
   zero-one : _≡_ {A = ℕ} 0 1 → ⊥
   zero-one x = omega arith
 
-  by-scan : (o : Scanned) → scan H cw (b .state) ≡ o → checked g top (b .state) rooms ≡ graph.Fine → extractedAs (Done c) b′ ≡ afterScan H minimum b o → Ran
+  by-scan : (o : Scanned) → scan H cw (b .state) ≡ o → checked g top (b .state) rooms ≡ check.Fine → extractedAs (Done c) b′ ≡ afterScan H minimum b o → Ran
   by-scan (stopped number place) q k h = let z = ap (λ (x : Extracted). x .answer) h in let x : _≡_ {A = ℕ} 0 1 = cc in absurd (zero-one x)
   by-scan (walks ws after) q k h =
       let ks : List Walk = kept H minimum ws in
@@ -152,8 +151,8 @@ module _ (g : Lent) (top : List ℕ) (cw : Bool) (minimum : ℕ) (b b′ : Buffe
       record { fine-graph = k; all = ws; states = after; scanned-as = q; table-is = λ i. table (p i) (x i) (y i) (v i); contours-are = n; counts-are = d }
 
   by-checks : (o : Checked) → checked g top (b .state) rooms ≡ o → extractedAs (Done c) b′ ≡ afterChecks H cw minimum b o → Ran
-  by-checks (graph.Refused number place) q h = let z = ap (λ (x : Extracted). x .answer) h in let x : _≡_ {A = ℕ} 0 1 = cc in absurd (zero-one x)
-  by-checks graph.Fine q h = by-scan (scan H cw (b .state)) refl q h
+  by-checks (check.Refused number place) q h = let z = ap (λ (x : Extracted). x .answer) h in let x : _≡_ {A = ℕ} 0 1 = cc in absurd (zero-one x)
+  by-checks check.Fine q h = by-scan (scan H cw (b .state)) refl q h
 
   pub ran : extractedAs (Done c) b′ ≡ extracted g top cw minimum b → Ran
   unfolding extracted
@@ -161,9 +160,9 @@ module _ (g : Lent) (top : List ℕ) (cw : Bool) (minimum : ℕ) (b b′ : Buffe
 
   -- The theorem: what `extract` writes passes checks 10 and 11, with room for an owner for each contour.
   pub extraction-passes : (owners : ℕ) → c .contours ≤ owners → extractedAs (Done c) b′ ≡ extracted g top cw minimum b
-      → (tableChecked (writtenTable c b′) owners ≡ table.Fine) × (anchorsChecked (writtenTable c b′) cw ≡ table.Fine)
+      → (tableChecked (writtenTable c b′) owners ≡ check.Fine) × (anchorsChecked (writtenTable c b′) cw ≡ check.Fine)
   extraction-passes owners l h =
       let q = ran h in (
-        subst (λ t. tableChecked t owners ≡ table.Fine) (sym (q .table-is)) (passes-10 g top (b .state) rooms (q .fine-graph) cw minimum (q .all) (q .states) (q .scanned-as) owners (subst (λ k. k ≤ owners) (q .contours-are) l)),
-        subst (λ t. anchorsChecked t cw ≡ table.Fine) (sym (q .table-is)) (passes-11 g top (b .state) rooms (q .fine-graph) cw minimum (q .all) (q .states) (q .scanned-as)),
+        subst (λ t. tableChecked t owners ≡ check.Fine) (sym (q .table-is)) (passes-10 g top (b .state) rooms (q .fine-graph) cw minimum (q .all) (q .states) (q .scanned-as) owners (subst (λ k. k ≤ owners) (q .contours-are) l)),
+        subst (λ t. anchorsChecked t cw ≡ check.Fine) (sym (q .table-is)) (passes-11 g top (b .state) rooms (q .fine-graph) cw minimum (q .all) (q .states) (q .scanned-as)),
       )

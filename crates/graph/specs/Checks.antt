@@ -6,15 +6,15 @@ use mathlib.Core.List.{List}
 use lib.Dec.{ltb, leb, eqb}
 use lib.ListN.{length, getD}
 use Rattle.laws.specs.Test.{pick}
-use Rattle.laws.specs.Lowest.{lowest, some}
+use Rattle.laws.specs.Lowest.{some}
 use Rattle.turn.specs.declared.Point.{Point}
 use Rattle.turn.specs.declared.Vector.{Vector}
 use Rattle.turn.specs.Limits.{maxLinks}
 use Rattle.turn.specs.Points.{before, differ, offGrid, fromTo}
 use Rattle.turn.specs.Angle.{sameDirection}
-use Rattle.turn.specs.Refusals.{refuseIf, refuseAt}
+use Rattle.turn.specs.Refusals.{refuseIf, refuseAt, followedBy}
 use Rattle.turn.specs.declared.Checked.{Checked}
-use Rattle.turn.specs.declared.Checked.the-variants.{Fine, Refused}
+use Rattle.turn.specs.declared.Checked.the-variants.{Fine}
 use Rattle.graph.specs.Graph.{Lent, linkCount, nodeCount, pointAt, part}
 use Rattle.graph.specs.Count.{count}
 
@@ -156,23 +156,30 @@ alike a b aNode state v e f = not (skipped state e) && not (skipped state f) && 
 abbrev pub alikeAt : (ℕ → Point) → (ℕ → Point) → (ℕ → ℕ) → List ℕ → (ℕ → List ℕ) → ℕ → Bool
 alikeAt a b aNode state entries v = someTwo (λ i j. alike a b aNode state v (getD (entries v) i 0) (getD (entries v) j 0)) (length (entries v))
 
--- ---- the order: each check "over all the input before the next"; 1 is "n above 4,096"
+-- ---- the order: each check "over all the input before the next"
 
-unfoldable pub checkedNodes : Lent → List ℕ → Checked
-checkedNodes g state =
+-- 3 and 4, of each link
+unfoldable pub eachChecked : Lent → List ℕ → List ℕ → Checked
+eachChecked g top state =
+    refuseAt 3 (linkWrong g top state) (linkCount g)
+    (refuseAt 4 (outOfOrder (aOf g)) (linkCount g)
+    Fine)
+
+-- 1 to 4, of all that is said of the links; 1 is "n above 4,096"
+unfoldable pub linksChecked : Lent → List ℕ → List ℕ → Room → Checked
+linksChecked g top state r =
+    refuseIf 1 (ltb maxLinks (linkCount g))
+    (refuseIf 2
+    (unlike g || fewPoints (linkCount g) (r .points) || unlikeBand (linkCount g) top state || fewContours (linkCount g) (r .firsts) (r .lens) (r .kinds))
+    (eachChecked g top state))
+
+-- 5 to 7, of the nodes
+unfoldable pub nodesChecked : Lent → List ℕ → Checked
+nodesChecked g state =
     refuseIf 5 (badNodes (g .aId) (g .bId) (g .start) (g .list))
     (refuseAt 6 (apartAt (aOf g) (bOf g) (nodeAt (g .aId)) (entriesOf g)) (nodeCount g)
     (refuseAt 7 (alikeAt (aOf g) (bOf g) (nodeAt (g .aId)) state (entriesOf g)) (nodeCount g)
     Fine))
 
-unfoldable pub checkedLinks : Lent → List ℕ → List ℕ → Checked
-checkedLinks g top state =
-    refuseAt 3 (linkWrong g top state) (linkCount g)
-    (refuseAt 4 (outOfOrder (aOf g)) (linkCount g)
-    (checkedNodes g state))
-
 unfoldable pub checked : Lent → List ℕ → List ℕ → Room → Checked
-checked g top state r =
-    refuseIf 1 (ltb maxLinks (linkCount g))
-    (refuseIf 2 (unlike g || fewPoints (linkCount g) (r .points) || unlikeBand (linkCount g) top state || fewContours (linkCount g) (r .firsts) (r .lens) (r .kinds))
-    (checkedLinks g top state))
+checked g top state r = followedBy (linksChecked g top state r) (nodesChecked g state)

@@ -13,11 +13,11 @@ use Rattle.turn.specs.Angle.{sameDirection}
 use Rattle.turn.specs.declared.Checked.the-variants.{Fine}
 use Rattle.graph.specs.Graph.{Lent, linkCount, nodeCount}
 use Rattle.graph.specs.Count.{count}
-use Rattle.graph.specs.Checks.{Room, aOf, bOf, nodeAt, entriesOf, unlike, fewPoints, unlikeBand, fewContours, linkWrong, badStarts, badNodes, apartAt, alikeAt, checkedNodes, checkedLinks, checked}
+use Rattle.graph.specs.Checks.{Room, aOf, bOf, nodeAt, entriesOf, unlike, fewPoints, unlikeBand, fewContours, linkWrong, badStarts, badNodes, apartAt, alikeAt, nodesChecked, eachChecked, linksChecked, checked}
 use Rattle.graph.specs.Passes.{Even, EndAt, entry, endOf, awayOf, Passes}
 use Rattle.laws.specs.Fails.{Iff, Fails, then, both, or-fails, some-fails, lt-fails, ne-fails}
 use Rattle.graph.specs.Tests.{two-fails, even, band-even, contours, placed, named, flagged, in-order, rising, no-stray, together, unlike-ways}
-use Rattle.turn.specs.Refusals.{refuses}
+use Rattle.turn.specs.Refusals.{refuses, both-fine}
 
 module _ (g : Lent) (top state : List ℕ) (r : Room) where
   -- what the checks say one after the other
@@ -65,20 +65,29 @@ module _ (g : Lent) (top state : List ℕ) (r : Room) where
   nothing : {P : Type 0} → Iff (P × (Fine ≡ Fine)) P
   nothing = record { to = λ p. p .0; from = λ p. (p, refl) }
 
-  pub by-nodes : Iff (checkedNodes g state ≡ Fine) (Lists × (Points × Ways))
-  unfolding checkedNodes
+  pub by-nodes : Iff (nodesChecked g state ≡ Fine) (Lists × (Points × Ways))
+  unfolding nodesChecked
   by-nodes = then (refuses _ _ _ _) (both lists (then (refuses _ _ _ _) (both points (then (refuses _ _ _ _) (then nothing ways)))))
 
-  by-links : Iff (checkedLinks g top state ≡ Fine) (((k : ℕ) → k < linkCount g → Link k) × (((k : ℕ) → k + 1 < linkCount g → before (aOf g (k + 1)) (aOf g k) ≡ false) × (Lists × (Points × Ways))))
-  unfolding checkedLinks
-  by-links = then (refuses _ _ _ _) (both links (then (refuses _ _ _ _) (both (in-order (aOf g) (linkCount g)) by-nodes)))
+  by-each : Iff (eachChecked g top state ≡ Fine) (((k : ℕ) → k < linkCount g → Link k) × ((k : ℕ) → k + 1 < linkCount g → before (aOf g (k + 1)) (aOf g k) ≡ false))
+  unfolding eachChecked
+  by-each = then (refuses _ _ _ _) (both links (then (refuses _ _ _ _) (then nothing (in-order (aOf g) (linkCount g)))))
+
+  abbrev LinksFine : Type 0
+  LinksFine = (linkCount g ≤ maxLinks)
+      × (Shape × (((k : ℕ) → k < linkCount g → Link k) × ((k : ℕ) → k + 1 < linkCount g → before (aOf g (k + 1)) (aOf g k) ≡ false)))
+
+  pub by-links : Iff (linksChecked g top state r ≡ Fine) LinksFine
+  unfolding linksChecked
+  by-links =
+      then (refuses _ _ _ _) (both (lt-fails maxLinks (linkCount g)) (then (refuses _ _ _ _) (both shape by-each)))
 
   abbrev All : Type 0
-  All = (linkCount g ≤ maxLinks) × (Shape × (((k : ℕ) → k < linkCount g → Link k) × (((k : ℕ) → k + 1 < linkCount g → before (aOf g (k + 1)) (aOf g k) ≡ false) × (Lists × (Points × Ways)))))
+  All = LinksFine × (Lists × (Points × Ways))
 
   all : Iff (checked g top state r ≡ Fine) All
   unfolding checked
-  all = then (refuses _ _ _ _) (both (lt-fails maxLinks (linkCount g)) (then (refuses _ _ _ _) (both shape by-links)))
+  all = then (both-fine (linksChecked g top state r) (nodesChecked g state)) (both by-links by-nodes)
 
   -- two entries in either order
   any-two : Points → (v i j : ℕ) → v < nodeCount g → i < length (entriesOf g v) → j < length (entriesOf g v) → endOf g v (entry g v i) ≡ endOf g v (entry g v j)
@@ -91,12 +100,12 @@ module _ (g : Lent) (top state : List ℕ) (r : Room) where
 
   passes : All → Passes g top state r
   passes h =
-      let few = h .0 in
-      let s = h .1 .0 in
-      let k = h .1 .1 .0 in
-      let o = h .1 .1 .1 .0 in
-      let l = h .1 .1 .1 .1 .0 in
-      let p = h .1 .1 .1 .1 .1 in
+      let few = h .0 .0 in
+      let s = h .0 .1 .0 in
+      let k = h .0 .1 .1 .0 in
+      let o = h .0 .1 .1 .1 in
+      let l = h .1 .0 in
+      let p = h .1 .1 in
       record {
         shared = record {
           few = few;
@@ -130,20 +139,14 @@ module _ (g : Lent) (top state : List ℕ) (r : Room) where
   unpack : Passes g top state r → All
   unpack h =
       let s = h .shared in
-      let b = h .band in (
-        s .few,
+      let b = h .band in
+      let lengths : Shape = ((((s .even, s .rising .any), s .room), (b .top-long, b .state-long)), ((b .lens-long, b .kinds-long), b .room)) in
+      let each : (k : ℕ) → k < linkCount g → Link k = λ k l. ((((s .a-grid k l, s .b-grid k l), s .strict k l), ((s .a-node k l, s .b-node k l), s .two-nodes k l)), (b .top-flag k l, b .state-flag k l)) in
+      let starts = rising (g .start) (g .list) (s .rising .any) .from (s .rising) in (
+        (s .few, (lengths, (each, s .order))),
         (
-          ((((s .even, s .rising .any), s .room), (b .top-long, b .state-long)), ((b .lens-long, b .kinds-long), b .room)),
-          (
-            (λ k l. ((((s .a-grid k l, s .b-grid k l), s .strict k l), ((s .a-node k l, s .b-node k l), s .two-nodes k l)), (b .top-flag k l, b .state-flag k l))),
-            (
-              s .order,
-              (
-                ((rising (g .start) (g .list) (s .rising .any) .from (s .rising), λ v l i c. s .ends v i l c), λ k l. (s .once-a k l, s .once-b k l)),
-                ((λ v l j lj i li. s .one-point v i j l (omega arith) lj), λ v l j lj i li. b .spread v i j l li lj),
-              ),
-            ),
-          ),
+          ((starts, λ v l i c. s .ends v i l c), λ k l. (s .once-a k l, s .once-b k l)),
+          ((λ v l j lj i li. s .one-point v i j l (omega arith) lj), λ v l j lj i li. b .spread v i j l li lj),
         ),
       )
 

@@ -8,7 +8,7 @@ use Rattle.turn.specs.declared.Checked.{Checked}
 use Rattle.turn.specs.declared.Checked.the-variants.{Fine, Refused}
 use Rattle.graph.specs.Graph.{Lent, lent}
 use Rattle.graph.specs.Count.{count}
-use Rattle.graph.specs.Checks.{Room, room, checked, checkedLinks, checkedNodes}
+use Rattle.graph.specs.Checks.{Room, room, checked, linksChecked, eachChecked, nodesChecked}
 
 abbrev axs : List ℤ
 axs = pos 0 ∷ pos 0 ∷ pos 0 ∷ pos 4 ∷ []
@@ -48,11 +48,11 @@ abbrev pub enough : Room
 enough = room 8 1 1 1
 
 e1 : checked (lent [] [] [] [] [] [] (0 ∷ []) []) [] [] (room 0 0 0 0) ≡ Fine
-unfolding checked checkedLinks checkedNodes lowest count
+unfolding checked linksChecked eachChecked nodesChecked lowest count
 e1 = refl
 
 e2 : checked square tops unvisited enough ≡ Fine
-unfolding checked checkedLinks checkedNodes lowest count
+unfolding checked linksChecked eachChecked nodesChecked lowest count
 e2 = refl
 
 -- the square with other points, with other nodes, and with other tops, states and room
@@ -75,7 +75,7 @@ two : (points (pos 0 ∷ []) ays bxs bys
     ∷ band tops unvisited (room 8 2 1 2)
     ∷ [])
     ≡ (Refused 2 0 ∷ Refused 2 0 ∷ Refused 2 0 ∷ Refused 2 0 ∷ Refused 2 0 ∷ Refused 2 0 ∷ Refused 2 0 ∷ [])
-unfolding checked
+unfolding checked linksChecked
 two = refl
 
 -- 3: a coordinate one past each bound, a at b, an id not below 4, equal ids, a top of 2, a state of 2 at a lower link than a wrong top
@@ -88,7 +88,7 @@ three : (points axs ays bxs (pos 0 ∷ pos 4 ∷ pos 524289 ∷ pos 4 ∷ [])
     ∷ band (1 ∷ 0 ∷ 0 ∷ 2 ∷ []) (0 ∷ 0 ∷ 2 ∷ 0 ∷ []) enough
     ∷ [])
     ≡ (Refused 3 2 ∷ Refused 3 1 ∷ Refused 3 2 ∷ Refused 3 1 ∷ Refused 3 2 ∷ Refused 3 3 ∷ Refused 3 2 ∷ [])
-unfolding checked checkedLinks lowest
+unfolding checked linksChecked eachChecked lowest
 three = refl
 
 -- 4: link 1 from (-1, 0) comes after link 0 from (0, 0); a link between both bounds passes check 3, and is out of order too
@@ -96,7 +96,7 @@ four : (points (pos 0 ∷ negsuc 0 ∷ pos 0 ∷ pos 4 ∷ []) ays bxs bys
     ∷ points (pos 0 ∷ pos 0 ∷ negsuc 524287 ∷ pos 4 ∷ []) (pos 0 ∷ pos 0 ∷ negsuc 524287 ∷ pos 0 ∷ []) (pos 4 ∷ pos 0 ∷ pos 524288 ∷ pos 4 ∷ []) (pos 0 ∷ pos 4 ∷ pos 524288 ∷ pos 4 ∷ [])
     ∷ [])
     ≡ (Refused 4 1 ∷ Refused 4 2 ∷ [])
-unfolding checked checkedLinks lowest
+unfolding checked linksChecked eachChecked lowest
 four = refl
 
 -- 5: starts from 1, falling, short of the list's end; a node of one entry; a link twice at a node; a link at a node not its own; an entry that is no link
@@ -109,13 +109,13 @@ five : (nodes aIds bIds (1 ∷ 2 ∷ 4 ∷ 6 ∷ 8 ∷ []) lists
     ∷ nodes aIds bIds starts (0 ∷ 1 ∷ 1 ∷ 2 ∷ 0 ∷ 3 ∷ 2 ∷ 4 ∷ [])
     ∷ [])
     ≡ (Refused 5 0 ∷ Refused 5 0 ∷ Refused 5 0 ∷ Refused 5 0 ∷ Refused 5 0 ∷ Refused 5 0 ∷ Refused 5 0 ∷ [])
-unfolding checked checkedLinks checkedNodes lowest count
+unfolding checked linksChecked eachChecked nodesChecked lowest count
 five = refl
 
 -- 6: link 3 ends at (4, 5), where link 2 ends at (4, 4), at node 3; and link 1 ends at (0, 3), where link 2 starts at (0, 4), at node 1, with it
 six : (points axs ays bxs (pos 0 ∷ pos 4 ∷ pos 4 ∷ pos 5 ∷ []) ∷ points axs ays bxs (pos 0 ∷ pos 3 ∷ pos 4 ∷ pos 5 ∷ []) ∷ [])
     ≡ (Refused 6 3 ∷ Refused 6 1 ∷ [])
-unfolding checked checkedLinks checkedNodes lowest count
+unfolding checked linksChecked eachChecked nodesChecked lowest count
 six = refl
 
 -- 7: two links between (0, 0) and (4, 0): the same direction at both nodes, unless one is skipped
@@ -125,5 +125,5 @@ double state =
     (0 ∷ 0 ∷ []) state (room 4 0 0 0)
 
 seven : (double (0 ∷ 0 ∷ []) ∷ double (0 ∷ 1 ∷ []) ∷ double (1 ∷ 0 ∷ []) ∷ []) ≡ (Refused 7 0 ∷ Fine ∷ Fine ∷ [])
-unfolding checked checkedLinks checkedNodes lowest count
+unfolding checked linksChecked eachChecked nodesChecked lowest count
 seven = refl

@@ -12,3 +12,5 @@ pub mod Total
 pub mod Exact
 pub mod Fine
 pub mod Sound
+pub mod EndLaws
+pub mod Told

@@ -15,7 +15,7 @@ use Rattle.turn.specs.declared.Point.{Point}
 use Rattle.turn.specs.declared.Checked.the-variants.{Fine}
 use Rattle.graph.specs.Graph.{Lent, linkCount, nodeCount}
 use Rattle.graph.specs.Count.{count, counted-in, place-of, count-single, sum, sum-same, sum-add, sum-const, sum-swap, sum-once, sum-less, sum-tight, counted}
-use Rattle.graph.specs.Checks.{room, aOf, bOf, nodeAt, entriesOf, badStarts, stray, strayIn, endAt, apart, alike, checkedNodes}
+use Rattle.graph.specs.Checks.{room, aOf, bOf, nodeAt, entriesOf, badStarts, stray, strayIn, endAt, apart, alike, nodesChecked}
 use Rattle.graph.specs.Quick.{clashAt, standsBefore, alikeBefore, bridgeWrong, nodeWrong}
 use Rattle.graph.specs.Passes.{Rising, EndAt}
 use Rattle.graph.specs.Known.{Ids}
@@ -165,7 +165,7 @@ module _ (g : Lent) (state : List ℕ) (rising : Rising (g .start) (g .list)) (i
           let q = pick-true {A = ℕ} 1 0 (eq-eqb (getD (g .bId) k 0) (getD (g .bId) k 0) refl) in
           at-node k l (getD (g .bId) k 0) (ids .b-below k l) ∙ ap₂ _+_ p q
 
-      pub nodes-fine : badStarts (g .start) (g .list) ≡ false → checkedNodes g state ≡ Fine
+      pub nodes-fine : badStarts (g .start) (g .list) ≡ false → nodesChecked g state ≡ Fine
       nodes-fine starts =
           by-nodes g [] state (room 0 0 0 0) .from (
             ((starts, λ v l i b. fine v l .ends i b), λ k l. (at-a k l, at-b k l)),

@@ -43,9 +43,12 @@ pub refuses : (b : Bool) (k p : ℕ) (next : Checked) → Iff (pick b (Refused k
 refuses true k p next = record { to = λ e. absurd (refused-not-fine k p e); from = λ e. absurd (true≢false refl (e .0)) }
 refuses false k p next = record { to = λ e. (refl, e); from = λ e. e .1 }
 
+pub both-fine : (a b : Checked) → Iff (followedBy a b ≡ Fine) ((a ≡ Fine) × (b ≡ Fine))
+both-fine Fine b = record { to = λ e. (refl, e); from = λ e. e .1 }
+both-fine (Refused number place) b = record { to = λ e. absurd (refused-not-fine number place e); from = λ e. e .0 }
+
 pub first-fine : (a b : Checked) → followedBy a b ≡ Fine → a ≡ Fine
-first-fine Fine b e = refl
-first-fine (Refused number place) b e = absurd (refused-not-fine number place e)
+first-fine a b e = both-fine a b .to e .0
 
 pub fine-is : (k : Checked) → isFine k ≡ true → k ≡ Fine
 fine-is Fine e = refl

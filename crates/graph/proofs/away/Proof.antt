@@ -4,7 +4,7 @@ use Rattle.graph.proofs.away.Statement.{statement}
 use Rattle.graph.proofs.away.Tie as tie
 use Rattle.graph.specs.Graph.{pointAt}
 use Rattle.graph.specs.Checks.{nodeAt}
-use Rattle.graph.proofs.Ends.{end-on-grid}
+use Rattle.graph.specs.EndLaws.{end-on-grid}
 
 end-at-requires : tie.Need-end-at-requires
 end-at-requires c κs = search needs

@@ -1,3 +1,0 @@
--- Laws that several proofs cite.
-mod Ends
-mod Told
