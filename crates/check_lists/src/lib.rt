@@ -4,7 +4,7 @@ ghost use Prim.Native.Nat.{_+_, _-_, _<_, _≤_};
 ghost use lib.Dec.{ltb};
 ghost use lib.ListN.{length};
 ghost use Rattle.laws.specs.Lowest.{some};
-ghost use Rattle.graph.specs.Count.{count};
+ghost use Rattle.laws.specs.Count.{count};
 ghost use Rattle.graph.specs.Checks.{short, badStarts, stray, strayIn, strayAt, notOnce, missed, badNodes};
 ghost use Rattle.graph.specs.Passes.{Rising};
 ghost use Rattle.graph.specs.Known.{Ids};

@@ -7,8 +7,8 @@ use mathlib.Core.List.{List, [], _∷_}
 use lib.ListN.{replicate}
 use lib.IntN.{ℤ, pos, negℤ}
 use Rattle.laws.specs.Lowest.{lowest}
-use Rattle.graph.specs.Count.{count}
-use Rattle.graph.specs.Checks.{nodesChecked, checkedLinks, checked}
+use Rattle.laws.specs.Count.{count}
+use Rattle.graph.specs.Checks.{nodesChecked, eachChecked, linksChecked, checked}
 use Rattle.graph.specs.Graph.{Lent, lent, graphOf}
 use Rattle.graph.specs.Examples.{square, tops, unvisited}
 use Rattle.next.specs.Next.{nextLink, firstLink}
@@ -38,7 +38,7 @@ nines state points contours = buffers state (replicate (2 * points) (p 9)) (repl
 pub e1 : extracted (lent [] [] [] [] [] [] (0 ∷ []) []) [] false 0 (nines [] 1 1)
     ≡ extractedAs (Done (record { contours = 0; points = 0; rejected = 0; walked = 0; kept = p 0; lost = p 0 }))
     (buffers [] (p 0 ∷ p 0 ∷ []) (0 ∷ []) (0 ∷ []) (0 ∷ []))
-unfolding extracted checked checkedLinks nodesChecked lowest count scanOn
+unfolding extracted checked linksChecked eachChecked nodesChecked lowest count scanOn
 e1 = refl
 
 -- ---- E2 to E5 and E7: the square
@@ -52,7 +52,7 @@ oneHull =
     (buffers (3 ∷ 3 ∷ 3 ∷ 3 ∷ []) (p 0 ∷ p 4 ∷ p 0 ∷ p 0 ∷ p 4 ∷ p 0 ∷ p 4 ∷ p 4 ∷ p 0 ∷ p 0 ∷ []) (0 ∷ 0 ∷ []) (4 ∷ 0 ∷ []) (0 ∷ 0 ∷ []))
 
 pub e2 : extractSquare false 0 unvisited ≡ oneHull
-unfolding extracted checked checkedLinks nodesChecked lowest count scanOn walkOn walkFrom nextLink firstLink
+unfolding extracted checked linksChecked eachChecked nodesChecked lowest count scanOn walkOn walkFrom nextLink firstLink
 e2 = refl
 
 e2-walks : scan (graphOf square tops) false unvisited ≡ walks ((record { hole = false; steps = bw 1 ∷ fw 0 ∷ fw 3 ∷ bw 2 ∷ [] }) ∷ []) (3 ∷ 3 ∷ 3 ∷ 3 ∷ [])
@@ -63,7 +63,7 @@ e2-walks = refl
 pub e3 : extractSquare true 0 unvisited
     ≡ extractedAs (Done (record { contours = 1; points = 4; rejected = 0; walked = 4; kept = m 32; lost = p 0 }))
     (buffers (3 ∷ 3 ∷ 3 ∷ 3 ∷ []) (p 0 ∷ p 0 ∷ p 0 ∷ p 4 ∷ p 4 ∷ p 4 ∷ p 4 ∷ p 0 ∷ p 0 ∷ p 0 ∷ []) (0 ∷ 0 ∷ []) (4 ∷ 0 ∷ []) (0 ∷ 0 ∷ []))
-unfolding extracted checked checkedLinks nodesChecked lowest count scanOn walkOn walkFrom nextLink firstLink
+unfolding extracted checked linksChecked eachChecked nodesChecked lowest count scanOn walkOn walkFrom nextLink firstLink
 e3 = refl
 
 e3-walks : scan (graphOf square tops) true unvisited ≡ walks ((record { hole = false; steps = fw 1 ∷ fw 2 ∷ bw 3 ∷ bw 0 ∷ [] }) ∷ []) (3 ∷ 3 ∷ 3 ∷ 3 ∷ [])
@@ -72,20 +72,20 @@ e3-walks = refl
 
 -- E4: minimum 16 keeps
 pub e4 : extractSquare false 16 unvisited ≡ oneHull
-unfolding extracted checked checkedLinks nodesChecked lowest count scanOn walkOn walkFrom nextLink firstLink
+unfolding extracted checked linksChecked eachChecked nodesChecked lowest count scanOn walkOn walkFrom nextLink firstLink
 e4 = refl
 
 -- E5: 17 rejects, links walked 4
 pub e5 : extractSquare false 17 unvisited
     ≡ extractedAs (Done (record { contours = 0; points = 0; rejected = 1; walked = 4; kept = p 0; lost = p 32 }))
     (buffers (3 ∷ 3 ∷ 3 ∷ 3 ∷ []) (replicate 10 (p 0)) (0 ∷ 0 ∷ []) (0 ∷ 0 ∷ []) (0 ∷ 0 ∷ []))
-unfolding extracted checked checkedLinks nodesChecked lowest count scanOn walkOn walkFrom nextLink firstLink
+unfolding extracted checked linksChecked eachChecked nodesChecked lowest count scanOn walkOn walkFrom nextLink firstLink
 e5 = refl
 
 -- E7: link 0 skipped
 pub e7 : extractSquare false 0 (1 ∷ 0 ∷ 0 ∷ 0 ∷ [])
     ≡ extractedAs (Refused 8 1) (buffers (1 ∷ 0 ∷ 0 ∷ 0 ∷ []) (replicate 10 (p 0)) (0 ∷ 0 ∷ []) (0 ∷ 0 ∷ []) (0 ∷ 0 ∷ []))
-unfolding extracted checked checkedLinks nodesChecked lowest count scanOn walkOn walkFrom nextLink firstLink
+unfolding extracted checked linksChecked eachChecked nodesChecked lowest count scanOn walkOn walkFrom nextLink firstLink
 e7 = refl
 
 -- ---- E6: a triangle of doubled area 1
@@ -99,14 +99,14 @@ extractTriangle minimum =
 pub e6 : extractTriangle 0
     ≡ extractedAs (Done (record { contours = 1; points = 3; rejected = 0; walked = 3; kept = p 1; lost = p 0 }))
     (buffers (3 ∷ 3 ∷ 3 ∷ []) (p 0 ∷ p 1 ∷ p 0 ∷ p 0 ∷ p 1 ∷ p 0 ∷ []) (0 ∷ []) (3 ∷ []) (0 ∷ []))
-unfolding extracted checked checkedLinks nodesChecked lowest count scanOn walkOn walkFrom nextLink firstLink
+unfolding extracted checked linksChecked eachChecked nodesChecked lowest count scanOn walkOn walkFrom nextLink firstLink
 e6 = refl
 
 -- 1 rejects it
 pub e6-rejected : extractTriangle 1
     ≡ extractedAs (Done (record { contours = 0; points = 0; rejected = 1; walked = 3; kept = p 0; lost = p 1 }))
     (buffers (3 ∷ 3 ∷ 3 ∷ []) (replicate 6 (p 0)) (0 ∷ []) (0 ∷ []) (0 ∷ []))
-unfolding extracted checked checkedLinks nodesChecked lowest count scanOn walkOn walkFrom nextLink firstLink
+unfolding extracted checked linksChecked eachChecked nodesChecked lowest count scanOn walkOn walkFrom nextLink firstLink
 e6-rejected = refl
 
 -- ---- E8, of difference D1: two walks of doubled area 2 rejected; one hull (10,-10) (0,0) (10,-20), doubled 100
@@ -126,7 +126,7 @@ fanTops = 1 ∷ 0 ∷ 1 ∷ 0 ∷ 1 ∷ 0 ∷ 1 ∷ 1 ∷ 1 ∷ []
 pub e8 : extracted fan fanTops false 2 (nines (replicate 9 0) 9 3)
     ≡ extractedAs (Done (record { contours = 1; points = 3; rejected = 2; walked = 9; kept = p 100; lost = p 4 }))
     (buffers (replicate 9 3) (p 10 ∷ m 10 ∷ p 0 ∷ p 0 ∷ p 10 ∷ m 20 ∷ replicate 12 (p 0)) (0 ∷ 0 ∷ 0 ∷ []) (3 ∷ 0 ∷ 0 ∷ []) (0 ∷ 0 ∷ 0 ∷ []))
-unfolding extracted checked checkedLinks nodesChecked lowest count scanOn walkOn walkFrom nextLink firstLink
+unfolding extracted checked linksChecked eachChecked nodesChecked lowest count scanOn walkOn walkFrom nextLink firstLink
 e8 = refl
 
 abbrev fanWalks : List Walk
