@@ -10,13 +10,14 @@ use Rattle.graph.specs.Graph.{Lent, graphOf, Graph}
 use Rattle.graph.specs.Checks.{checked, room}
 use Rattle.turn.specs.declared.Checked.{Checked}
 use Rattle.turn.specs.declared.Checked.the-variants as check
-use Rattle.walk.specs.declared.Counts.{Counts}
-use Rattle.walk.specs.declared.Extraction.{Extraction}
-use Rattle.walk.specs.declared.Extraction.the-variants.{Done, Refused}
-use Rattle.walk.specs.Walk.{Walk, Scanned, stopped, walks, scan}
-use Rattle.walk.specs.Outcome.{kept, lens, firsts, kinds, allPoints, coordinates, sum, countsOf}
-use Rattle.walk.specs.Extract.{Buffers, Extracted, extractedAs, filled, afterScan, afterChecks, extracted}
-use Rattle.walk.specs.Ledger.{coordinates-length, all-points-length}
+use Rattle.scan.specs.declared.Counts.{Counts}
+use Rattle.scan.specs.declared.Extraction.{Extraction}
+use Rattle.scan.specs.declared.Extraction.the-variants.{Done, Refused}
+use Rattle.walk.specs.Walk.{Walk}
+use Rattle.scan.specs.Scan.{Scanned, stopped, walks, scan}
+use Rattle.scan.specs.Outcome.{kept, lens, firsts, kinds, allPoints, coordinates}
+use Rattle.extract.specs.Extract.{Buffers, Extracted, extractedAs, filled, afterScan, afterChecks, extracted}
+use Rattle.scan.specs.Ledger.{coordinates-length, all-points-length}
 use Rattle.answer.proofs.Parts.{Part, part}
 use Rattle.answer.specs.Answered.{extractionText, extractedText}
 

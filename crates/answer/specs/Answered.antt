@@ -6,10 +6,10 @@ use lib.IntN.{ℤ, pos}
 use lib.ListN.{length, take, replicate}
 use Rattle.turn.specs.Limits.{maxLinks}
 use Rattle.graph.specs.Graph.{Lent, lent}
-use Rattle.walk.specs.declared.Counts.{Counts}
-use Rattle.walk.specs.declared.Extraction.{Extraction}
-use Rattle.walk.specs.declared.Extraction.the-variants.{Done, Refused}
-use Rattle.walk.specs.Extract.{Buffers, buffers, Extracted, extracted}
+use Rattle.scan.specs.declared.Counts.{Counts}
+use Rattle.scan.specs.declared.Extraction.{Extraction}
+use Rattle.scan.specs.declared.Extraction.the-variants.{Done, Refused}
+use Rattle.extract.specs.Extract.{Buffers, buffers, extracted}
 use Rattle.table.specs.Table.{Table, table, contourCount, pointCount}
 use Rattle.bind.specs.declared.Binding.{Binding}
 use Rattle.bind.specs.declared.Binding.the-variants.{Bound, Refused as Unbound}

@@ -21,11 +21,10 @@ use Rattle.next.specs.declared.Next.the-variants.{Link, Nothing}
 use Rattle.next.specs.Next.{isOpen, unvisited, onlyOpen, nextLink, firstLink, topmost}
 use Rattle.next.specs.States.{open-below}
 use Rattle.next.specs.Topmost.{first-at-bridge, first-at-cross, first-among}
-use Rattle.walk.specs.Walk.{Step, Walk, Walked, stuck, done, consStep, onNext, walkOn, walkFrom, markOf, senseOf, walkOf, Scanned, stopped, walks, consWalk, afterWalk, scanAt, lowestOpen, scanOn, scan}
-use Rattle.walk.specs.Outcome.{marked}
-use Rattle.walk.specs.States.{Mark, set-same, set-other}
+use Rattle.walk.specs.Walk.{Step, Walk, Walked, stuck, done, consStep, onNext, walkOn, walkFrom, marked}
+use Rattle.scan.specs.Scan.{markOf, senseOf, walkOf, Scanned, stopped, walks, consWalk, afterWalk, scanAt, lowestOpen, scanOn}
 use Rattle.walk.specs.Named.{IsOpen, first-open}
-use Rattle.walk.specs.Visits.{Fresh, AllFresh, Visits, from-visits, mark-of, lowest-open}
+use Rattle.walk.specs.Visits.{Visits, from-visits}
 use Rattle.fit.specs.Rounds.{marked-length}
 
 -- ---- rule 1 names an entry of the node

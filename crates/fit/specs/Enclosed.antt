@@ -10,12 +10,12 @@ use lib.IntN.{ℤ, pos, _+ℤ_}
 use Rattle.turn.specs.declared.Point.{Point}
 use Rattle.turn.specs.Area.{area, pointsOf}
 use Rattle.graph.specs.Graph.{Graph, Lent, graphOf}
-use Rattle.walk.specs.declared.Counts.{Counts}
-use Rattle.walk.specs.declared.Extraction.the-variants.{Done}
-use Rattle.walk.specs.Walk.{Step, Walk}
-use Rattle.walk.specs.Outcome.{left, points, areaOf, areas, total, kept, lens, firsts, allPoints, coordinates}
-use Rattle.walk.specs.Ledger.{points-back}
-use Rattle.walk.specs.Extract.{Buffers, extractedAs, extracted}
+use Rattle.scan.specs.declared.Counts.{Counts}
+use Rattle.scan.specs.declared.Extraction.the-variants.{Done}
+use Rattle.walk.specs.Walk.{Walk, left, points}
+use Rattle.scan.specs.Outcome.{areaOf, areas, total, kept, lens, firsts, allPoints}
+use Rattle.scan.specs.Ledger.{points-back}
+use Rattle.extract.specs.Extract.{Buffers, extractedAs, extracted}
 use Rattle.table.specs.Table.{Table, contour, contourCount}
 use Rattle.fit.specs.Places.{tableOf, walkAt, firsts-length, firsts-from, lens-length}
 use Rattle.fit.specs.Fit.{writtenTable, Ran, ran}

@@ -15,10 +15,12 @@ use Rattle.graph.specs.Graph.{Graph, Lent, graphOf}
 use Rattle.graph.specs.Checks.{Room}
 use Rattle.graph.specs.Fine.{FineGraph}
 use Rattle.next.specs.Next.{isOpen}
-use Rattle.walk.specs.Walk.{Step, Walk, markOf, senseOf}
-use Rattle.walk.specs.Outcome.{left, points, keeps, kept, marked}
+use Rattle.walk.specs.Walk.{Step, Walk, left, points, marked}
+use Rattle.scan.specs.Scan.{markOf, senseOf}
+use Rattle.scan.specs.Outcome.{keeps, kept}
 use Rattle.walk.specs.States.{Mark, set-of}
-use Rattle.walk.specs.Visits.{Fresh, AllFresh, mark-of}
+use Rattle.walk.specs.Visits.{Fresh}
+use Rattle.scan.specs.Visits.{AllFresh, mark-of}
 use Rattle.tour.specs.Statement.{Line, nodeLeft, nodeReached, reached}
 use Rattle.fit.specs.Places.{origin, walkAt, noWalk}
 use Rattle.fit.specs.Rounds.{Links, meets}

@@ -14,9 +14,10 @@ use Rattle.graph.specs.Graph.{Graph, Lent, graphOf}
 use Rattle.graph.specs.Checks.{Room}
 use Rattle.graph.specs.Fine.{FineGraph}
 use Rattle.next.specs.States.{open-below}
-use Rattle.walk.specs.Walk.{Step, Walk, markOf}
-use Rattle.walk.specs.Outcome.{left, points, marked}
-use Rattle.walk.specs.Visits.{Fresh, AllFresh}
+use Rattle.walk.specs.Walk.{Step, Walk, left, points, marked}
+use Rattle.scan.specs.Scan.{markOf}
+use Rattle.walk.specs.Visits.{Fresh}
+use Rattle.scan.specs.Visits.{AllFresh}
 use Rattle.tour.specs.Statement.{nodeLeft, nodeReached, reached, Line}
 use Rattle.fit.specs.Places.{origin}
 

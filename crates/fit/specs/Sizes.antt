@@ -19,10 +19,11 @@ use Rattle.graph.specs.Checks.{Room, checked}
 use Rattle.turn.specs.declared.Checked.the-variants.{Fine}
 use Rattle.graph.specs.Fine.{FineGraph, fine}
 use Rattle.next.specs.Next.{unvisited}
-use Rattle.walk.specs.Walk.{Step, Walk, Scanned, walks, scan}
-use Rattle.walk.specs.Outcome.{left, points, keeps, kept, lens, firsts, kinds, allPoints, coordinates, sum}
-use Rattle.walk.specs.Ledger.{kept-three, coordinates-length, all-points-length}
-use Rattle.walk.specs.Visits.{Scan, scanned}
+use Rattle.walk.specs.Walk.{Step, Walk, left, points}
+use Rattle.scan.specs.Scan.{walks, scan}
+use Rattle.scan.specs.Outcome.{keeps, kept, lens, firsts, kinds, allPoints, coordinates, sum}
+use Rattle.scan.specs.Ledger.{coordinates-length, all-points-length}
+use Rattle.scan.specs.Visits.{scanned}
 use Rattle.tour.specs.Statement.{Closed, Line, nodeLeft}
 use Rattle.tour.specs.ThreePoints.{finished}
 use Rattle.table.specs.Table.{Table, firstOf, endOf, lenOf, contourCount, pointCount, point, next, nextIn}

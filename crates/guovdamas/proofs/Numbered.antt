@@ -2,8 +2,8 @@
 use Prim.Native.Nat.{ℕ}
 use mathlib.Core.Path.{_≡_, ap, _∙_}
 use mathlib.Core.List.{List}
-use Rattle.walk.specs.declared.Extraction.{Extraction}
-use Rattle.walk.specs.Extract.{Buffers, Extracted, extractedAs}
+use Rattle.scan.specs.declared.Extraction.{Extraction}
+use Rattle.extract.specs.Extract.{Buffers, Extracted, extractedAs}
 use Rattle.bind.specs.declared.Binding.{Binding}
 use Rattle.bind.specs.Owners.{Outcome, outcome}
 use Rattle.guovdamas.specs.declared.GuovdamasBinding.{GuovdamasBinding}

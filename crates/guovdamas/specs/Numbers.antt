@@ -2,9 +2,9 @@
 use Prim.Native.Nat.{ℕ}
 use mathlib.Core.List.{List}
 use lib.IntN.{ℤ, pos}
-use Rattle.walk.specs.declared.Extraction.{Extraction}
-use Rattle.walk.specs.declared.Extraction.the-variants.{Done, Refused}
-use Rattle.walk.specs.Extract.{Buffers, Extracted}
+use Rattle.scan.specs.declared.Extraction.{Extraction}
+use Rattle.scan.specs.declared.Extraction.the-variants.{Done, Refused}
+use Rattle.extract.specs.Extract.{Buffers, Extracted}
 use Rattle.table.specs.Lookups.{roleOwner}
 use Rattle.table.specs.declared.records.Role.{Role}
 use Rattle.table.specs.declared.records.Role.the-variants.{Hull, Hole, Dropped}

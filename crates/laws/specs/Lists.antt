@@ -1,5 +1,5 @@
 -- Lists beyond the kit's library: what a store leaves at every place, a map that a loop makes from an index on, members and their places.
-use Prim.Native.Nat.{ℕ, zero, suc, _+_, _≤_, _<_, zero-le, suc-le-suc}
+use Prim.Native.Nat.{ℕ, zero, suc, _+_, _-_, _≤_, _<_, zero-le, suc-le-suc}
 use native.Mathlib.Nat.{not-suc-le-zero, le-of-suc-le-suc}
 use native.Mathlib.Numerals.{add-one}
 use native.Mathlib.Omega.{arith}
@@ -57,6 +57,10 @@ module _ {A : Type 0} (f : A → A) where
 pub map-const : {A B : Type 0} (z : B) (l : List A) → map (λ _. z) l ≡ replicate (length l) z
 map-const z [] = refl
 map-const {B = B} z (x ∷ xs) = ap (λ (r : List B). z ∷ r) (map-const z xs)
+
+-- ---- a list, and as many of one element after it as make a length
+abbrev pub padded : {A : Type 0} → A → List A → ℕ → List A
+padded z l n = l ++ replicate (n - length l) z
 
 -- ---- members, and the places that they stand at
 pub record Place {A : Type 0} (d x : A) (l : List A) : Type 0 where

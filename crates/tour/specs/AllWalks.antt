@@ -13,9 +13,11 @@ use Rattle.graph.specs.Graph.{Graph}
 use Rattle.next.specs.Next.{metFirst, firstLink, unvisited}
 use Rattle.next.specs.Choice.{Mem}
 use Rattle.next.specs.States.{open-below}
-use Rattle.walk.specs.Walk.{Step, Walk, Walked, done, consStep, onNext, walkOn, walkFrom, markOf, senseOf, walkOf, Scanned, walks, consWalk, afterWalk, scanAt, lowestOpen, scanOn, scan}
+use Rattle.walk.specs.Walk.{Step, Walk, Walked, done, consStep, onNext, walkOn, walkFrom}
+use Rattle.scan.specs.Scan.{markOf, senseOf, walkOf, Scanned, walks, consWalk, afterWalk, scanAt, lowestOpen, scanOn, scan}
 use Rattle.walk.specs.States.{Open, Mark, set-in, set-gone, set-of}
-use Rattle.walk.specs.Visits.{Visits, from-visits, visits-fewer, mark-of, lowest-open}
+use Rattle.walk.specs.Visits.{Visits, from-visits, visits-fewer}
+use Rattle.scan.specs.Visits.{mark-of, lowest-open}
 use Rattle.tour.specs.Alternation.{Cyc, mirror, alt-mirror, alt-ext, no-not}
 use Rattle.tour.specs.First.{next-ok, Paired, first-ok}
 use Rattle.tour.specs.Ends.{End, hd, tl, link, arrives, wayOf, headN, tailN, node, OpenEnd, Listed, end-at, listed, same-end}

@@ -9,11 +9,11 @@ use Rattle.turn.specs.declared.Checked.the-variants as check
 use Rattle.graph.specs.Graph.{Lent, Graph, graphOf}
 use Rattle.graph.specs.Checks.{Room, room, checked}
 use Rattle.next.specs.Next.{unvisited}
-use Rattle.walk.specs.declared.Counts.{Counts}
-use Rattle.walk.specs.declared.Extraction.the-variants.{Done}
-use Rattle.walk.specs.Outcome.{countsOf, statesAfter}
-use Rattle.walk.specs.Extract.{Buffers, afterScan, afterChecks, extracted}
-use Rattle.walk.specs.Visits.{scanned}
+use Rattle.scan.specs.declared.Counts.{Counts}
+use Rattle.scan.specs.declared.Extraction.the-variants.{Done}
+use Rattle.scan.specs.Outcome.{countsOf, statesAfter}
+use Rattle.extract.specs.Extract.{Buffers, afterScan, afterChecks, extracted}
+use Rattle.scan.specs.Visits.{scanned}
 use Rattle.tour.specs.Statement.{ComesByTurns, linkTotal}
 use Rattle.tour.specs.Demand.{third-demand, kept-total}
 

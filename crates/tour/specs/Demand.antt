@@ -5,9 +5,9 @@ use mathlib.Core.Bool.{Bool}
 use mathlib.Core.List.{List}
 use lib.IntN.{_+ℤ_}
 use Rattle.graph.specs.Graph.{Graph}
-use Rattle.walk.specs.Theorems.{kept-and-rejected}
-use Rattle.walk.specs.Walk.{Scanned, stopped, walks, scan}
-use Rattle.walk.specs.Outcome.{kept, rejected, areas, total}
+use Rattle.extract.specs.Theorems.{kept-and-rejected}
+use Rattle.scan.specs.Scan.{Scanned, stopped, walks, scan}
+use Rattle.scan.specs.Outcome.{kept, rejected, areas, total}
 use Rattle.tour.specs.Statement.{Toured, ThirdDemand, linkTotal}
 use Rattle.tour.specs.Round.{next-turns}
 use Rattle.tour.specs.Theorem.{tour}

@@ -11,7 +11,8 @@ use Rattle.laws.specs.Test.{pick, pick-true, pick-false}
 use Rattle.graph.specs.Graph.{Graph}
 use Rattle.next.specs.Next.{other}
 use Rattle.next.specs.Choice.{Mem}
-use Rattle.walk.specs.Walk.{stepFrom, senseOf}
+use Rattle.walk.specs.Walk.{stepFrom}
+use Rattle.scan.specs.Scan.{senseOf}
 use Rattle.walk.specs.States.{Open}
 
 -- the end at which a link arrives, and the end at which it leaves

@@ -10,9 +10,10 @@ use Rattle.laws.specs.Lowest.{lowest, some}
 use Rattle.turn.specs.declared.Checked.the-variants.{Fine}
 use Rattle.graph.specs.Graph.{Lent, lent, Graph, graphOf}
 use Rattle.laws.specs.Count.{count}
-use Rattle.graph.specs.Checks.{room, nodesChecked, checkedLinks, checked}
+use Rattle.graph.specs.Checks.{room, nodesChecked, eachChecked, linksChecked, checked}
 use Rattle.next.specs.Next.{opens, nextLink, firstLink}
-use Rattle.walk.specs.Walk.{Step, stopped, walks, walkOn, walkFrom, scanOn, scan}
+use Rattle.walk.specs.Walk.{Step, walkOn, walkFrom}
+use Rattle.scan.specs.Scan.{stopped, walks, scanOn, scan}
 use Rattle.tour.specs.Statement.{leaves, howMany, ComesByTurns, linkTotal, Toured}
 use Rattle.tour.specs.Demand.{third-demand}
 use Rattle.tour.specs.Decide.{comesByTurns, comes-exactly}
@@ -51,7 +52,7 @@ abbrev islandGraph : Graph
 islandGraph = graphOf island islandTops
 
 island-fine : checked island islandTops islandStates (room 24 4 4 4) ≡ Fine
-unfolding checked checkedLinks nodesChecked lowest count
+unfolding checked linksChecked eachChecked nodesChecked lowest count
 island-fine = refl
 
 island-test : comesByTurns islandGraph islandStates 11 ≡ true
@@ -103,7 +104,7 @@ abbrev crossedGraph : Graph
 crossedGraph = graphOf crossed crossedTops
 
 crossed-fine : checked crossed crossedTops crossedStates (room 12 2 2 2) ≡ Fine
-unfolding checked checkedLinks nodesChecked lowest count
+unfolding checked linksChecked eachChecked nodesChecked lowest count
 crossed-fine = refl
 
 -- at each of the five nodes as many links leave as arrive
@@ -140,7 +141,7 @@ abbrev squareGraph : Graph
 squareGraph = graphOf square squareTops
 
 square-fine : checked square squareTops squareStates (room 8 1 1 1) ≡ Fine
-unfolding checked checkedLinks nodesChecked lowest count
+unfolding checked linksChecked eachChecked nodesChecked lowest count
 square-fine = refl
 
 square-test : comesByTurns squareGraph squareStates 4 ≡ false

@@ -14,8 +14,9 @@ use Rattle.graph.specs.Graph.{Lent, Graph, graphOf}
 use Rattle.laws.specs.Count.{count}
 use Rattle.graph.specs.Checks.{Room, checked}
 use Rattle.next.specs.Next.{isOpen, opens, metFirst}
-use Rattle.walk.specs.Walk.{Step, Walk, walks, scan}
-use Rattle.walk.specs.Outcome.{left, statesAfter, areas, total}
+use Rattle.walk.specs.Walk.{Step, Walk, left}
+use Rattle.scan.specs.Scan.{walks, scan}
+use Rattle.scan.specs.Outcome.{statesAfter, areas, total}
 
 -- ---- What is asked: clockwise round every node the unskipped links come by turns as arriving and leaving, as many of one as of the other.
 

@@ -12,10 +12,12 @@ use Rattle.turn.specs.Area.{wedge, areaTo, area}
 use Rattle.graph.specs.Graph.{Graph}
 use Rattle.graph.specs.Fine.{OnePoint}
 use Rattle.next.specs.Next.{isOpen}
-use Rattle.walk.specs.Walk.{Step, Walk, markOf}
-use Rattle.walk.specs.Outcome.{left, areas, total, marked, statesAfter}
+use Rattle.walk.specs.Walk.{Step, Walk, left, marked}
+use Rattle.scan.specs.Scan.{markOf}
+use Rattle.scan.specs.Outcome.{areas, total, statesAfter}
 use Rattle.walk.specs.States.{Open, NoneOpen, Mark, set-of, over, over-set, over-none}
-use Rattle.walk.specs.Visits.{Fresh, AllFresh, mark-of}
+use Rattle.walk.specs.Visits.{Fresh}
+use Rattle.scan.specs.Visits.{AllFresh, mark-of}
 use Rattle.tour.specs.Statement.{reached, adds, sumOf}
 use Rattle.tour.specs.Ends.{wayOf, headN, tailN}
 use Rattle.tour.specs.OneWalk.{Chain}

@@ -12,9 +12,11 @@ use Rattle.graph.specs.Graph.{Graph}
 use Rattle.laws.specs.Count.{count}
 use Rattle.next.specs.Next.{isOpen, metFirst}
 use Rattle.next.specs.Choice.{Mem}
-use Rattle.walk.specs.Walk.{Step, Walk, walks, scan}
+use Rattle.walk.specs.Walk.{Step, Walk}
+use Rattle.scan.specs.Scan.{walks, scan}
 use Rattle.walk.specs.States.{Open}
-use Rattle.walk.specs.Visits.{timesIn, times, scanned}
+use Rattle.walk.specs.Visits.{timesIn}
+use Rattle.scan.specs.Visits.{times, scanned}
 use Rattle.tour.specs.Statement.{leaves, fillOnLeft, Line, linksOf, Toured}
 use Rattle.tour.specs.Alternation.{Cyc, no-not}
 use Rattle.tour.specs.Ends.{End, hd, tl, link, arrives, headN, node, OpenEnd, end-at, listed, same-end}

@@ -20,11 +20,13 @@ use Rattle.next.specs.declared.Next.{Next}
 use Rattle.next.specs.declared.Next.the-variants.{Link, Nothing}
 use Rattle.next.specs.Next.{runs, other, nextLink, firstLink, unvisited}
 use Rattle.next.specs.Choice.{Mem}
-use Rattle.walk.specs.Walk.{Step, Walk, Walked, stuck, done, consStep, onNext, stepFrom, walkOn, walkFrom, markOf, senseOf, walkOf, Scanned, stopped, walks, consWalk, afterWalk, scanAt, lowestOpen, scanOn, scan}
-use Rattle.walk.specs.Outcome.{left, marked, areaOf, keeps}
+use Rattle.walk.specs.Walk.{Step, Walk, Walked, stuck, done, consStep, onNext, stepFrom, walkOn, walkFrom, left, marked}
+use Rattle.scan.specs.Scan.{markOf, senseOf, walkOf, Scanned, stopped, walks, consWalk, afterWalk, scanAt, lowestOpen, scanOn, scan}
+use Rattle.scan.specs.Outcome.{areaOf, keeps}
 use Rattle.walk.specs.States.{Open, Mark, set-of}
 use Rattle.walk.specs.Named.{Among, next-among}
-use Rattle.walk.specs.Visits.{Fresh, AllFresh, mark-of, scanned}
+use Rattle.walk.specs.Visits.{Fresh}
+use Rattle.scan.specs.Visits.{AllFresh, mark-of, scanned}
 use Rattle.tour.specs.Statement.{nodeLeft, nodeReached, Line, Closed, reached}
 use Rattle.tour.specs.Ends.{Listed}
 use Rattle.tour.specs.Sums.{meet}

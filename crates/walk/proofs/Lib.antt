@@ -1,7 +1,2 @@
--- The laws that the proofs of the functions cite, leaves first.
-pub mod Rewrites
+-- The laws that the proofs of the functions cite.
 pub mod Steps
-pub mod Counting
-pub mod Noting
-pub mod Scans
-pub mod Answers

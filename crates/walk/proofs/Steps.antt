@@ -1,58 +1,27 @@
 -- One step and one walk, as the code goes them: a mark, a point, and what is left of the definition's walk.
-use Prim.Native.Nat.{ℕ, zero, suc, _+_, _≤_, _<_}
-use mathlib.Core.Path.{_≡_, refl, sym, ap, _∙_}
+use Prim.Native.Nat.{ℕ, suc, _+_, _≤_, _<_}
+use mathlib.Core.Path.{_≡_, ap, _∙_}
 use mathlib.Core.Bool.{Bool, true, false, not, true≢false}
-use mathlib.Core.List.{List, []}
+use mathlib.Core.List.{List}
 use native.Mathlib.Omega.{arith}
-use native.Mathlib.Decide.{ℕ-discrete}
-use lib.ListN.{length, getD, set, length-set}
-use lib.Seq.{map-set-same}
+use lib.ListN.{length, getD, set}
 use lib.IntN.{ℤ}
 use lib.Dec.{eqb}
 use borrow.Author.Tests.{eq-eqb, ne-eqb}
 use Rattle.laws.specs.Test.{pick, pick-ind}
 use Rattle.turn.specs.declared.Point.{Point}
-use Rattle.graph.specs.Graph.{Graph, Lent, graphOf}
+use Rattle.graph.specs.Graph.{Graph, Lent}
 use Rattle.next.specs.declared.Next.{Next}
 use Rattle.next.specs.declared.Next.the-variants.{Link, Nothing}
-use Rattle.next.specs.Next.{isOpen, unvisited, other, Node, bridge, crossing, nodeOf, nextAt, nextLink}
+use Rattle.next.specs.Next.{unvisited, other, nextLink}
 use Rattle.walk.specs.declared.Walker.{Walker}
 use Rattle.walk.specs.declared.Stepped.{Stepped}
 use Rattle.walk.specs.declared.Stepped.the-variants.{Went, Nowhere}
 use Rattle.walk.specs.declared.Ended.{Ended}
 use Rattle.walk.specs.declared.Ended.the-variants as ended
-use Rattle.walk.specs.Walk.{Step, Walked, stuck, done, consStep, onNext, stepFrom, walkOn, walkFrom}
-use Rattle.walk.specs.Outcome.{left}
-use Rattle.walk.specs.States.{Mark, set-same, set-other, unvisited-set}
-use Rattle.walk.specs.Code.{put, unmark, Kept, Shape, Marks, plain, stepOut, stepBy, stepOf, StepOut, Goes, WalkLeaves, Counted}
-
--- ---- a mark on an unvisited link
-pub is-mark : (m : ℕ) → Marks m → Mark m
-is-mark m h = ne-eqb m 0 (λ e. absurd (l e))
-  where
-    l : m ≡ 0 → ⊥
-    l e = omega arith
-
-pub kept-mark : (st : List ℕ) (k m : ℕ) → Marks m → getD st k 1 ≡ 0 → Kept st (set st k m)
-kept-mark st k m h e = record { len = length-set st k m; marks = map-set-same unmark st k m 1 (same ∙ ap unmark (sym e)); closed = stays }
-  where
-    stays : (j : ℕ) → isOpen st j ≡ false → isOpen (set st k m) j ≡ false
-    stays j c = elim (ℕ-discrete j k) [ yes q ↦ ap (isOpen (set st k m)) q ∙ set-same st k m (eq-eqb _ _ e) (is-mark m h) | no d ↦ set-other st k m j d ∙ c ]
-
-    not-one : m ≡ 1 → ⊥
-    not-one q = omega arith
-
-    same : unmark m ≡ 0
-    same = rw (ne-eqb m 1 not-one)
-
-pub fewer : (st : List ℕ) (k m : ℕ) → Marks m → getD st k 1 ≡ 0 → unvisited st ≡ suc (unvisited (set st k m))
-fewer st k m h e = unvisited-set st k m (eq-eqb _ _ e) (is-mark m h)
-
-pub kept-none : (st : List ℕ) → Kept st st
-kept-none st = record { len = refl; marks = refl; closed = λ j c. c }
-
-pub kept-then : {s t u : List ℕ} → Kept s t → Kept t u → Kept s u
-kept-then h k = record { len = k .len ∙ h .len; marks = k .marks ∙ h .marks; closed = λ j c. k .closed j (h .closed j c) }
+use Rattle.walk.specs.Walk.{Step, Walked, stuck, done, consStep, onNext, stepFrom, walkOn, walkFrom, left}
+use Rattle.walk.specs.Code.{put, Kept, Shape, plain, stepOut, stepBy, stepOf, StepOut, Goes, WalkLeaves, Counted}
+use Rattle.walk.specs.Marks.{kept-then}
 
 -- ---- one step
 module _ (g : Lent) (sense : Bool) (mark : ℕ) (st : List ℕ) (pts : List ℤ) (w : Walker) where
@@ -183,34 +152,3 @@ module _ (g : Graph) (forward sense : Bool) (mark : ℕ) (st : List ℕ) (s : �
 pub counted-on : (at : ℕ) (st st′ st″ : List ℕ) (r : Ended) → unvisited st ≡ suc (unvisited st′) → Counted (at + 1) (at + 1) st′ st″ r → Counted (at + 1) at st st″ r
 counted-on at st st′ st″ (ended.Stuck number) u h = tt
 counted-on at st st′ st″ (ended.Done to) u h = (h .0, omega (arith, h .1))
-
--- ---- tops play no role once a walk has started
-on-same : (go go′ : ℕ → Walked) → ((k : ℕ) → go k ≡ go′ k) → (n : Next) → onNext go n ≡ onNext go′ n
-on-same go go′ h Nothing = refl
-on-same go go′ h (Link k) = h k
-
-module _ (g : Lent) (t u : List ℕ) where
-  at-tops : (sense : Bool) (st : List ℕ) (v e : ℕ) (n : Node) → nextAt (graphOf g t) sense st v e n ≡ nextAt (graphOf g u) sense st v e n
-  at-tops sense st v e (bridge x y) = refl
-  at-tops sense st v e (crossing l) = refl
-
-  next-tops : (sense : Bool) (st : List ℕ) (v e : ℕ) → nextLink (graphOf g t) sense st v e ≡ nextLink (graphOf g u) sense st v e
-  unfolding nextLink
-  next-tops sense st v e = at-tops sense st v e (nodeOf (graphOf g t .entries v))
-
-  on-tops : (fuel : ℕ) (sense : Bool) (home last mark v e : ℕ) (st : List ℕ) → walkOn fuel (graphOf g t) sense home last mark v e st ≡ walkOn fuel (graphOf g u) sense home last mark v e st
-  unfolding walkOn
-  on-tops zero sense home last mark v e st = refl
-  on-tops (suc fuel) sense home last mark v e st =
-      ap (λ (x : Walked). pick (eqb e last) (pick (eqb v home) (done [] st) (stuck 9)) x)
-      (ap (onNext (λ f. consStep (stepFrom (graphOf g t) v f) (walkOn fuel (graphOf g t) sense home last mark (other (graphOf g t) v f) f (set st f mark)))) (next-tops sense st v e)
-      ∙ on-same _ _ (λ f. ap (consStep (stepFrom (graphOf g u) v f)) (on-tops fuel sense home last mark (other (graphOf g u) v f) f (set st f mark))) (nextLink (graphOf g u) sense st v e))
-
-  pub from-tops : (forward sense : Bool) (mark : ℕ) (st : List ℕ) (s : ℕ) → walkFrom (graphOf g t) forward sense mark st s ≡ walkFrom (graphOf g u) forward sense mark st s
-  unfolding walkFrom
-  from-tops forward sense mark st s =
-      let home : ℕ = pick forward (getD (g .aId) s 0) (getD (g .bId) s 0) in
-      let ahead : ℕ = pick forward (getD (g .bId) s 0) (getD (g .aId) s 0) in
-      ap (onNext (λ last. consStep (record { link = s; forward = forward }) (walkOn (suc (unvisited (set st s mark))) (graphOf g t) sense home last mark ahead s (set st s mark)))) (next-tops (not sense) (set st s mark) home s)
-      ∙ on-same _ _ (λ last. ap (consStep (record { link = s; forward = forward })) (on-tops (suc (unvisited (set st s mark))) sense home last mark ahead s (set st s mark)))
-      (nextLink (graphOf g u) (not sense) (set st s mark) home s)

@@ -1,11 +1,11 @@
 -- Visit states: what a mark changes, what is left unvisited, and totals over the unvisited links.
-use Prim.Native.Nat.{ℕ, zero, suc, _+_}
+use Prim.Native.Nat.{ℕ, zero, suc, _+_, _≤_}
 use native.Mathlib.Omega.{arith}
 use mathlib.Core.Path.{_≡_, refl, sym, ap, _∙_, subst}
 use mathlib.Core.Logic.{_≢_}
 use mathlib.Core.Bool.{Bool, true, false}
 use mathlib.Core.List.{List, [], _∷_}
-use lib.ListN.{set}
+use lib.ListN.{length, set}
 use lib.Seq.{getD-set-same, getD-set-other}
 use lib.Dec.{eqb}
 use Rattle.laws.specs.Test.{pick, pick-true, pick-false, true≢false}
@@ -79,3 +79,12 @@ unvisited-set st k m o n =
 
 pub none-unvisited : (st : List ℕ) → NoneOpen st → unvisited st ≡ 0
 none-unvisited st h = unvisited-over st ∙ over-none _+_ 0 (λ k. 1) st h
+
+-- and it is no more than the number of links
+pub unvisited-some : (st : List ℕ) → unvisited st ≤ length st
+unvisited-some [] = omega arith
+unvisited-some (x ∷ st) = by (eqb x 0) (unvisited-some st)
+  where
+    by : (b : Bool) → unvisited st ≤ length st → pick b (suc (unvisited st)) (unvisited st) ≤ suc (length st)
+    by true h = omega arith
+    by false h = omega arith

@@ -1,6 +1,7 @@
 -- `answer::answer_contours` meets its contract: extraction, then binding on what it wrote.
 use Rattle.graph.specs.Graph.{Lent, lent}
-use Rattle.walk.specs.Extract.{Buffers, buffers}
+use Rattle.extract.proofs.extract.Reads as extract-reads
+use Rattle.extract.specs.Extract.{Buffers, buffers}
 use native.Mathlib.Omega.{arith}
 use Rattle.answer.proofs.Extracts.{Written, written-fits, extracted-text}
 use Rattle.answer.proofs.Prints.{wrote-as}
@@ -11,7 +12,6 @@ use Rattle.answer.proofs.answer_contours.Reads as reads
 use Rattle.answer.proofs.answer_contours.Lts as lts
 use Rattle.answer.proofs.answer_table.Reads as answer-table-reads
 use Rattle.print.proofs.write_refusal.Reads as write-refusal-reads
-use Rattle.walk.proofs.extract.Reads as extract-reads
 
 abbrev g : tie.Start → Lent
 g s = lent (s .args .ax .now) (s .args .ay .now) (s .args .bx .now) (s .args .by .now) (s .args .a-id .now) (s .args .b-id .now) (s .args .start .now) (s .args .list .now)

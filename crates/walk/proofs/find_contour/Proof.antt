@@ -6,9 +6,7 @@ use native.Mathlib.Omega.{arith}
 use lib.ListN.{set, length-set}
 use Rattle.graph.specs.Graph.{Lent, lent}
 use Rattle.next.specs.Next.{unvisited}
-use Rattle.walk.specs.Code.{plain, Kept}
-use Rattle.walk.proofs.Steps.{kept-mark, kept-then, fewer, end-there, starts-nowhere, starts-on, counted-on}
-use borrow.Author.Needs.{needs}
+use Rattle.walk.proofs.Steps.{end-there, starts-nowhere, starts-on, counted-on}
 use Rattle.walk.proofs.find_contour.Statement.{statement}
 use Rattle.walk.proofs.find_contour.Tie as tie
 use Rattle.walk.proofs.find_contour.Reads as reads
@@ -18,6 +16,9 @@ use Rattle.walk.proofs.end_point.Reads as end-point-reads
 use Rattle.walk.proofs.last_link.Reads as last-link-reads
 use Rattle.walk.proofs.put_point.Reads as put-point-reads
 use Rattle.walk.proofs.walk_on.Reads as walk-on-reads
+use Rattle.walk.specs.Code.{plain, Kept}
+use Rattle.walk.specs.Marks.{kept-mark, kept-then, fewer}
+use borrow.Author.Needs.{needs}
 
 abbrev g : tie.Start → Lent
 g s = lent (s .args .ax .now) (s .args .ay .now) (s .args .bx .now) (s .args .by .now) (s .args .aid .now) (s .args .bid .now) (s .args .start .now) (s .args .list .now)

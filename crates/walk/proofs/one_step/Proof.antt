@@ -7,8 +7,7 @@ use lib.ListN.{length, getD, set}
 use lib.Dec.{eqb}
 use Rattle.graph.specs.Graph.{Lent, lent}
 use Rattle.next.specs.Next.{unvisited}
-use Rattle.walk.proofs.Steps.{kept-mark, kept-none, fewer, step-went, step-nowhere, other-there}
-use borrow.Author.Needs.{needs}
+use Rattle.walk.proofs.Steps.{step-went, step-nowhere, other-there}
 use Rattle.walk.proofs.one_step.Statement.{statement}
 use Rattle.walk.proofs.one_step.Tie as tie
 use Rattle.walk.proofs.one_step.Reads as reads
@@ -17,6 +16,8 @@ use Rattle.walk.proofs.end_point.Reads as end-point-reads
 use Rattle.walk.proofs.node_at.Reads as node-at-reads
 use Rattle.walk.proofs.other_node.Reads as other-node-reads
 use Rattle.walk.proofs.put_point.Reads as put-point-reads
+use Rattle.walk.specs.Marks.{kept-mark, kept-none, fewer}
+use borrow.Author.Needs.{needs}
 
 abbrev g : tie.Start → Lent
 g s = lent (s .args .ax .now) (s .args .ay .now) (s .args .bx .now) (s .args .by .now) (s .args .aid .now) (s .args .bid .now) (s .args .start .now) (s .args .list .now)

@@ -5,13 +5,14 @@ use borrow.Author.Needs.{needs}
 use lib.ListN.{length}
 use Rattle.graph.specs.Graph.{Lent, lent}
 use Rattle.next.specs.Next.{unvisited}
-use Rattle.walk.specs.Code.{plain}
-use Rattle.walk.proofs.Steps.{kept-none, kept-then, Walking, walking-again, walking-less, ends-home, ends-away, ends-nowhere}
+use Rattle.walk.proofs.Steps.{Walking, walking-again, walking-less, ends-home, ends-away, ends-nowhere}
 use Rattle.walk.proofs.walk_on.Statement.{statement}
 use Rattle.walk.proofs.walk_on.Tie as tie
 use Rattle.walk.proofs.walk_on.Reads as reads
 use Rattle.walk.proofs.walk_on.Lts as lts
 use Rattle.walk.proofs.one_step.Reads as one-step-reads
+use Rattle.walk.specs.Code.{plain}
+use Rattle.walk.specs.Marks.{kept-none, kept-then}
 
 abbrev Inv-loop : tie.InvT-loop
 Inv-loop ax ay bx by aid bid start list sense mark home last state₀ points₀ w₀ state points w = Walking (plain (lent ax ay bx by aid bid start list)) sense home last mark (length start) state₀ points₀ w₀ state points w

@@ -1,0 +1,4 @@
+-- The definition that the contract cites, then what is true of it.
+pub mod Extract
+pub mod Theorems
+pub mod Examples

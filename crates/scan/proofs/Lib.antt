@@ -1,0 +1,4 @@
+-- The laws that the proofs of the functions cite, leaves first.
+pub mod Counting
+pub mod Noting
+pub mod Scans

@@ -1,0 +1,90 @@
+-- `scan::scan_walk` meets its contract: the first link that rule 1 names, then its walk.
+use Prim.Native.Nat.{_<_}
+use mathlib.Core.Path.{_≡_, refl, sym, _∙_}
+use lib.ListN.{length, getD}
+use Rattle.graph.specs.Graph.{Lent, lent}
+use Rattle.scan.proofs.Noting.{first-nothing, first-link}
+use Rattle.scan.proofs.scan_walk.Statement.{statement}
+use Rattle.scan.proofs.scan_walk.Tie as tie
+use Rattle.scan.proofs.scan_walk.Reads as reads
+use Rattle.scan.proofs.scan_walk.Lts as lts
+use Rattle.scan.proofs.note_contour.Reads as note-contour-reads
+use Rattle.scan.specs.Tables.{Tables, tables}
+use Rattle.walk.specs.Marks.{kept-none}
+use borrow.Author.Needs.{needs}
+use Rattle.next.proofs.find_left_top_link.Reads as find-left-top-link-reads
+
+abbrev g : tie.Start → Lent
+g s = lent (s .args .ax .now) (s .args .ay .now) (s .args .bx .now) (s .args .by .now) (s .args .aid .now) (s .args .bid .now) (s .args .start .now) (s .args .list .now)
+
+abbrev t : tie.Start → Tables
+t s = tables (s .args .points .now) (s .args .first .now) (s .args .len .now) (s .args .kind .now) (s .args .c)
+
+abbrev at-start : tie.After-s → tie.Start
+at-start c = c .before .before .before .before .before .before .before .before .before .before .before .before .before
+
+ok : (c : tie.After-s) → (c .s .given .0 .0 < length (at-start c .args .state .now)) × (getD (at-start c .args .state .now) (c .s .given .0 .0) 1 ≡ 0)
+ok c = rw (c .s .given .1) at (c .before .before .find-left-top-link .ensures .1)
+
+find-left-top-link-requires : tie.Need-find-left-top-link-requires
+find-left-top-link-requires c κs = search needs
+
+enum-told : tie.Need-enum-told
+enum-told c = search needs
+
+enum-known-s : tie.Need-enum-known-s
+enum-known-s c = search needs
+
+shared-slice-read-hole : tie.Need-shared-slice-read-hole
+shared-slice-read-hole c = let a = c .before .before in rw (at-start a .pre .0 .1) (ok a .0)
+
+note-contour-requires : tie.Need-note-contour-requires
+note-contour-requires c κs = let a = c .before .before .before .before .before .before .before in let s = at-start a in (s .pre .0 .0, (s .pre .1 .0, (ok a .0, ok a .1, s .pre .1 .1 .1)))
+
+same-length : tie.Need-same-length
+same-length c = search needs
+
+returns : tie.Need-returns
+returns c =
+    let s = c .before .before .before .before .before .before .before .before .before .before .before .before .before in
+    (first-nothing (g s) (s .args .top .now) (s .args .clockwise) (s .args .minimum) (t s) (s .args .state .now) _ _ _ _ _ _ _ (sym (c .enum-told .given .1) ∙ c .before .before .find-left-top-link .ensures .0 (s .args .bid .now) (s .args .top .now)) refl, (tt, kept-none _))
+
+same-length-2 : tie.Need-same-length-2
+same-length-2 c = search needs
+
+same-length-3 : tie.Need-same-length-3
+same-length-3 c = search needs
+
+same-length-4 : tie.Need-same-length-4
+same-length-4 c = search needs
+
+same-length-5 : tie.Need-same-length-5
+same-length-5 c = search needs
+
+same-length-6 : tie.Need-same-length-6
+same-length-6 c = search needs
+
+returns-2 : tie.Need-returns-2
+returns-2 c =
+    let a = c .before .before .before .before .before .before .before .before .before .before .before .before .before .before .before .before .before in
+    let s = at-start a in
+    let o = c .before .before .before .before .before .before .before .before .before in
+    (first-link (g s) (s .args .top .now) (s .args .clockwise) (s .args .minimum) (t s) (s .args .state .now) _ _ _ _ _ _ _ _ (sym (a .s .given .1) ∙ a .before .before .find-left-top-link .ensures .0 (s .args .bid .now) (s .args .top .now)) (o .note-contour .ensures .0), o .note-contour .ensures .1)
+
+pub scan-walk-spec : {M : Type 1} → statement M
+scan-walk-spec =
+    tie.close
+    (tie.spec
+    find-left-top-link-requires
+    enum-told
+    enum-known-s
+    shared-slice-read-hole
+    note-contour-requires
+    same-length
+    returns
+    same-length-2
+    same-length-3
+    same-length-4
+    same-length-5
+    same-length-6
+    returns-2)

@@ -1,0 +1,355 @@
+// The scan (rules 1, 2, 6 and 7): a walk from each lowest unvisited link, kept and entered in the contour table, or counted as rejected.
+ghost use mathlib.Core.Path.{_≡_};
+ghost use mathlib.Core.Bool.{true, not, Bool·beq};
+ghost use mathlib.Core.List.{[]};
+ghost use Prim.Native.Nat.{_+_, _-_, _*_, _<_, _≤_};
+ghost use lib.ListN.{length, getD, set, take, drop};
+ghost use lib.IntN.{natAbs};
+ghost use Rattle.laws.specs.Test.{pick};
+ghost use Rattle.turn.specs.Limits.{maxLinks};
+ghost use Rattle.turn.specs.Points.{Grid};
+ghost use Rattle.turn.specs.Area.{area, pointsOf, wedgeBound};
+ghost use Rattle.graph.specs.Graph.{Lent, lent, Graph, graphOf};
+ghost use Rattle.next.specs.Next.{isOpen, unvisited, firstLink};
+ghost use Rattle.walk.specs.Walk.{walkFrom};
+ghost use Rattle.walk.specs.Code.{Kept, plain, Shape};
+ghost use Rattle.scan.specs.Scan.{markOf, scan};
+ghost use Rattle.scan.specs.Tables.{Tables, tables, enterKept, enterLost, enter, WalkNoted, FirstNoted, Within, Fewer, Ends, Roomy, ScanLeaves, noCounts};
+use next::Next;
+use walk::Ended;
+
+// What extraction returns on success. `kept` and `lost` are the signed doubled totals of kept and of rejected walks.
+pub struct Counts {
+    pub contours: usize,
+    pub points: usize,
+    pub rejected: usize,
+    pub walked: usize,
+    pub kept: i64,
+    pub lost: i64,
+}
+
+// The answer of extraction.
+pub enum Extraction {
+    Done(Counts),
+    Refused { number: u32, place: usize },
+}
+
+// What becomes of a walk of the scan: entered in the table or the counts, or refused with a number.
+enum Noted {
+    Entered(Counts),
+    Stuck(u32),
+}
+
+// The counts with one contour more.
+fn kept_counts(size: usize, area: i64, c: Counts) -> Counts
+    requires { ⌜ (Within maxLinks size c) × (natAbs area ≤ size * (2 * wedgeBound)) ⌝ }
+    ensures { λ r. ⌜ r ≡ enterKept true size area (tables [] [] [] [] c) .counts ⌝ }
+{
+    let kept = c.kept + area;
+    let lost = c.lost;
+    Counts {
+        contours: c.contours + 1,
+        points: c.points + size,
+        rejected: c.rejected,
+        walked: c.walked + size,
+        kept: kept,
+        lost: lost,
+    }
+}
+
+// The counts with one rejected walk more.
+fn lost_counts(size: usize, area: i64, c: Counts) -> Counts
+    requires { ⌜ (Within maxLinks size c) × (natAbs area ≤ size * (2 * wedgeBound)) ⌝ }
+    ensures { λ r. ⌜ r ≡ enterLost size area (tables [] [] [] [] c) .counts ⌝ }
+{
+    let kept = c.kept;
+    let lost = c.lost + area;
+    Counts {
+        contours: c.contours,
+        points: c.points,
+        rejected: c.rejected + 1,
+        walked: c.walked + size,
+        kept: kept,
+        lost: lost,
+    }
+}
+
+// A contour's entry in the table.
+fn enter_contour(
+    first: &mut [u32],
+    len: &mut [u32],
+    kind: &mut [u8],
+    hole: bool,
+    i: usize,
+    at: usize,
+    size: usize,
+)
+    requires { ⌜ (i < length (now first)) × (i < length (now len)) × (i < length (now kind)) ⌝ }
+    requires { ⌜ (at ≤ maxLinks) × (size ≤ maxLinks) ⌝ }
+    ensures { λ _. ⌜ now (first .exit) ≡ set (now (first .entry)) i at ⌝ }
+    ensures { λ _. ⌜ now (len .exit) ≡ set (now (len .entry)) i size ⌝ }
+    ensures { λ _. ⌜ now (kind .exit) ≡ set (now (kind .entry)) i (pick hole 1 0) ⌝ }
+{
+    first[i] = at as u32;
+    len[i] = size as u32;
+    kind[i] = kind_of(hole);
+}
+
+fn kind_of(hole: bool) -> u8
+    ensures { λ r. ⌜ r ≡ pick hole 1 0 ⌝ }
+{
+    if hole { 1 } else { 0 }
+}
+
+// Rule 6: a walk whose points stand up to number `to` is entered as a contour, or counted as rejected.
+fn note_walk(
+    points: &[i32],
+    first: &mut [u32],
+    len: &mut [u32],
+    kind: &mut [u8],
+    hole: bool,
+    minimum: u64,
+    to: usize,
+    c: Counts,
+) -> Counts
+    requires { ⌜ (c .points ≤ to) × (to * 2 ≤ length (now points)) × (Within maxLinks (to - c .points) c) ⌝ }
+    requires { ⌜ Grid (take (to * 2 - c .points * 2) (drop (c .points * 2) (now points))) ⌝ }
+    requires { ⌜ (to ≤ length (now first) * 3 + 2) × (length (now len) ≡ length (now first)) × (length (now kind) ≡ length (now first)) ⌝ }
+    ensures { λ r. ⌜ (let before : Tables = tables (now (points .entry)) (now (first .entry)) (now (len .entry)) (now (kind .entry)) c in
+        tables (now (points .entry)) (now (first .exit)) (now (len .exit)) (now (kind .exit)) r ≡ enter minimum hole (to - c .points)
+        (area (pointsOf (take (to * 2 - c .points * 2) (drop (c .points * 2) (now (points .entry)))))) before) ⌝ }
+{
+    let at = c.points;
+    let begin = at * 2;
+    let end = to * 2;
+    let size = to - at;
+    let area = turn::doubled_area(&points[begin..end]);
+    if turn::is_kept(size, area, minimum) {
+        enter_contour(first, len, kind, hole, c.contours, at, size);
+        return kept_counts(size, area, c);
+    }
+    lost_counts(size, area, c)
+}
+
+fn mark_of(hole: bool) -> u8
+    ensures { λ r. ⌜ r ≡ markOf hole ⌝ }
+{
+    if hole { 2 } else { 3 }
+}
+
+// Whether two flags are equal.
+fn same(a: bool, b: bool) -> bool
+    ensures { λ r. ⌜ r ≡ Bool·beq a b ⌝ }
+{
+    (a & b) | (!a & !b)
+}
+
+// Rules 2 to 6: the walk that starts with link s, a hole's or a hull's, entered in the table or counted as rejected.
+fn note_contour(
+    ax: &[i32],
+    ay: &[i32],
+    bx: &[i32],
+    by: &[i32],
+    aid: &[u32],
+    bid: &[u32],
+    start: &[u32],
+    list: &[u32],
+    clockwise: bool,
+    minimum: u64,
+    hole: bool,
+    state: &mut [u8],
+    points: &mut [i32],
+    first: &mut [u32],
+    len: &mut [u32],
+    kind: &mut [u8],
+    s: usize,
+    c: Counts,
+) -> Noted
+    requires { ⌜ (let g : Lent = lent (now ax) (now ay) (now bx) (now by) (now aid) (now bid) (now start) (now list) in
+        Shape g (length (now state))) ⌝ }
+    requires { ⌜ Roomy (length (now state)) (length (now points)) (length (now first)) (length (now len)) (length (now kind)) ⌝ }
+    requires { ⌜ (s < length (now state)) × (getD (now state) s 1 ≡ 0) × (Within (length (now state)) (unvisited (now state)) c) ⌝ }
+    ensures { λ r. ⌜ (let g : Lent = lent (now (ax .entry)) (now (ay .entry)) (now (bx .entry)) (now (by .entry)) (now (aid .entry))
+        (now (bid .entry)) (now (start .entry)) (now (list .entry)) in
+        let graph : Graph = plain g in
+        let before : Tables = tables (now (points .entry)) (now (first .entry)) (now (len .entry)) (now (kind .entry)) c in
+        WalkNoted graph minimum before hole
+        (walkFrom graph (not (Bool·beq hole clockwise)) (Bool·beq hole clockwise) (markOf hole) (now (state .entry)) s) r
+        (now (state .exit)) (now (points .exit)) (now (first .exit)) (now (len .exit)) (now (kind .exit))) ⌝ }
+    ensures { λ r. ⌜ Fewer (length (now (state .entry))) (now (state .entry)) (now (state .exit)) r ⌝ }
+    ensures { λ _. ⌜ Kept (now (state .entry)) (now (state .exit)) ⌝ }
+{
+    let sense = same(hole, clockwise);
+    let at = c.points;
+    match walk::find_contour(
+        ax,
+        ay,
+        bx,
+        by,
+        aid,
+        bid,
+        start,
+        list,
+        !sense,
+        sense,
+        mark_of(hole),
+        state,
+        points,
+        at,
+        s,
+    ) {
+        Ended::Stuck(number) => Noted::Stuck(number),
+        Ended::Done(to) => Noted::Entered(note_walk(
+            points,
+            first,
+            len,
+            kind,
+            hole,
+            minimum,
+            to,
+            c,
+        )),
+    }
+}
+
+// Rule 1: one walk of the scan, which stands at link k.
+fn scan_walk(
+    ax: &[i32],
+    ay: &[i32],
+    bx: &[i32],
+    by: &[i32],
+    aid: &[u32],
+    bid: &[u32],
+    start: &[u32],
+    list: &[u32],
+    top: &[u8],
+    clockwise: bool,
+    minimum: u64,
+    state: &mut [u8],
+    points: &mut [i32],
+    first: &mut [u32],
+    len: &mut [u32],
+    kind: &mut [u8],
+    k: usize,
+    c: Counts,
+) -> Noted
+    requires { ⌜ (let g : Lent = lent (now ax) (now ay) (now bx) (now by) (now aid) (now bid) (now start) (now list) in
+        (Shape g (length (now state))) × (length (now top) ≡ length (now state))) ⌝ }
+    requires { ⌜ Roomy (length (now state)) (length (now points)) (length (now first)) (length (now len)) (length (now kind)) ⌝ }
+    requires { ⌜ (isOpen (now state) k ≡ true) × (Within (length (now state)) (unvisited (now state)) c) ⌝ }
+    ensures { λ r. ⌜ (let g : Lent = lent (now (ax .entry)) (now (ay .entry)) (now (bx .entry)) (now (by .entry)) (now (aid .entry))
+        (now (bid .entry)) (now (start .entry)) (now (list .entry)) in
+        let graph : Graph = graphOf g (now (top .entry)) in
+        let before : Tables = tables (now (points .entry)) (now (first .entry)) (now (len .entry)) (now (kind .entry)) c in
+        FirstNoted graph clockwise minimum before (now (state .entry)) (firstLink graph (now (state .entry)) k) r (now (state .exit))
+        (now (points .exit)) (now (first .exit)) (now (len .exit)) (now (kind .exit))) ⌝ }
+    ensures { λ r. ⌜ Fewer (length (now (state .entry))) (now (state .entry)) (now (state .exit)) r ⌝ }
+    ensures { λ _. ⌜ Kept (now (state .entry)) (now (state .exit)) ⌝ }
+{
+    match next::find_left_top_link(ax, ay, bx, by, aid, start, list, state, k) {
+        Next::Nothing => Noted::Stuck(8),
+        Next::Link(s) => {
+            let hole = top[s] == 1;
+            note_contour(
+                ax,
+                ay,
+                bx,
+                by,
+                aid,
+                bid,
+                start,
+                list,
+                clockwise,
+                minimum,
+                hole,
+                state,
+                points,
+                first,
+                len,
+                kind,
+                s,
+                c,
+            )
+        }
+    }
+}
+
+// The scan: a walk from each lowest unvisited link. Rule 7: it moves on only when link k is visited.
+pub fn scan_links(
+    ax: &[i32],
+    ay: &[i32],
+    bx: &[i32],
+    by: &[i32],
+    aid: &[u32],
+    bid: &[u32],
+    start: &[u32],
+    list: &[u32],
+    top: &[u8],
+    clockwise: bool,
+    minimum: u64,
+    state: &mut [u8],
+    points: &mut [i32],
+    first: &mut [u32],
+    len: &mut [u32],
+    kind: &mut [u8],
+) -> Extraction
+    requires { ⌜ (let g : Lent = lent (now ax) (now ay) (now bx) (now by) (now aid) (now bid) (now start) (now list) in
+        (Shape g (length (now state))) × (length (now top) ≡ length (now state))) ⌝ }
+    requires { ⌜ Roomy (length (now state)) (length (now points)) (length (now first)) (length (now len)) (length (now kind)) ⌝ }
+    ensures { λ r. ⌜ (let g : Lent = lent (now (ax .entry)) (now (ay .entry)) (now (bx .entry)) (now (by .entry)) (now (aid .entry))
+        (now (bid .entry)) (now (start .entry)) (now (list .entry)) in
+        let graph : Graph = graphOf g (now (top .entry)) in
+        let before : Tables = tables (now (points .entry)) (now (first .entry)) (now (len .entry)) (now (kind .entry)) noCounts in
+        ScanLeaves graph minimum before (scan graph clockwise (now (state .entry))) r (now (state .exit)) (now (points .exit))
+        (now (first .exit)) (now (len .exit)) (now (kind .exit))) ⌝ }
+    ensures { λ r. ⌜ Ends (length (now (state .entry))) r ⌝ }
+    ensures { λ _. ⌜ Kept (now (state .entry)) (now (state .exit)) ⌝ }
+{
+    let n = state.len();
+    let mut k = 0;
+    let mut c = Counts {
+        contours: 0,
+        points: 0,
+        rejected: 0,
+        walked: 0,
+        kept: 0,
+        lost: 0,
+    };
+    while k < n {
+        if state[k] != 0 {
+            k += 1;
+            continue;
+        }
+        match scan_walk(
+            ax,
+            ay,
+            bx,
+            by,
+            aid,
+            bid,
+            start,
+            list,
+            top,
+            clockwise,
+            minimum,
+            state,
+            points,
+            first,
+            len,
+            kind,
+            k,
+            c,
+        ) {
+            Noted::Stuck(number) => {
+                return Extraction::Refused {
+                    number: number,
+                    place: k,
+                };
+            }
+            Noted::Entered(d) => {
+                c = d;
+            }
+        }
+    }
+    Extraction::Done(c)
+}
