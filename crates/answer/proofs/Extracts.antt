@@ -10,14 +10,15 @@ use Rattle.graph.specs.Graph.{Lent, graphOf, Graph}
 use Rattle.graph.specs.Checks.{checked, room}
 use Rattle.turn.specs.declared.Checked.{Checked}
 use Rattle.turn.specs.declared.Checked.the-variants as check
-use Rattle.scan.specs.declared.Counts.{Counts}
+use Rattle.keep.specs.declared.Counts.{Counts}
 use Rattle.scan.specs.declared.Extraction.{Extraction}
 use Rattle.scan.specs.declared.Extraction.the-variants.{Done, Refused}
 use Rattle.walk.specs.Walk.{Walk}
 use Rattle.scan.specs.Scan.{Scanned, stopped, walks, scan}
-use Rattle.scan.specs.Outcome.{kept, lens, firsts, kinds, allPoints, coordinates}
-use Rattle.extract.specs.Extract.{Buffers, Extracted, extractedAs, filled, afterScan, afterChecks, extracted}
-use Rattle.scan.specs.Ledger.{coordinates-length, all-points-length}
+use Rattle.keep.specs.Outcome.{kept, lens, firsts, kinds, allPoints, coordinates}
+use Rattle.keep.specs.Ledger.{coordinates-length, all-points-length}
+use Rattle.extract.specs.Extract.{Extracted, extractedAs, filled, afterScan, afterChecks, extracted}
+use Rattle.finish.specs.Finish.{Buffers}
 use Rattle.answer.proofs.Parts.{Part, part}
 use Rattle.answer.specs.Answered.{extractionText, extractedText}
 

@@ -6,10 +6,11 @@ use lib.IntN.{ℤ, pos}
 use lib.ListN.{length, take, replicate}
 use Rattle.turn.specs.Limits.{maxLinks}
 use Rattle.graph.specs.Graph.{Lent, lent}
-use Rattle.scan.specs.declared.Counts.{Counts}
+use Rattle.keep.specs.declared.Counts.{Counts}
 use Rattle.scan.specs.declared.Extraction.{Extraction}
 use Rattle.scan.specs.declared.Extraction.the-variants.{Done, Refused}
-use Rattle.extract.specs.Extract.{Buffers, buffers, extracted}
+use Rattle.extract.specs.Extract.{extracted}
+use Rattle.finish.specs.Finish.{Buffers, buffers}
 use Rattle.table.specs.Table.{Table, table, contourCount, pointCount}
 use Rattle.bind.specs.declared.Binding.{Binding}
 use Rattle.bind.specs.declared.Binding.the-variants.{Bound, Refused as Unbound}

@@ -13,18 +13,21 @@ use Rattle.turn.specs.declared.Checked.the-variants as check
 use Rattle.graph.specs.Checks.{room, checked}
 use Rattle.graph.specs.Fine.{FineGraph}
 use Rattle.next.specs.Fine.{links-known, nodes-known}
-use Rattle.scan.specs.declared.Counts.{Counts}
+use Rattle.keep.specs.declared.Counts.{Counts}
 use Rattle.scan.specs.declared.Extraction.{Extraction}
 use Rattle.scan.specs.declared.Extraction.the-variants.{Done, Refused}
 use Rattle.walk.specs.Walk.{Walk}
 use Rattle.scan.specs.Scan.{Scanned, stopped, walks, scan}
-use Rattle.scan.specs.Outcome.{lens}
+use Rattle.keep.specs.Outcome.{lens}
 use Rattle.scan.specs.Visits.{scanned}
-use Rattle.scan.specs.Ledger.{Fits, finished}
-use Rattle.extract.specs.Extract.{Buffers, buffers, extractedAs, afterScan, afterChecks, extracted}
-use Rattle.scan.specs.Tables.{Tables, tables, noCounts, allNoted, ScanLeaves, Roomy}
+use Rattle.keep.specs.Ledger.{Fits, finished}
+use Rattle.keep.specs.Tables.{Tables, tables, noCounts, allNoted}
+use Rattle.finish.specs.Finish.{finishedBy, Holds}
+use Rattle.scan.specs.Notes.{Ends, ScanLeaves, Roomy}
 use Rattle.walk.specs.Code.{Shape, Kept, unmark}
 use Rattle.walk.specs.States.{unvisited-some}
+use Rattle.extract.specs.Extract.{extractedAs, afterScan, afterChecks, extracted}
+use Rattle.finish.specs.Finish.{Buffers, buffers}
 
 -- ---- what the checks give the walks
 module _ (g : Lent) (top st : List ℕ) (points firsts lens kinds : ℕ) (f : FineGraph g top st (room points firsts lens kinds)) where
@@ -74,7 +77,7 @@ module _ (g : Graph) (minimum : ℕ) (b : Buffers) (t : Tables) (number place : 
       let x : m ≡ number = cc in let y : p ≡ place = cc in λ i. stopped (x i) (y i)
   refused-at (walks ws st) h e = absurd (true≢false (cc))
 
-  pub refused : (o : Scanned) → ScanLeaves g minimum t o r st′ pts′ first′ len′ kind′ → r ≡ Refused number place
+  refused : (o : Scanned) → ScanLeaves g minimum t o r st′ pts′ first′ len′ kind′ → r ≡ Refused number place
       → map unmark (b .state) ≡ b .state → Kept (b .state) st′ → length pts′ ≡ length (b .points) → length first′ ≡ length (b .first) → length len′ ≡ length (b .len) → length kind′ ≡ length (b .kind)
       → (st″ : List ℕ) (pts″ : List ℤ) (first″ len″ kind″ : List ℕ) → st″ ≡ mapFrom unmark 0 st′ → pts″ ≡ mapFrom (λ _. pos 0) 0 pts′
       → first″ ≡ mapFrom (λ _. 0) 0 first′ → len″ ≡ mapFrom (λ _. 0) 0 len′ → kind″ ≡ mapFrom (λ _. 0) 0 kind′
@@ -122,11 +125,34 @@ module _ (g : Graph) (cw : Bool) (minimum : ℕ) (b : Buffers) (room : Roomy (le
       let d = k ∙ f .counts-are in
       λ i. extractedAs (Done (d i)) (buffers (s i) (p i) (x i) (y i) (v i))
 
-  pub all-done : ScanLeaves g minimum t₀ (scan g cw (b .state)) r st′ pts′ first′ len′ kind′ → r ≡ Done c
+  all-done : ScanLeaves g minimum t₀ (scan g cw (b .state)) r st′ pts′ first′ len′ kind′ → r ≡ Done c
       → (pts″ : List ℤ) (first″ len″ kind″ : List ℕ) → pts″ ≡ mapFrom (λ _. pos 0) (c .points * 2) pts′
       → first″ ≡ mapFrom (λ _. 0) (c .contours) first′ → len″ ≡ mapFrom (λ _. 0) (c .contours) len′ → kind″ ≡ mapFrom (λ _. 0) (c .contours) kind′
       → extractedAs (Done c) (buffers st′ pts″ first″ len″ kind″) ≡ afterScan g minimum b (scan g cw (b .state))
   all-done = finish (scan g cw (b .state)) refl
+
+-- ---- what the scan wrote lies within the buffers
+module _ (b b′ : Buffers) (room : Roomy (length (b .state)) (length (b .points)) (length (b .first)) (length (b .len)) (length (b .kind)))
+    (lp : length (b′ .points) ≡ length (b .points)) (lf : length (b′ .first) ≡ length (b .first))
+    (ll : length (b′ .len) ≡ length (b .len)) (lk : length (b′ .kind) ≡ length (b .kind)) where
+  pub holds : (r : Extraction) → Ends (length (b .state)) r → Holds r b′
+  holds (Refused number place) w = tt
+  holds (Done c) w =
+      let f : c .contours ≤ length (b .first) = omega (arith, w .contours, w .points, w .links, room .first-room) in
+      (omega (arith, w .points, w .links, room .points-room, lp), omega (arith, f, lf), omega (arith, f, room .len-room, ll), omega (arith, f, room .kind-room, lk))
+
+  -- and what is finished is what the definition leaves
+  module _ (g : Graph) (cw : Bool) (minimum : ℕ) (u : map unmark (b .state) ≡ b .state) (k : Kept (b .state) (b′ .state)) (b″ : Buffers) where
+    pub finished-as : (r : Extraction)
+        → ScanLeaves g minimum (tables (b .points) (b .first) (b .len) (b .kind) noCounts) (scan g cw (b .state)) r (b′ .state) (b′ .points) (b′ .first) (b′ .len) (b′ .kind)
+        → b″ ≡ finishedBy r b′ → extractedAs r b″ ≡ afterScan g minimum b (scan g cw (b .state))
+    finished-as (Refused number place) h q =
+        ap (extractedAs (Refused number place)) q
+        ∙ refused g minimum b (tables (b .points) (b .first) (b .len) (b .kind) noCounts) number place (Refused number place) (b′ .state) (b′ .points) (b′ .first) (b′ .len) (b′ .kind)
+        (scan g cw (b .state)) h refl u k lp lf ll lk _ _ _ _ _ refl refl refl refl refl
+    finished-as (Done c) h q =
+        ap (extractedAs (Done c)) q
+        ∙ all-done g cw minimum b room c (Done c) (b′ .state) (b′ .points) (b′ .first) (b′ .len) (b′ .kind) h refl _ _ _ _ refl refl refl refl
 
 -- ---- the checks come first
 module _ (g : Lent) (top : List ℕ) (cw : Bool) (minimum : ℕ) (b : Buffers) where

@@ -1,3 +1,2 @@
--- The laws that the proofs of the functions cite, leaves first.
-pub mod Rewrites
-pub mod Answers
+-- The laws that the proofs of the functions cite.
+mod Answers

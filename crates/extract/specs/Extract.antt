@@ -3,7 +3,7 @@ use Prim.Native.Nat.{ℕ}
 use mathlib.Core.Bool.{Bool}
 use mathlib.Core.List.{List}
 use lib.ListN.{length, replicate}
-use lib.IntN.{ℤ, pos}
+use lib.IntN.{pos}
 use Rattle.laws.specs.Lists.{padded}
 use Rattle.graph.specs.Graph.{Graph, Lent, graphOf}
 use Rattle.turn.specs.declared.Checked.{Checked}
@@ -12,19 +12,9 @@ use Rattle.graph.specs.Checks.{checked, room}
 use Rattle.scan.specs.declared.Extraction.{Extraction}
 use Rattle.scan.specs.declared.Extraction.the-variants.{Done, Refused}
 use Rattle.walk.specs.Walk.{Walk}
+use Rattle.finish.specs.Finish.{Buffers, buffers}
 use Rattle.scan.specs.Scan.{Scanned, stopped, walks, scan}
-use Rattle.scan.specs.Outcome.{kept, lens, firsts, kinds, allPoints, coordinates, statesAfter, countsOf}
-
--- what is lent to be written: visit states, points (x and y in turn), and the contour table
-pub record Buffers : Type 0 where
-  pub state : List ℕ
-  pub points : List ℤ
-  pub first : List ℕ
-  pub len : List ℕ
-  pub kind : List ℕ
-
-abbrev pub buffers : List ℕ → List ℤ → List ℕ → List ℕ → List ℕ → Buffers
-buffers state points first len kind = record { state = state; points = points; first = first; len = len; kind = kind }
+use Rattle.keep.specs.Outcome.{kept, lens, firsts, kinds, allPoints, coordinates, statesAfter, countsOf}
 
 -- the answer with the whole of what was lent
 pub record Extracted : Type 0 where

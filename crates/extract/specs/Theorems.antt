@@ -17,18 +17,19 @@ use Rattle.turn.specs.declared.Checked.{Checked}
 use Rattle.turn.specs.declared.Checked.the-variants as check
 use Rattle.graph.specs.Graph.{Graph, Lent, graphOf}
 use Rattle.graph.specs.Checks.{checked, room}
-use Rattle.next.specs.Next.{isOpen, unvisited}
-use Rattle.next.specs.States.{open-below}
-use Rattle.scan.specs.declared.Counts.{Counts}
+use Rattle.next.specs.Next.{isUnvisited, unvisited}
+use Rattle.next.specs.States.{unvisited-below}
+use Rattle.keep.specs.declared.Counts.{Counts}
 use Rattle.scan.specs.declared.Extraction.the-variants.{Done, Refused}
-use Rattle.walk.specs.Walk.{Step, Walk, marked}
-use Rattle.scan.specs.Scan.{markOf, Scanned, stopped, walks, scan}
-use Rattle.scan.specs.Outcome.{statesAfter, areaOf, keeps, kept, rejected, allPoints, areas, total, countsOf}
-use Rattle.extract.specs.Extract.{Buffers, Extracted, afterWalks, afterScan, afterChecks, extracted}
-use Rattle.walk.specs.States.{Open, NoneOpen}
+use Rattle.walk.specs.Walk.{Step, Walk, marked, markOf}
+use Rattle.scan.specs.Scan.{Scanned, stopped, walks, scan}
+use Rattle.keep.specs.Outcome.{statesAfter, areaOf, keeps, kept, rejected, allPoints, areas, total, countsOf}
+use Rattle.walk.specs.States.{Unvisited, NoneUnvisited}
 use Rattle.walk.specs.Visits.{Fresh}
 use Rattle.scan.specs.Visits.{AllFresh, times, scanned}
-use Rattle.scan.specs.Ledger.{all-points-length}
+use Rattle.keep.specs.Ledger.{all-points-length}
+use Rattle.extract.specs.Extract.{Extracted, afterWalks, afterScan, afterChecks, extracted}
+use Rattle.finish.specs.Finish.{Buffers}
 
 -- ---- a state at entry and at exit: as it was, or 0 and then 2 or 3
 abbrev pub TwoOrThree : ℕ → Type 0
@@ -48,13 +49,13 @@ mark-two-or-three true = inl refl
 mark-two-or-three false = inr refl
 
 module _ (k : ℕ) where
-  set-became : (st : List ℕ) (f m : ℕ) → TwoOrThree m → Open st f → Became (getD st k 1) (getD (set st f m) k 1)
+  set-became : (st : List ℕ) (f m : ℕ) → TwoOrThree m → Unvisited st f → Became (getD st k 1) (getD (set st f m) k 1)
   set-became st f m t o = elim (ℕ-discrete k f) [ yes q ↦ here q | no d ↦ inl (getD-set-other st f k m 1 d) ]
     where
       here : k ≡ f → Became (getD st k 1) (getD (set st f m) k 1)
       here q = inr (
         ap (λ j. getD st j 1) q ∙ eqb-true (getD st f 1) 0 o,
-        subst TwoOrThree (sym (ap (λ j. getD (set st f m) j 1) q ∙ getD-set-same st f m 1 (open-below st f o))) t,
+        subst TwoOrThree (sym (ap (λ j. getD (set st f m) j 1) q ∙ getD-set-same st f m 1 (unvisited-below st f o))) t,
       )
 
   marked-became : (m : ℕ) (st : List ℕ) (l : List Step) → TwoOrThree m → Fresh m st l → Became (getD st k 1) (getD (marked m l st) k 1)
@@ -96,10 +97,10 @@ pub record Success (g : Lent) (top : List ℕ) (clockwise : Bool) (minimum : ℕ
   -- "On success, links walked is the number of states that were 0 at entry."
   pub walked : c .walked ≡ unvisited (b .state)
   -- each such link is walked exactly once, and no other
-  pub once : (k : ℕ) → times k found ≡ pick (isOpen (b .state) k) 1 0
+  pub once : (k : ℕ) → times k found ≡ pick (isUnvisited (b .state) k) 1 0
   -- its state is then 2 or 3, and any other state as it was
-  pub walked-states : (k : ℕ) → isOpen (b .state) k ≡ true → TwoOrThree (getD (extracted g top clockwise minimum b .lent .state) k 1)
-  pub other-states : (k : ℕ) → isOpen (b .state) k ≡ false → getD (extracted g top clockwise minimum b .lent .state) k 1 ≡ getD (b .state) k 1
+  pub walked-states : (k : ℕ) → isUnvisited (b .state) k ≡ true → TwoOrThree (getD (extracted g top clockwise minimum b .lent .state) k 1)
+  pub other-states : (k : ℕ) → isUnvisited (b .state) k ≡ false → getD (extracted g top clockwise minimum b .lent .state) k 1 ≡ getD (b .state) k 1
   -- the points of the kept walks are as many as the counts say
   pub points : length (allPoints (graphOf g top) (kept (graphOf g top) minimum found)) ≡ c .points
   pub contours : c .contours + c .rejected ≡ length found
@@ -119,7 +120,7 @@ module _ (g : Lent) (top : List ℕ) (cw : Bool) (minimum : ℕ) (b : Buffers) (
       let f : extracted g top cw minimum b .lent .state ≡ statesAfter ws (b .state) = ap (λ (x : Buffers). x .state) l in
       let became : (j : ℕ) → Became (getD (b .state) j 1) (getD (extracted g top cw minimum b .lent .state) j 1) =
       λ j. subst (λ t. Became (getD (b .state) j 1) (getD t j 1)) (sym f) (all-became j (b .state) ws (s .fresh)) in
-      let shut : NoneOpen (extracted g top cw minimum b .lent .state) = subst NoneOpen (s .states ∙ sym f) (s .none) in
+      let shut : NoneUnvisited (extracted g top cw minimum b .lent .state) = subst NoneUnvisited (s .states ∙ sym f) (s .none) in
       record {
         found = ws;
         found-is = e ∙ ap (walks ws) (s .states ∙ sym f);

@@ -18,19 +18,19 @@ use Rattle.graph.specs.Checks.{Room}
 use Rattle.graph.specs.Fine.{FineGraph}
 use Rattle.next.specs.declared.Next.{Next}
 use Rattle.next.specs.declared.Next.the-variants.{Link, Nothing}
-use Rattle.next.specs.Next.{isOpen, unvisited, onlyOpen, nextLink, firstLink, topmost}
-use Rattle.next.specs.States.{open-below}
+use Rattle.next.specs.Next.{isUnvisited, unvisited, onlyUnvisited, nextLink, firstLink, topmost}
+use Rattle.next.specs.States.{unvisited-below}
 use Rattle.next.specs.Topmost.{first-at-bridge, first-at-cross, first-among}
-use Rattle.walk.specs.Walk.{Step, Walk, Walked, stuck, done, consStep, onNext, walkOn, walkFrom, marked}
-use Rattle.scan.specs.Scan.{markOf, senseOf, walkOf, Scanned, stopped, walks, consWalk, afterWalk, scanAt, lowestOpen, scanOn}
-use Rattle.walk.specs.Named.{IsOpen, first-open}
+use Rattle.walk.specs.Walk.{Step, Walk, Walked, stuck, done, consStep, onNext, walkOn, walkFrom, marked, markOf}
+use Rattle.scan.specs.Scan.{senseOf, walkOf, Scanned, stopped, walks, consWalk, afterWalk, scanAt, lowestUnvisited, scanOn}
+use Rattle.walk.specs.Named.{LinkUnvisited, first-is-unvisited}
 use Rattle.walk.specs.Visits.{Visits, from-visits}
 use Rattle.fit.specs.Rounds.{marked-length}
 
 -- ---- rule 1 names an entry of the node
 module _ (g : Graph) (st : List ℕ) (k : ℕ) (m : List·Memᴰ k (g .entries (g .aNode k))) where
-  only-is : (c s : ℕ) → onlyOpen st c ≡ Link s → s ≡ c
-  only-is c s = pick-ind (isOpen st c) (Link c) Nothing (λ n. n ≡ Link s → s ≡ c) (λ _ e. cc) (λ _ e. let x : _≡_ {A = ℕ} 0 1 = cc in absurd (no x))
+  only-is : (c s : ℕ) → onlyUnvisited st c ≡ Link s → s ≡ c
+  only-is c s = pick-ind (isUnvisited st c) (Link c) Nothing (λ n. n ≡ Link s → s ≡ c) (λ _ e. cc) (λ _ e. let x : _≡_ {A = ℕ} 0 1 = cc in absurd (no x))
     where
       no : _≡_ {A = ℕ} 0 1 → ⊥
       no x = omega arith
@@ -68,8 +68,8 @@ pub record Begins (g : Graph) (cw : Bool) (st : List ℕ) (w : Walk) : Type 0 wh
   pub rest : List Step
   pub steps-are : w .steps ≡ record { link = link; forward = not (senseOf g cw link) } ∷ rest
   pub hole-is : w .hole ≡ g .top link
-  pub unvisited-one : isOpen st link ≡ true
-  pub least : (j : ℕ) → isOpen st j ≡ true → before (g .a j) (g .a link) ≡ false
+  pub unvisited-one : isUnvisited st link ≡ true
+  pub least : (j : ℕ) → isUnvisited st j ≡ true → before (g .a j) (g .a link) ≡ false
 
 abbrev pub AllBegin : Graph → Bool → List ℕ → List Walk → Type 0
 AllBegin g cw st [] = Unit {0}
@@ -103,20 +103,20 @@ module _ (g : Lent) (top st₀ : List ℕ) (r : Room) (f : FineGraph g top st₀
   G = graphOf g top
 
   -- the lowest unvisited link's a is least; a link at that node has it too
-  module _ (st : List ℕ) (long : length st ≡ G .n) (k : ℕ) (o : isOpen st k ≡ true) (low : None (isOpen st) k) where
-    from-k : (j : ℕ) → isOpen st j ≡ true → k ≤ j
+  module _ (st : List ℕ) (long : length st ≡ G .n) (k : ℕ) (o : isUnvisited st k ≡ true) (low : None (isUnvisited st) k) where
+    from-k : (j : ℕ) → isUnvisited st j ≡ true → k ≤ j
     from-k j oj = elim (decLe k j) [ yes h ↦ h | no n ↦ absurd (true≢false oj (low j (below n))) ]
       where
         below : (k ≤ j → ⊥) → j < k
         below n = omega arith
 
-    in-graph : (j : ℕ) → isOpen st j ≡ true → j < G .n
-    in-graph j oj = rw (sym long) (open-below st j oj)
+    in-graph : (j : ℕ) → isUnvisited st j ≡ true → j < G .n
+    in-graph j oj = rw (sym long) (unvisited-below st j oj)
 
-    not-before : (j : ℕ) → isOpen st j ≡ true → before (G .a j) (G .a k) ≡ false
+    not-before : (j : ℕ) → isUnvisited st j ≡ true → before (G .a j) (G .a k) ≡ false
     not-before j oj = f .links .order k j (from-k j oj) (in-graph j oj)
 
-    same-a : (s : ℕ) → isOpen st s ≡ true → List·Memᴰ s (G .entries (G .aNode k)) → G .a s ≡ G .a k
+    same-a : (s : ℕ) → isUnvisited st s ≡ true → List·Memᴰ s (G .entries (G .aNode k)) → G .a s ≡ G .a k
     same-a s os m = ⊎-elim
         (λ (q : G .aNode s ≡ G .aNode k). f .one-point .aa s k (in-graph s os) (in-graph k o) q)
         (λ (q : G .bNode s ≡ G .aNode k).
@@ -124,9 +124,9 @@ module _ (g : Lent) (top st₀ : List ℕ) (r : Room) (f : FineGraph g top st₀
         absurd (true≢false (subst (λ u. before (G .a s) u ≡ true) (sym p) (f .links .strict s (in-graph s os))) (not-before s os)))
         (f .lists .only (G .aNode k) s m)
 
-    pub begins : (s : ℕ) → firstLink G st k ≡ Link s → (j : ℕ) → isOpen st j ≡ true → before (G .a j) (G .a s) ≡ false
+    pub begins : (s : ℕ) → firstLink G st k ≡ Link s → (j : ℕ) → isUnvisited st j ≡ true → before (G .a j) (G .a s) ≡ false
     begins s e j oj =
-        let os : isOpen st s ≡ true = subst (IsOpen st) e (first-open G st k o) in
+        let os : isUnvisited st s ≡ true = subst (LinkUnvisited st) e (first-is-unvisited G st k o) in
         subst (λ u. before (G .a j) u ≡ false) (sym (same-a s os (first-in G st k (f .lists .at-a k (in-graph k o)) s e))) (not-before j oj)
 
   abbrev pub Led : List ℕ → Scanned → Type 0
@@ -137,7 +137,7 @@ module _ (g : Lent) (top st₀ : List ℕ) (r : Room) (f : FineGraph g top st₀
   led-cons w st (stopped number place) b h = tt
   led-cons w st (walks ws after) b h = (b, h)
 
-  led-after : (go : List ℕ → Scanned) (st : List ℕ) (k s : ℕ) (o : Walked) → isOpen st s ≡ true → ((j : ℕ) → isOpen st j ≡ true → before (G .a j) (G .a s) ≡ false)
+  led-after : (go : List ℕ → Scanned) (st : List ℕ) (k s : ℕ) (o : Walked) → isUnvisited st s ≡ true → ((j : ℕ) → isUnvisited st j ≡ true → before (G .a j) (G .a s) ≡ false)
       → First (record { link = s; forward = not (senseOf G cw s) }) o → Visits (markOf (G .top s)) st o
       → ((after : List ℕ) → length after ≡ length st → Led after (go after)) → Led st (afterWalk k (G .top s) go o)
   led-after go st k s (stuck number) os l fs v h = tt
@@ -146,11 +146,11 @@ module _ (g : Lent) (top st₀ : List ℕ) (r : Room) (f : FineGraph g top st₀
       led-cons w st (go after) (record { link = s; rest = fs .0; steps-are = fs .1; hole-is = refl; unvisited-one = os; least = l })
       (subst (λ a. Led a (go after)) (v .0) (h after (ap length (v .0) ∙ marked-length (markOf (G .top s)) u st)))
 
-  led-at : (go : List ℕ → Scanned) (st : List ℕ) (k : ℕ) (n : Next) → firstLink G st k ≡ n → length st ≡ G .n → isOpen st k ≡ true → None (isOpen st) k
+  led-at : (go : List ℕ → Scanned) (st : List ℕ) (k : ℕ) (n : Next) → firstLink G st k ≡ n → length st ≡ G .n → isUnvisited st k ≡ true → None (isUnvisited st) k
       → ((after : List ℕ) → length after ≡ length st → Led after (go after)) → Led st (scanAt G cw go st k n)
   led-at go st k Nothing e long o low h = tt
   led-at go st k (Link s) e long o low h =
-      let os : isOpen st s ≡ true = subst (IsOpen st) e (first-open G st k o) in
+      let os : isUnvisited st s ≡ true = subst (LinkUnvisited st) e (first-is-unvisited G st k o) in
       led-after go st k s (walkOf G cw st s) os (begins st long k o low s e) (from-first G (not (senseOf G cw s)) (senseOf G cw s) (markOf (G .top s)) st s)
       (from-visits G (not (senseOf G cw s)) (senseOf G cw s) (markOf (G .top s)) st s os) h
 
@@ -158,7 +158,7 @@ module _ (g : Lent) (top st₀ : List ℕ) (r : Room) (f : FineGraph g top st₀
   unfolding scanOn
   scan-begins zero st long = tt
   scan-begins (suc fuel) st long =
-      pick-ind (ltb (lowestOpen st) (length st)) _ (walks [] st) (Led st)
-      (λ t. let q = some-of (isOpen st) (length st) t in
-      led-at (λ after. scanOn fuel G cw after) st (lowestOpen st) (firstLink G st (lowestOpen st)) refl long (q .passes) (q .lowest-one) (λ after e. scan-begins fuel after (e ∙ long)))
+      pick-ind (ltb (lowestUnvisited st) (length st)) _ (walks [] st) (Led st)
+      (λ t. let q = some-of (isUnvisited st) (length st) t in
+      led-at (λ after. scanOn fuel G cw after) st (lowestUnvisited st) (firstLink G st (lowestUnvisited st)) refl long (q .passes) (q .lowest-one) (λ after e. scan-begins fuel after (e ∙ long)))
       (λ n. tt)

@@ -15,14 +15,15 @@ use Rattle.graph.specs.Checks.{Room, room, checked}
 use Rattle.turn.specs.declared.Checked.{Checked}
 use Rattle.graph.specs.Fine.{FineGraph, fine}
 use Rattle.next.specs.Next.{unvisited}
-use Rattle.scan.specs.declared.Counts.{Counts}
+use Rattle.keep.specs.declared.Counts.{Counts}
 use Rattle.scan.specs.declared.Extraction.the-variants.{Done, Refused}
 use Rattle.walk.specs.Walk.{Step, Walk, left, points}
 use Rattle.scan.specs.Scan.{Scanned, stopped, walks, scan}
-use Rattle.scan.specs.Outcome.{kept, lens, firsts, kinds, allPoints, coordinates, sum, countsOf}
-use Rattle.scan.specs.Ledger.{coordinates-length, all-points-length}
-use Rattle.extract.specs.Extract.{Buffers, Extracted, extractedAs, afterScan, afterChecks, extracted}
+use Rattle.keep.specs.Outcome.{kept, lens, firsts, kinds, allPoints, coordinates, sum, countsOf}
+use Rattle.keep.specs.Ledger.{coordinates-length, all-points-length}
 use Rattle.scan.specs.Visits.{scanned}
+use Rattle.extract.specs.Extract.{Extracted, extractedAs, afterScan, afterChecks, extracted}
+use Rattle.finish.specs.Finish.{Buffers}
 use Rattle.tour.specs.ThreePoints.{finished}
 use Rattle.table.specs.Table.{Table, table, firstOf, endOf, contourCount, point, isHole}
 use Rattle.table.specs.Anchor.{anchorPoint}

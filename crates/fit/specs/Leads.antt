@@ -14,13 +14,13 @@ use Rattle.turn.specs.PointOrder.{before-transitive}
 use Rattle.graph.specs.Graph.{Graph, Lent, graphOf}
 use Rattle.graph.specs.Checks.{Room}
 use Rattle.graph.specs.Fine.{FineGraph}
-use Rattle.next.specs.Next.{isOpen}
-use Rattle.walk.specs.Walk.{Step, Walk, left, points, marked}
-use Rattle.scan.specs.Scan.{markOf, senseOf}
-use Rattle.scan.specs.Outcome.{keeps, kept}
+use Rattle.next.specs.Next.{isUnvisited}
+use Rattle.walk.specs.Walk.{Step, Walk, left, points, marked, markOf}
+use Rattle.scan.specs.Scan.{senseOf}
+use Rattle.keep.specs.Outcome.{keeps, kept}
 use Rattle.walk.specs.States.{Mark, set-of}
-use Rattle.walk.specs.Visits.{Fresh}
-use Rattle.scan.specs.Visits.{AllFresh, mark-of}
+use Rattle.walk.specs.Visits.{Fresh, mark-of}
+use Rattle.scan.specs.Visits.{AllFresh}
 use Rattle.tour.specs.Statement.{Line, nodeLeft, nodeReached, reached}
 use Rattle.fit.specs.Places.{origin, walkAt, noWalk}
 use Rattle.fit.specs.Rounds.{Links, meets}
@@ -33,20 +33,20 @@ lead [] = 0
 lead (s ∷ l) = s .link
 
 -- ---- what a walk marks was unvisited before it
-fresh-open : (m : ℕ) (st : List ℕ) (l : List Step) → Mark m → Fresh m st l → (p : Step) → List·Memᴰ p l → isOpen st (p .link) ≡ true
-fresh-open m st [] k f p i = absurd (List·Memᴰ·not-nil i)
-fresh-open m st (s ∷ l) k f p i =
-    ⊎-elim (λ (e : p ≡ s). rw e (f .0)) (λ j. set-of st (s .link) m (p .link) (f .0) k (fresh-open m (set st (s .link) m) l k (f .1) p j) .0) (List·Memᴰ·cases-cons i)
+fresh-unvisited : (m : ℕ) (st : List ℕ) (l : List Step) → Mark m → Fresh m st l → (p : Step) → List·Memᴰ p l → isUnvisited st (p .link) ≡ true
+fresh-unvisited m st [] k f p i = absurd (List·Memᴰ·not-nil i)
+fresh-unvisited m st (s ∷ l) k f p i =
+    ⊎-elim (λ (e : p ≡ s). rw e (f .0)) (λ j. set-of st (s .link) m (p .link) (f .0) k (fresh-unvisited m (set st (s .link) m) l k (f .1) p j) .0) (List·Memᴰ·cases-cons i)
 
-marked-open : (m : ℕ) (st : List ℕ) (l : List Step) → Mark m → Fresh m st l → (j : ℕ) → isOpen (marked m l st) j ≡ true → isOpen st j ≡ true
-marked-open m st [] k f j o = o
-marked-open m st (s ∷ l) k f j o = set-of st (s .link) m j (f .0) k (marked-open m (set st (s .link) m) l k (f .1) j o) .0
+marked-unvisited : (m : ℕ) (st : List ℕ) (l : List Step) → Mark m → Fresh m st l → (j : ℕ) → isUnvisited (marked m l st) j ≡ true → isUnvisited st j ≡ true
+marked-unvisited m st [] k f j o = o
+marked-unvisited m st (s ∷ l) k f j o = set-of st (s .link) m j (f .0) k (marked-unvisited m (set st (s .link) m) l k (f .1) j o) .0
 
-pub walks-open : (st : List ℕ) (ws : List Walk) → AllFresh st ws → (w : Walk) → List·Memᴰ w ws → (p : Step) → List·Memᴰ p (w .steps) → isOpen st (p .link) ≡ true
-walks-open st [] f w m p i = absurd (List·Memᴰ·not-nil m)
-walks-open st (v ∷ ws) f w m p i =
-    ⊎-elim (λ (e : w ≡ v). fresh-open (markOf (v .hole)) st (v .steps) (mark-of (v .hole)) (f .0) p (subst (λ (x : Walk). List·Memᴰ p (x .steps)) e i))
-    (λ k. marked-open (markOf (v .hole)) st (v .steps) (mark-of (v .hole)) (f .0) (p .link) (walks-open (marked (markOf (v .hole)) (v .steps) st) ws (f .1) w k p i))
+pub walks-unvisited : (st : List ℕ) (ws : List Walk) → AllFresh st ws → (w : Walk) → List·Memᴰ w ws → (p : Step) → List·Memᴰ p (w .steps) → isUnvisited st (p .link) ≡ true
+walks-unvisited st [] f w m p i = absurd (List·Memᴰ·not-nil m)
+walks-unvisited st (v ∷ ws) f w m p i =
+    ⊎-elim (λ (e : w ≡ v). fresh-unvisited (markOf (v .hole)) st (v .steps) (mark-of (v .hole)) (f .0) p (subst (λ (x : Walk). List·Memᴰ p (x .steps)) e i))
+    (λ k. marked-unvisited (markOf (v .hole)) st (v .steps) (mark-of (v .hole)) (f .0) (p .link) (walks-unvisited (marked (markOf (v .hole)) (v .steps) st) ws (f .1) w k p i))
     (List·Memᴰ·cases-cons m)
 
 module _ (g : Lent) (top st₀ : List ℕ) (r : Room) (f : FineGraph g top st₀ r) (cw : Bool) where
@@ -66,7 +66,7 @@ module _ (g : Lent) (top st₀ : List ℕ) (r : Room) (f : FineGraph g top st₀
   no-point j s h e true = e
   no-point j s h e false = not-true (before (G .b j) (G .a s)) (λ t. true≢false (before-transitive (G .a j) (G .b j) (G .a s) (f .links .strict j h) t) e)
 
-  leads-of : (st : List ℕ) (w : Walk) → Begins G cw st w → ((p : Step) → List·Memᴰ p (w .steps) → (isOpen st (p .link) ≡ true) × (p .link < G .n)) → Leads w
+  leads-of : (st : List ℕ) (w : Walk) → Begins G cw st w → ((p : Step) → List·Memᴰ p (w .steps) → (isUnvisited st (p .link) ≡ true) × (p .link < G .n)) → Leads w
   leads-of st w b a = record {
     first = record { link = b .link; forward = not (senseOf G cw (b .link)) };
     rest = b .rest;
@@ -84,7 +84,7 @@ module _ (g : Lent) (top st₀ : List ℕ) (r : Room) (f : FineGraph g top st₀
   pub all-lead : (st : List ℕ) (ws : List Walk) → AllFresh st ws → AllBegin G cw st ws → ((w : Walk) → List·Memᴰ w ws → (p : Step) → List·Memᴰ p (w .steps) → p .link < G .n) → (w : Walk) → List·Memᴰ w ws → Leads w
   all-lead st [] fr b a w m = absurd (List·Memᴰ·not-nil m)
   all-lead st (v ∷ ws) fr b a w m = ⊎-elim
-      (λ (e : w ≡ v). subst Leads (sym e) (leads-of st v (b .0) (λ p i. (walks-open st (v ∷ ws) fr v (List·Memᴰ·head refl) p i, a v (List·Memᴰ·head refl) p i))))
+      (λ (e : w ≡ v). subst Leads (sym e) (leads-of st v (b .0) (λ p i. (walks-unvisited st (v ∷ ws) fr v (List·Memᴰ·head refl) p i, a v (List·Memᴰ·head refl) p i))))
       (λ k. all-lead (marked (markOf (v .hole)) (v .steps) st) ws (fr .1) (b .1) (λ x j. a x (List·Memᴰ·tail j)) w k)
       (List·Memᴰ·cases-cons m)
 
@@ -105,7 +105,7 @@ module _ (g : Lent) (top st₀ : List ℕ) (r : Room) (f : FineGraph g top st₀
       after : (v : Walk) → List·Memᴰ v ws → before (G .a (lead (v .steps))) (G .a (lead (w .steps))) ≡ false
       after v m =
           let q = begun (marked (markOf (w .hole)) (w .steps) st) ws (b .1) v m in
-          let o = walks-open st (w ∷ ws) fr v (List·Memᴰ·tail m) (q .0) (q .1) in
+          let o = walks-unvisited st (w ∷ ws) fr v (List·Memᴰ·tail m) (q .0) (q .1) in
           let e : lead (w .steps) ≡ b .0 .link = ap lead (b .0 .steps-are) in
           subst (λ k. before (G .a (lead (v .steps))) (G .a k) ≡ false) (sym e) (subst (λ k. before (G .a k) (G .a (b .0 .link)) ≡ false) (q .2) (b .0 .least (q .0 .link) o))
 

@@ -12,7 +12,7 @@ use Rattle.turn.specs.declared.Point.{Point}
 use Rattle.graph.specs.Graph.{Graph}
 use Rattle.table.specs.Table.{Table, table, pointAt}
 use Rattle.walk.specs.Walk.{Walk, left, points}
-use Rattle.scan.specs.Outcome.{lens, firsts, kinds, allPoints, coordinates, sum, kept}
+use Rattle.keep.specs.Outcome.{lens, firsts, kinds, allPoints, coordinates, sum, kept}
 
 -- what extraction writes of its kept walks
 abbrev pub tableOf : Graph → List Walk → Table

@@ -13,9 +13,8 @@ use Rattle.turn.specs.PointOrder.{before-differ, differ-sym}
 use Rattle.graph.specs.Graph.{Graph, Lent, graphOf}
 use Rattle.graph.specs.Checks.{Room}
 use Rattle.graph.specs.Fine.{FineGraph}
-use Rattle.next.specs.States.{open-below}
-use Rattle.walk.specs.Walk.{Step, Walk, left, points, marked}
-use Rattle.scan.specs.Scan.{markOf}
+use Rattle.next.specs.States.{unvisited-below}
+use Rattle.walk.specs.Walk.{Step, Walk, left, points, marked, markOf}
 use Rattle.walk.specs.Visits.{Fresh}
 use Rattle.scan.specs.Visits.{AllFresh}
 use Rattle.tour.specs.Statement.{nodeLeft, nodeReached, reached, Line}
@@ -29,7 +28,7 @@ marked-length m (s ∷ l) st = marked-length m l (set st (s .link) m) ∙ length
 fresh-below : (m : ℕ) (st : List ℕ) (l : List Step) → Fresh m st l → (p : Step) → List·Memᴰ p l → p .link < length st
 fresh-below m st [] f p i = absurd (List·Memᴰ·not-nil i)
 fresh-below m st (s ∷ l) f p i =
-    ⊎-elim (λ (e : p ≡ s). rw e (open-below st (s .link) (f .0))) (λ k. rw (length-set st (s .link) m) at (fresh-below m (set st (s .link) m) l (f .1) p k)) (List·Memᴰ·cases-cons i)
+    ⊎-elim (λ (e : p ≡ s). rw e (unvisited-below st (s .link) (f .0))) (λ k. rw (length-set st (s .link) m) at (fresh-below m (set st (s .link) m) l (f .1) p k)) (List·Memᴰ·cases-cons i)
 
 pub walked-below : (st : List ℕ) (ws : List Walk) → AllFresh st ws → (w : Walk) → List·Memᴰ w ws → (p : Step) → List·Memᴰ p (w .steps) → p .link < length st
 walked-below st [] f w m p i = absurd (List·Memᴰ·not-nil m)

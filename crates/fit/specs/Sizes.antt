@@ -21,8 +21,8 @@ use Rattle.graph.specs.Fine.{FineGraph, fine}
 use Rattle.next.specs.Next.{unvisited}
 use Rattle.walk.specs.Walk.{Step, Walk, left, points}
 use Rattle.scan.specs.Scan.{walks, scan}
-use Rattle.scan.specs.Outcome.{keeps, kept, lens, firsts, kinds, allPoints, coordinates, sum}
-use Rattle.scan.specs.Ledger.{coordinates-length, all-points-length}
+use Rattle.keep.specs.Outcome.{keeps, kept, lens, firsts, kinds, allPoints, coordinates, sum}
+use Rattle.keep.specs.Ledger.{coordinates-length, all-points-length}
 use Rattle.scan.specs.Visits.{scanned}
 use Rattle.tour.specs.Statement.{Closed, Line, nodeLeft}
 use Rattle.tour.specs.ThreePoints.{finished}

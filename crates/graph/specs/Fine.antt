@@ -218,19 +218,19 @@ module _ {g : Lent} {points : ℕ} (top : List ℕ) (h : SharedPasses g points) 
         t : Place 0 k (G .entries v)
         t = place-of 0 (G .entries v) q
 
-        open-s : getD state (entry g v (s .place)) 0 ≡ 1 → ⊥
-        open-s e = sj (subst (λ (x : ℕ). getD state x 0 ≡ 1) (s .here) e)
+        unskipped-s : getD state (entry g v (s .place)) 0 ≡ 1 → ⊥
+        unskipped-s e = sj (subst (λ (x : ℕ). getD state x 0 ≡ 1) (s .here) e)
 
-        open-t : getD state (entry g v (t .place)) 0 ≡ 1 → ⊥
-        open-t e = sk (subst (λ (x : ℕ). getD state x 0 ≡ 1) (t .here) e)
+        unskipped-t : getD state (entry g v (t .place)) 0 ≡ 1 → ⊥
+        unskipped-t e = sk (subst (λ (x : ℕ). getD state x 0 ≡ 1) (t .here) e)
 
         go : Dec (t .place ≤ s .place) → Dec (s .place ≤ t .place) → sameDirection (wayFrom G v j) (wayFrom G v k) ≡ false
         go (no l) m = subst (λ (x : ℕ). sameDirection (wayFrom G v x) (wayFrom G v k) ≡ false) (s .here)
             (subst (λ (x : ℕ). sameDirection (wayFrom G v (entry g v (s .place))) (wayFrom G v x) ≡ false) (t .here)
-            (b .spread v (s .place) (t .place) (inside v j p) (omega arith) (t .within) open-s open-t))
+            (b .spread v (s .place) (t .place) (inside v j p) (omega arith) (t .within) unskipped-s unskipped-t))
         go (yes l) (no m) = same-direction-sym (wayFrom G v k) (wayFrom G v j) ∙ subst (λ (x : ℕ). sameDirection (wayFrom G v k) (wayFrom G v x) ≡ false) (s .here)
             (subst (λ (x : ℕ). sameDirection (wayFrom G v x) (wayFrom G v (entry g v (s .place))) ≡ false) (t .here)
-            (b .spread v (t .place) (s .place) (inside v j p) (omega arith) (s .within) open-t open-s))
+            (b .spread v (t .place) (s .place) (inside v j p) (omega arith) (s .within) unskipped-t unskipped-s))
         go (yes l) (yes m) =
             let e : s .place ≡ t .place = omega arith in
             absurd (d (sym (s .here) ∙ ap (entry g v) e ∙ t .here))

@@ -4,7 +4,8 @@ use mathlib.Core.List.{List}
 use lib.IntN.{ℤ, pos}
 use Rattle.scan.specs.declared.Extraction.{Extraction}
 use Rattle.scan.specs.declared.Extraction.the-variants.{Done, Refused}
-use Rattle.extract.specs.Extract.{Buffers, Extracted}
+use Rattle.extract.specs.Extract.{Extracted}
+use Rattle.finish.specs.Finish.{Buffers}
 use Rattle.table.specs.Lookups.{roleOwner}
 use Rattle.table.specs.declared.records.Role.{Role}
 use Rattle.table.specs.declared.records.Role.the-variants.{Hull, Hole, Dropped}

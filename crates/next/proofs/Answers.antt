@@ -8,8 +8,8 @@ use lib.ListN.{length, getD}
 use Rattle.graph.specs.Graph.{Graph}
 use Rattle.next.specs.declared.Next.{Next}
 use Rattle.next.specs.declared.Next.the-variants.{Link}
-use Rattle.next.specs.Next.{isOpen, replaces, topmost, firstLink}
-use Rattle.next.specs.Known.{Entries, Numbers, Unvisited, stretch}
+use Rattle.next.specs.Next.{isUnvisited, replaces, topmost, firstLink}
+use Rattle.next.specs.Known.{Entries, Numbers, NamesUnvisited, stretch}
 use Rattle.next.specs.Topmost.{first-unvisited, first-at-cross, topmost-same}
 use Rattle.next.proofs.Stretch.{stretch-more, stretch-none, stretch-length}
 
@@ -56,8 +56,8 @@ module _ {start list : List ℕ} {v n from to : ℕ} (p : Part start list v n fr
   cross-entries w e = w (sym (stretch-length list from to (p .rises) (p .ends)) ∙ sym (ap length (p .is)) ∙ e)
 
 -- ---- the answers: for any graph of the links lent, with the fact that a caller needs
-pub first-answer : (of : List ℕ → List ℕ → Graph) (st : List ℕ) (r : Next) (k : ℕ) → isOpen st k ≡ true → ((bid top : List ℕ) → r ≡ firstLink (of bid top) st k)
-    → ((bid top : List ℕ) → r ≡ firstLink (of bid top) st k) × Unvisited st r
+pub first-answer : (of : List ℕ → List ℕ → Graph) (st : List ℕ) (r : Next) (k : ℕ) → isUnvisited st k ≡ true → ((bid top : List ℕ) → r ≡ firstLink (of bid top) st k)
+    → ((bid top : List ℕ) → r ≡ firstLink (of bid top) st k) × NamesUnvisited st r
 first-answer of st r k o h = (h, rw (h [] []) (first-unvisited (of [] []) st k o))
 
 pub first-cross : (g h : Graph) (st : List ℕ) (k r : ℕ) (l : List ℕ) → g .entries (g .aNode k) ≡ l → (length (g .entries (g .aNode k)) ≡ 2 → ⊥)

@@ -17,21 +17,21 @@ use Rattle.graph.specs.Graph.{Graph}
 use Rattle.next.specs.declared.Next.the-variants.{Link, Nothing}
 use Rattle.next.specs.declared.Ray.{Ray}
 use Rattle.next.specs.declared.Side.{Side}
-use Rattle.next.specs.Next.{isOpen, opens, onlyOpen, runs, metFirst, best, firstMet, replaces, topmost}
+use Rattle.next.specs.Next.{isUnvisited, unvisitedIn, onlyUnvisited, runs, metFirst, best, firstMet, replaces, topmost}
 use Rattle.next.specs.Known.{stretch, rayOf, sideOf}
 use Rattle.next.specs.Passed.{Passed}
-use Rattle.next.specs.States.{read-open, read-shut}
-use Rattle.next.proofs.Stretch.{stretch-more, stretch-none, opens-hit, opens-none}
+use Rattle.next.specs.States.{read-unvisited, read-shut}
+use Rattle.next.proofs.Stretch.{stretch-more, stretch-none, unvisited-in-hit, unvisited-in-none}
 
 -- no position is both below an end and not
 pub past : {i t : ℕ} → t ≤ i → i < t → ⊥
 past h k = omega arith
 
 -- ---- a link that the rule names
-pub only-hit : (st : List ℕ) (k : ℕ) → k < length st → getD st k 0 ≡ 0 → Link k ≡ onlyOpen st k
-only-hit st k h e = rw (read-open st k h e)
+pub only-hit : (st : List ℕ) (k : ℕ) → k < length st → getD st k 0 ≡ 0 → Link k ≡ onlyUnvisited st k
+only-hit st k h e = rw (read-unvisited st k h e)
 
-pub only-miss : (st : List ℕ) (k : ℕ) → k < length st → (getD st k 0 ≡ 0 → ⊥) → Nothing ≡ onlyOpen st k
+pub only-miss : (st : List ℕ) (k : ℕ) → k < length st → (getD st k 0 ≡ 0 → ⊥) → Nothing ≡ onlyUnvisited st k
 only-miss st k h n = rw (read-shut st k h n)
 
 -- ---- the way of a link from a node, from its points
@@ -56,10 +56,10 @@ module _ (g : Graph) (st : List ℕ) (k x : ℕ) (choice : Side) (ok : choice �
   higher-same e = rw (eq-eqb x k e) ok
 
   module _ (n : x ≡ k → ⊥) where
-    pub higher-shut : isOpen st x ≡ false → Higher choice
+    pub higher-shut : isUnvisited st x ≡ false → Higher choice
     higher-shut e = rw (ne-eqb x k n, e) ok
 
-    module _ (o : isOpen st x ≡ true) (a b : Point) (q : b ≡ g .b x) where
+    module _ (o : isUnvisited st x ≡ true) (a b : Point) (q : b ≡ g .b x) where
       cw : (t : Bool) → clockwise (choice .a) (choice .b) b ≡ t → clockwise (g .a (choice .link)) (g .b (choice .link)) (g .b x) ≡ t
       cw t e = rw (q, ap (λ (s : Side). s .a) ok, ap (λ (s : Side). s .b) ok) at e
 
@@ -100,13 +100,13 @@ module _ {g : Graph} {st list : List ℕ} {k from to i : ℕ} {choice : Side} (w
 pub record Turned (g : Graph) (sense : Bool) (st list : List ℕ) (v e k from to i : ℕ) (way : Vector) (choice : Ray) : Type 0 where
   pub low : from ≤ i
   pub within : i ≤ to
-  pub here : i < to → isOpen st (getD list i 0) ≡ true
+  pub here : i < to → isUnvisited st (getD list i 0) ≡ true
   pub base : way ≡ runs g v e
   pub ok : choice ≡ rayOf g sense v way (choice .link)
   pub short : Short (choice .way)
-  pub ends : best (metFirst g sense v e) k (opens st (stretch list from to)) ≡ best (metFirst g sense v e) (choice .link) (opens st (stretch list i to))
+  pub ends : best (metFirst g sense v e) k (unvisitedIn st (stretch list from to)) ≡ best (metFirst g sense v e) (choice .link) (unvisitedIn st (stretch list i to))
 
-pub turn-start : (g : Graph) (sense : Bool) (st list : List ℕ) (v e k from to : ℕ) (way : Vector) (choice : Ray) → from ≤ to → (from < to → isOpen st (getD list from 0) ≡ true)
+pub turn-start : (g : Graph) (sense : Bool) (st list : List ℕ) (v e k from to : ℕ) (way : Vector) (choice : Ray) → from ≤ to → (from < to → isUnvisited st (getD list from 0) ≡ true)
     → way ≡ runs g v e → choice ≡ rayOf g sense v way k → Short (choice .way) → Turned g sense st list v e k from to from way choice
 turn-start g sense st list v e k from to way choice h o b q s =
     let n : k ≡ choice .link = sym (ap (λ (y : Ray). y .link) q) in
@@ -117,7 +117,7 @@ turn-start g sense st list v e k from to way choice h o b q s =
       base = b;
       ok = q ∙ ap (rayOf g sense v way) n;
       short = s;
-      ends = ap (λ (c : ℕ). best (metFirst g sense v e) c (opens st (stretch list from to))) n;
+      ends = ap (λ (c : ℕ). best (metFirst g sense v e) c (unvisitedIn st (stretch list from to))) n;
     }
 
 -- the code's test of two links
@@ -155,27 +155,27 @@ module _ {g : Graph} {sense : Bool} {st list : List ℕ} {v e k from to i : ℕ}
       base = w .base;
       ok = rw f (pick-ind test other choice (λ y. y ≡ rayOf g sense v way (y .link)) (λ _. o ∙ ap (rayOf g sense v way) (sym (ap (λ (y : Ray). y .link) o))) (λ _. w .ok));
       short = rw f (pick-ind test other choice (λ y. Short (y .way)) (λ _. s) (λ _. w .short));
-      ends = w .ends ∙ ap (best lt (choice .link)) (opens-hit list st i to h t (w .here h)) ∙ ap₂ (best lt) chosen (p .rest);
+      ends = w .ends ∙ ap (best lt (choice .link)) (unvisited-in-hit list st i to h t (w .here h)) ∙ ap₂ (best lt) chosen (p .rest);
     }
 
-  pub turn-end : to ≤ i → choice .link ≡ best (metFirst g sense v e) k (opens st (stretch list from to))
+  pub turn-end : to ≤ i → choice .link ≡ best (metFirst g sense v e) k (unvisitedIn st (stretch list from to))
   turn-end h =
       let q : i ≡ to = omega (arith, w .within) in
-      sym (w .ends ∙ rw (q, opens-none list st to))
+      sym (w .ends ∙ rw (q, unvisited-in-none list st to))
 
 -- ---- what the two searches of rule 3 at a `Cross` tell
 module _ (lt : ℕ → ℕ → Bool) {list st : List ℕ} {from to first : ℕ} (t : to ≤ length list) (p : Passed list st from to first) where
-  pub met-none : first ≡ to → Nothing ≡ firstMet lt (opens st (stretch list from to))
-  met-none e = rw (p .rest, e, opens-none list st to)
+  pub met-none : first ≡ to → Nothing ≡ firstMet lt (unvisitedIn st (stretch list from to))
+  met-none e = rw (p .rest, e, unvisited-in-none list st to)
 
   module _ (n : first ≡ to → ⊥) {second : ℕ} (q : Passed list st (first + 1) to second) where
-    split : opens st (stretch list from to) ≡ getD list first 0 ∷ opens st (stretch list second to)
+    split : unvisitedIn st (stretch list from to) ≡ getD list first 0 ∷ unvisitedIn st (stretch list second to)
     split =
         let h : first < to = omega (arith, p .high) in
-        p .rest ∙ opens-hit list st first to h t (p .here h) ∙ ap (λ (l : List ℕ). getD list first 0 ∷ l) (q .rest)
+        p .rest ∙ unvisited-in-hit list st first to h t (p .here h) ∙ ap (λ (l : List ℕ). getD list first 0 ∷ l) (q .rest)
 
-    pub met-one : (k : ℕ) → k ≡ getD list first 0 → second ≡ to → Link k ≡ firstMet lt (opens st (stretch list from to))
-    met-one k f e = rw (split, e, opens-none list st to, f)
+    pub met-one : (k : ℕ) → k ≡ getD list first 0 → second ≡ to → Link k ≡ firstMet lt (unvisitedIn st (stretch list from to))
+    met-one k f e = rw (split, e, unvisited-in-none list st to, f)
 
-    pub met-more : (k r : ℕ) → k ≡ getD list first 0 → r ≡ best lt k (opens st (stretch list second to)) → Link r ≡ firstMet lt (opens st (stretch list from to))
+    pub met-more : (k r : ℕ) → k ≡ getD list first 0 → r ≡ best lt k (unvisitedIn st (stretch list second to)) → Link r ≡ firstMet lt (unvisitedIn st (stretch list from to))
     met-more k r f e = rw (split, e, f)

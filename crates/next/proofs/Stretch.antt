@@ -8,7 +8,7 @@ use mathlib.Core.Bool.{true, false}
 use mathlib.Core.List.{List, [], _∷_}
 use lib.ListN.{length, getD, take, drop, length-take, length-drop}
 use lib.Seq.{drop-cons}
-use Rattle.next.specs.Next.{isOpen, opens}
+use Rattle.next.specs.Next.{isUnvisited, unvisitedIn}
 use Rattle.next.specs.Known.{stretch}
 
 take-more : (n : ℕ) (x : ℕ) (l : List ℕ) → 0 < n → take n (x ∷ l) ≡ x ∷ take (n - 1) l
@@ -30,11 +30,11 @@ stretch-length list i t h k = simp (length-take, length-drop) (omega arith)
 
 -- ---- its unvisited links
 module _ (list st : List ℕ) (i t : ℕ) (h : i < t) (k : t ≤ length list) where
-  pub opens-hit : isOpen st (getD list i 0) ≡ true → opens st (stretch list i t) ≡ getD list i 0 ∷ opens st (stretch list (i + 1) t)
-  opens-hit e = rw (stretch-more list i t h k, e)
+  pub unvisited-in-hit : isUnvisited st (getD list i 0) ≡ true → unvisitedIn st (stretch list i t) ≡ getD list i 0 ∷ unvisitedIn st (stretch list (i + 1) t)
+  unvisited-in-hit e = rw (stretch-more list i t h k, e)
 
-  pub opens-miss : isOpen st (getD list i 0) ≡ false → opens st (stretch list i t) ≡ opens st (stretch list (i + 1) t)
-  opens-miss e = rw (stretch-more list i t h k, e)
+  pub unvisited-in-miss : isUnvisited st (getD list i 0) ≡ false → unvisitedIn st (stretch list i t) ≡ unvisitedIn st (stretch list (i + 1) t)
+  unvisited-in-miss e = rw (stretch-more list i t h k, e)
 
-pub opens-none : (list st : List ℕ) (t : ℕ) → opens st (stretch list t t) ≡ []
-opens-none list st t = rw (stretch-none list t)
+pub unvisited-in-none : (list st : List ℕ) (t : ℕ) → unvisitedIn st (stretch list t t) ≡ []
+unvisited-in-none list st t = rw (stretch-none list t)

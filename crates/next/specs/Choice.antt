@@ -14,26 +14,26 @@ use Rattle.graph.specs.Graph.{Graph}
 use Rattle.next.specs.declared.Next.{Next}
 use Rattle.next.specs.declared.Next.the-variants.{Link, Nothing}
 use Rattle.next.specs.declared.Across.the-variants.{Named, Choice}
-use Rattle.next.specs.Next.{isOpen, opens, onlyOpen, Node, bridge, crossing, nodeOf, runs, metFirst, best, firstMet, acrossFrom, nextAt, acrossAt, nextLink}
-use Rattle.next.specs.Known.{Unvisited}
-use Rattle.next.specs.States.{open-unvisited, only-unvisited}
+use Rattle.next.specs.Next.{isUnvisited, unvisitedIn, onlyUnvisited, Node, bridge, crossing, nodeOf, runs, metFirst, best, firstMet, acrossFrom, nextAt, acrossAt, nextLink}
+use Rattle.next.specs.Known.{NamesUnvisited}
+use Rattle.next.specs.States.{names-unvisited, only-unvisited}
 
 -- a link stands in a list
 abbrev pub Mem : ℕ → List ℕ → Type 0
 Mem = List·Memᴰ
 
 -- ---- the unvisited links of a list
-pub opens-in : (st l : List ℕ) (x : ℕ) → Mem x l → isOpen st x ≡ true → Mem x (opens st l)
-opens-in st [] x m o = absurd (List·Memᴰ·not-nil m)
-opens-in st (y ∷ l) x m o = pick-ind (isOpen st y) (y ∷ opens st l) (opens st l) (Mem x)
-    (λ _. ⊎-elim (λ q. List·Memᴰ·head q) (λ k. List·Memᴰ·tail (opens-in st l x k o)) (List·Memᴰ·cases-cons m))
-    (λ n. ⊎-elim (λ (q : x ≡ y). absurd (true≢false o (rw q n))) (λ k. opens-in st l x k o) (List·Memᴰ·cases-cons m))
+pub unvisited-in-in : (st l : List ℕ) (x : ℕ) → Mem x l → isUnvisited st x ≡ true → Mem x (unvisitedIn st l)
+unvisited-in-in st [] x m o = absurd (List·Memᴰ·not-nil m)
+unvisited-in-in st (y ∷ l) x m o = pick-ind (isUnvisited st y) (y ∷ unvisitedIn st l) (unvisitedIn st l) (Mem x)
+    (λ _. ⊎-elim (λ q. List·Memᴰ·head q) (λ k. List·Memᴰ·tail (unvisited-in-in st l x k o)) (List·Memᴰ·cases-cons m))
+    (λ n. ⊎-elim (λ (q : x ≡ y). absurd (true≢false o (rw q n))) (λ k. unvisited-in-in st l x k o) (List·Memᴰ·cases-cons m))
 
-pub opens-of : (st l : List ℕ) (x : ℕ) → Mem x (opens st l) → Mem x l × (isOpen st x ≡ true)
-opens-of st [] x = λ m. absurd (List·Memᴰ·not-nil m)
-opens-of st (y ∷ l) x = pick-ind (isOpen st y) (y ∷ opens st l) (opens st l) (λ r. Mem x r → Mem x (y ∷ l) × (isOpen st x ≡ true))
-    (λ t m. ⊎-elim (λ (q : x ≡ y). (List·Memᴰ·head q, rw q t)) (λ k. let r = opens-of st l x k in (List·Memᴰ·tail (r .0), r .1)) (List·Memᴰ·cases-cons m))
-    (λ n m. let r = opens-of st l x m in (List·Memᴰ·tail (r .0), r .1))
+pub unvisited-in-of : (st l : List ℕ) (x : ℕ) → Mem x (unvisitedIn st l) → Mem x l × (isUnvisited st x ≡ true)
+unvisited-in-of st [] x = λ m. absurd (List·Memᴰ·not-nil m)
+unvisited-in-of st (y ∷ l) x = pick-ind (isUnvisited st y) (y ∷ unvisitedIn st l) (unvisitedIn st l) (λ r. Mem x r → Mem x (y ∷ l) × (isUnvisited st x ≡ true))
+    (λ t m. ⊎-elim (λ (q : x ≡ y). (List·Memᴰ·head q, rw q t)) (λ k. let r = unvisited-in-of st l x k in (List·Memᴰ·tail (r .0), r .1)) (List·Memᴰ·cases-cons m))
+    (λ n m. let r = unvisited-in-of st l x m in (List·Memᴰ·tail (r .0), r .1))
 
 -- ---- the first met of a list, for a strict order
 module _ (lt : ℕ → ℕ → Bool) where
@@ -106,37 +106,37 @@ crossing-of (x ∷ (y ∷ (z ∷ l))) n = refl
 
 -- at a `Bridge` with entries x and y: the other entry, if it is unvisited
 module _ (st : List ℕ) (e x y : ℕ) where
-  pub across-first : e ≡ x → onlyOpen st y ≡ acrossFrom st e x y
-  across-first q = ap (λ (b : Bool). onlyOpen st (pick b y x)) (sym (eq-eqb x e (sym q)))
+  pub across-first : e ≡ x → onlyUnvisited st y ≡ acrossFrom st e x y
+  across-first q = ap (λ (b : Bool). onlyUnvisited st (pick b y x)) (sym (eq-eqb x e (sym q)))
 
-  pub across-second : (e ≡ x → ⊥) → onlyOpen st x ≡ acrossFrom st e x y
-  across-second n = ap (λ (b : Bool). onlyOpen st (pick b y x)) (sym (ne-eqb x e (λ q. n (sym q))))
+  pub across-second : (e ≡ x → ⊥) → onlyUnvisited st x ≡ acrossFrom st e x y
+  across-second n = ap (λ (b : Bool). onlyUnvisited st (pick b y x)) (sym (ne-eqb x e (λ q. n (sym q))))
 
 module _ (g : Graph) (sense : Bool) (st : List ℕ) (v e x y : ℕ) (two : g .entries v ≡ x ∷ (y ∷ [])) where
-  pub next-of-first : e ≡ x → nextLink g sense st v e ≡ onlyOpen st y
+  pub next-of-first : e ≡ x → nextLink g sense st v e ≡ onlyUnvisited st y
   unfolding nextLink
   next-of-first q = rw two (sym (across-first st e x y q))
 
-  pub next-of-second : (e ≡ x → ⊥) → nextLink g sense st v e ≡ onlyOpen st x
+  pub next-of-second : (e ≡ x → ⊥) → nextLink g sense st v e ≡ onlyUnvisited st x
   unfolding nextLink
   next-of-second n = rw two (sym (across-second st e x y n))
 
 -- what is named is unvisited
-pub next-unvisited : (g : Graph) (sense : Bool) (st : List ℕ) (v e : ℕ) → Unvisited st (nextLink g sense st v e)
+pub next-unvisited : (g : Graph) (sense : Bool) (st : List ℕ) (v e : ℕ) → NamesUnvisited st (nextLink g sense st v e)
 unfolding nextLink
 next-unvisited g sense st v e = at (nodeOf (g .entries v))
   where
-    met : (o : List ℕ) → ((x : ℕ) → Mem x o → isOpen st x ≡ true) → Unvisited st (firstMet (metFirst g sense v e) o)
+    met : (o : List ℕ) → ((x : ℕ) → Mem x o → isUnvisited st x ≡ true) → NamesUnvisited st (firstMet (metFirst g sense v e) o)
     met [] h = tt
-    met (x ∷ o) h = let r = best (metFirst g sense v e) x o in open-unvisited st r (h r (best-in (metFirst g sense v e) x o))
+    met (x ∷ o) h = let r = best (metFirst g sense v e) x o in names-unvisited st r (h r (best-in (metFirst g sense v e) x o))
 
-    at : (n : Node) → Unvisited st (nextAt g sense st v e n)
+    at : (n : Node) → NamesUnvisited st (nextAt g sense st v e n)
     at (bridge x y) = only-unvisited st (pick (eqb x e) y x)
-    at (crossing l) = met (opens st l) (λ x m. opens-of st l x m .1)
+    at (crossing l) = met (unvisitedIn st l) (λ x m. unvisited-in-of st l x m .1)
 
 -- an answer that is the next link in any graph of the links lent, with the fact that a caller needs
 pub next-answer : (of : List ℕ → List ℕ → Graph) (sense : Bool) (st : List ℕ) (v e : ℕ) (r : Next) → ((bid top : List ℕ) → r ≡ nextLink (of bid top) sense st v e)
-    → ((bid top : List ℕ) → r ≡ nextLink (of bid top) sense st v e) × Unvisited st r
+    → ((bid top : List ℕ) → r ≡ nextLink (of bid top) sense st v e) × NamesUnvisited st r
 next-answer of sense st v e r h = (h, rw (h [] []) (next-unvisited (of [] []) sense st v e))
 
 -- ---- what the code asks first, by a list of entries
@@ -164,9 +164,9 @@ module _ (st : List ℕ) (e : ℕ) where
 
 -- f is unvisited and at the node, and no other unvisited link there is met before it, turning from e
 pub record Foremost (g : Graph) (sense : Bool) (st : List ℕ) (v e f : ℕ) : Type 0 where
-  pub unvisited : isOpen st f ≡ true
+  pub unvisited : isUnvisited st f ≡ true
   pub at-node : Mem f (g .entries v)
-  pub none-before : (x : ℕ) → Mem x (g .entries v) → isOpen st x ≡ true → metFirst g sense v e x f ≡ true → ⊥
+  pub none-before : (x : ℕ) → Mem x (g .entries v) → isUnvisited st x ≡ true → metFirst g sense v e x f ≡ true → ⊥
 
 module _ (g : Graph) (sense : Bool) (st : List ℕ) (v e : ℕ) where
   abbrev lt : ℕ → ℕ → Bool
@@ -180,16 +180,16 @@ module _ (g : Graph) (sense : Bool) (st : List ℕ) (v e : ℕ) where
 
   -- at a `Cross`
   module _ (cross : length (g .entries v) ≡ 2 → ⊥) where
-    pub next-met : nextLink g sense st v e ≡ firstMet lt (opens st (g .entries v))
+    pub next-met : nextLink g sense st v e ≡ firstMet lt (unvisitedIn st (g .entries v))
     unfolding nextLink
     next-met = ap (nextAt g sense st v e) (crossing-of (g .entries v) cross)
 
     pub next-at-cross : (f : ℕ) → nextLink g sense st v e ≡ Link f → Foremost g sense st v e f
     next-at-cross f q =
-        let h = first-met lt irr trans (opens st (g .entries v)) f (sym next-met ∙ q) in
-        let m = opens-of st (g .entries v) f (h .0) in
-        record { unvisited = m .1; at-node = m .0; none-before = λ x k o t. h .1 x (opens-in st (g .entries v) x k o) (true-is t) }
+        let h = first-met lt irr trans (unvisitedIn st (g .entries v)) f (sym next-met ∙ q) in
+        let m = unvisited-in-of st (g .entries v) f (h .0) in
+        record { unvisited = m .1; at-node = m .0; none-before = λ x k o t. h .1 x (unvisited-in-in st (g .entries v) x k o) (true-is t) }
 
     -- nothing is named where nothing is unvisited
-    pub none-at-cross : nextLink g sense st v e ≡ Nothing → (x : ℕ) → Mem x (g .entries v) → isOpen st x ≡ true → ⊥
-    none-at-cross q x m o = none-met lt (opens st (g .entries v)) x (sym next-met ∙ q) (opens-in st (g .entries v) x m o)
+    pub none-at-cross : nextLink g sense st v e ≡ Nothing → (x : ℕ) → Mem x (g .entries v) → isUnvisited st x ≡ true → ⊥
+    none-at-cross q x m o = none-met lt (unvisitedIn st (g .entries v)) x (sym next-met ∙ q) (unvisited-in-in st (g .entries v) x m o)

@@ -14,7 +14,7 @@ use Rattle.graph.specs.Graph.{Lent, Graph, graphOf, linkCount, nodeCount}
 use Rattle.graph.specs.Checks.{Room}
 use Rattle.graph.specs.Fine.{FineGraph}
 use Rattle.graph.specs.Total.{part-length}
-use Rattle.next.specs.Next.{isOpen, topmost}
+use Rattle.next.specs.Next.{isUnvisited, topmost}
 use Rattle.next.specs.Known.{Links, Nodes}
 use Rattle.next.specs.Choice.{Mem}
 use Rattle.next.specs.Topmost.{Starts, Topmost, first-topmost}
@@ -53,8 +53,8 @@ module _ {g : Lent} {top state : List ℕ} {r : Room} (h : FineGraph g top state
     }
 
   -- ---- the scan's first link at a `Cross`: k is the lowest unvisited link
-  module _ (st : List ℕ) (k : ℕ) (l : k < linkCount g) (o : isOpen st k ≡ true) (lowest : (x : ℕ) → isOpen st x ≡ true → k ≤ x) where
-    start-there : (x : ℕ) → Mem x (G .entries (G .aNode k)) → isOpen st x ≡ true → Starts G (G .a k) x
+  module _ (st : List ℕ) (k : ℕ) (l : k < linkCount g) (o : isUnvisited st k ≡ true) (lowest : (x : ℕ) → isUnvisited st x ≡ true → k ≤ x) where
+    start-there : (x : ℕ) → Mem x (G .entries (G .aNode k)) → isUnvisited st x ≡ true → Starts G (G .a k) x
     start-there x m ox =
         let b = h .lists .below (G .aNode k) x m in
         let s = h .links .strict x b in

@@ -48,9 +48,9 @@ pub node-entries : {aId start list : List ℕ} {n v : ℕ} → Nodes aId start l
 node-entries {v = v} h l = record { inside = l; rises = h .rises v l; ends = h .ends v l; numbers = h .numbers v l }
 
 -- an unvisited link, or nothing
-abbrev pub Unvisited : List ℕ → Next → Type 0
-Unvisited st Nothing = Unit
-Unvisited st (Link k) = (k < length st) × (getD st k 1 ≡ 0)
+abbrev pub NamesUnvisited : List ℕ → Next → Type 0
+NamesUnvisited st Nothing = Unit
+NamesUnvisited st (Link k) = (k < length st) × (getD st k 1 ≡ 0)
 
 -- the links alone, without their other nodes, their tops and the nodes' lists: all that directions are read from
 abbrev pub linksOf : List ℤ → List ℤ → List ℤ → List ℤ → List ℕ → Graph

@@ -17,13 +17,13 @@ use Rattle.next.specs.declared.Across.the-variants.{Named, Choice}
 -- ---- states: 0 unvisited, 1 skipped, 2 walked in a hole, 3 walked in a hull
 
 -- link k is unvisited
-abbrev pub isOpen : List ℕ → ℕ → Bool
-isOpen st k = eqb (getD st k 1) 0
+abbrev pub isUnvisited : List ℕ → ℕ → Bool
+isUnvisited st k = eqb (getD st k 1) 0
 
 -- the unvisited links of a list
-abbrev pub opens : List ℕ → List ℕ → List ℕ
-opens st [] = []
-opens st (x ∷ l) = pick (isOpen st x) (x ∷ opens st l) (opens st l)
+abbrev pub unvisitedIn : List ℕ → List ℕ → List ℕ
+unvisitedIn st [] = []
+unvisitedIn st (x ∷ l) = pick (isUnvisited st x) (x ∷ unvisitedIn st l) (unvisitedIn st l)
 
 -- how many links are unvisited
 abbrev pub unvisited : List ℕ → ℕ
@@ -31,8 +31,8 @@ unvisited [] = 0
 unvisited (x ∷ st) = pick (eqb x 0) (suc (unvisited st)) (unvisited st)
 
 -- a link that the rule names, if it is unvisited
-abbrev pub onlyOpen : List ℕ → ℕ → Next
-onlyOpen st k = pick (isOpen st k) (Link k) Nothing
+abbrev pub onlyUnvisited : List ℕ → ℕ → Next
+onlyUnvisited st k = pick (isUnvisited st k) (Link k) Nothing
 
 -- ---- nodes
 
@@ -73,12 +73,12 @@ firstMet lt (x ∷ l) = Link (best lt x l)
 
 -- at a `Bridge` with entries x and y: the one that is not e
 abbrev pub acrossFrom : List ℕ → ℕ → ℕ → ℕ → Next
-acrossFrom st e x y = onlyOpen st (pick (eqb x e) y x)
+acrossFrom st e x y = onlyUnvisited st (pick (eqb x e) y x)
 
 -- "Next link at a `Bridge`: the other entry. At a `Cross`: of the unvisited links, the first met when turning from the link just walked, clockwise if the sense is true."
 abbrev pub nextAt : Graph → Bool → List ℕ → ℕ → ℕ → Node → Next
 nextAt g sense st v e (bridge x y) = acrossFrom st e x y
-nextAt g sense st v e (crossing l) = firstMet (metFirst g sense v e) (opens st l)
+nextAt g sense st v e (crossing l) = firstMet (metFirst g sense v e) (unvisitedIn st l)
 
 -- what the code asks first: the link named at a `Bridge`, or that there is a choice
 abbrev pub acrossAt : List ℕ → ℕ → Node → Across
@@ -92,7 +92,7 @@ nextLink g sense st v e = nextAt g sense st v e (nodeOf (g .entries v))
 
 -- "an entry other than k replaces the choice unless it is visited, skipped, or its b is strictly clockwise of the choice"
 abbrev pub replaces : Graph → List ℕ → ℕ → ℕ → ℕ → Bool
-replaces g st k c x = not (eqb x k) && isOpen st x && not (clockwise (g .a c) (g .b c) (g .b x))
+replaces g st k c x = not (eqb x k) && isUnvisited st x && not (clockwise (g .a c) (g .b c) (g .b x))
 
 abbrev pub topmost : Graph → List ℕ → ℕ → ℕ → List ℕ → ℕ
 topmost g st k c [] = c
@@ -100,7 +100,7 @@ topmost g st k c (x ∷ l) = topmost g st k (pick (replaces g st k c x) x c) l
 
 -- "A `Bridge` with entries l0, l1 gives l0 if l0.a, l0.b, l1.b turn strictly clockwise, else l1. A `Cross` starts from k and goes through its list."
 abbrev pub firstAt : Graph → List ℕ → ℕ → Node → Next
-firstAt g st k (bridge x y) = onlyOpen st (pick (clockwise (g .a x) (g .b x) (g .b y)) x y)
+firstAt g st k (bridge x y) = onlyUnvisited st (pick (clockwise (g .a x) (g .b x) (g .b y)) x y)
 firstAt g st k (crossing l) = Link (topmost g st k k l)
 
 -- the first link of the walk that the scan starts at link k

@@ -4,12 +4,12 @@ use mathlib.Core.Path.{_≡_}
 use mathlib.Core.Bool.{true}
 use mathlib.Core.List.{List}
 use lib.ListN.{getD}
-use Rattle.next.specs.Next.{isOpen, opens}
+use Rattle.next.specs.Next.{isUnvisited, unvisitedIn}
 use Rattle.next.specs.Known.{stretch}
 
 -- from one position up to another nothing unvisited stands before position r, and r is the other or has an unvisited link
 pub record Passed (list st : List ℕ) (from to r : ℕ) : Type 0 where
   pub low : from ≤ r
   pub high : r ≤ to
-  pub rest : opens st (stretch list from to) ≡ opens st (stretch list r to)
-  pub here : r < to → isOpen st (getD list r 0) ≡ true
+  pub rest : unvisitedIn st (stretch list from to) ≡ unvisitedIn st (stretch list r to)
+  pub here : r < to → isUnvisited st (getD list r 0) ≡ true

@@ -9,8 +9,8 @@ use lib.ListN.{length, getD}
 use borrow.Author.Tests.{eqb-true, eq-eqb, ne-eqb}
 use Rattle.laws.specs.Test.{pick-ind, true≢false}
 use Rattle.next.specs.declared.Next.the-variants.{Link, Nothing}
-use Rattle.next.specs.Next.{isOpen, onlyOpen}
-use Rattle.next.specs.Known.{Unvisited}
+use Rattle.next.specs.Next.{isUnvisited, onlyUnvisited}
+use Rattle.next.specs.Known.{NamesUnvisited}
 
 -- ---- what stands past the end of a list plays no role within it
 default-free : (l : List ℕ) (k d e : ℕ) → k < length l → getD l k d ≡ getD l k e
@@ -19,26 +19,26 @@ default-free (x ∷ l) zero d e h = refl
 default-free (x ∷ l) (suc k) d e h = default-free l k d e (le-of-suc-le-suc h)
 
 -- ---- from the code's read
-pub read-open : (st : List ℕ) (k : ℕ) → k < length st → getD st k 0 ≡ 0 → isOpen st k ≡ true
-read-open st k h e = eq-eqb _ _ (default-free st k 1 0 h ∙ e)
+pub read-unvisited : (st : List ℕ) (k : ℕ) → k < length st → getD st k 0 ≡ 0 → isUnvisited st k ≡ true
+read-unvisited st k h e = eq-eqb _ _ (default-free st k 1 0 h ∙ e)
 
-pub read-shut : (st : List ℕ) (k : ℕ) → k < length st → (getD st k 0 ≡ 0 → ⊥) → isOpen st k ≡ false
+pub read-shut : (st : List ℕ) (k : ℕ) → k < length st → (getD st k 0 ≡ 0 → ⊥) → isUnvisited st k ≡ false
 read-shut st k h n = ne-eqb _ _ (λ e. n (default-free st k 0 1 h ∙ e))
 
-pub unvisited-open : (st : List ℕ) (k : ℕ) → Unvisited st (Link k) → isOpen st k ≡ true
-unvisited-open st k h = eq-eqb _ _ (h .1)
+pub is-unvisited : (st : List ℕ) (k : ℕ) → NamesUnvisited st (Link k) → isUnvisited st k ≡ true
+is-unvisited st k h = eq-eqb _ _ (h .1)
 
 -- ---- to it
-pub open-below : (st : List ℕ) (k : ℕ) → isOpen st k ≡ true → k < length st
-open-below [] k e = absurd (true≢false e refl)
-open-below (x ∷ st) zero e = omega arith
-open-below (x ∷ st) (suc k) e = omega (arith, open-below st k e)
+pub unvisited-below : (st : List ℕ) (k : ℕ) → isUnvisited st k ≡ true → k < length st
+unvisited-below [] k e = absurd (true≢false e refl)
+unvisited-below (x ∷ st) zero e = omega arith
+unvisited-below (x ∷ st) (suc k) e = omega (arith, unvisited-below st k e)
 
-pub open-unvisited : (st : List ℕ) (k : ℕ) → isOpen st k ≡ true → Unvisited st (Link k)
-open-unvisited st k e = (open-below st k e, eqb-true _ _ e)
+pub names-unvisited : (st : List ℕ) (k : ℕ) → isUnvisited st k ≡ true → NamesUnvisited st (Link k)
+names-unvisited st k e = (unvisited-below st k e, eqb-true _ _ e)
 
-pub only-unvisited : (st : List ℕ) (k : ℕ) → Unvisited st (onlyOpen st k)
-only-unvisited st k = pick-ind (isOpen st k) (Link k) Nothing (Unvisited st) (open-unvisited st k) (λ _. tt)
+pub only-unvisited : (st : List ℕ) (k : ℕ) → NamesUnvisited st (onlyUnvisited st k)
+only-unvisited st k = pick-ind (isUnvisited st k) (Link k) Nothing (NamesUnvisited st) (names-unvisited st k) (λ _. tt)
 
-pub open-read : (st : List ℕ) (k : ℕ) → isOpen st k ≡ true → getD st k 0 ≡ 0
-open-read st k e = default-free st k 0 1 (open-below st k e) ∙ eqb-true _ _ e
+pub unvisited-read : (st : List ℕ) (k : ℕ) → isUnvisited st k ≡ true → getD st k 0 ≡ 0
+unvisited-read st k e = default-free st k 0 1 (unvisited-below st k e) ∙ eqb-true _ _ e

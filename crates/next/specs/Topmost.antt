@@ -20,9 +20,9 @@ use Rattle.turn.specs.Points.{before, fromTo, cross, turn, clockwise}
 use Rattle.turn.specs.Directions.{cross-anti, cross-self}
 use Rattle.graph.specs.Graph.{Graph}
 use Rattle.next.specs.declared.Next.the-variants.{Link}
-use Rattle.next.specs.Next.{isOpen, onlyOpen, Node, bridge, crossing, nodeOf, replaces, topmost, firstAt, firstLink}
-use Rattle.next.specs.Known.{Unvisited}
-use Rattle.next.specs.States.{open-unvisited, only-unvisited}
+use Rattle.next.specs.Next.{isUnvisited, onlyUnvisited, Node, bridge, crossing, nodeOf, replaces, topmost, firstAt, firstLink}
+use Rattle.next.specs.Known.{NamesUnvisited}
+use Rattle.next.specs.States.{names-unvisited, only-unvisited}
 use Rattle.next.specs.Choice.{Mem, crossing-of}
 
 -- ---- what an entry that replaces the choice is, and one that does not
@@ -30,17 +30,17 @@ module _ (g : Graph) (st : List ℕ) (k c x : ℕ) where
   abbrev cw : Bool
   cw = clockwise (g .a c) (g .b c) (g .b x)
 
-  parts : replaces g st k c x ≡ true → (isOpen st x ≡ true) × (cw ≡ false)
+  parts : replaces g st k c x ≡ true → (isUnvisited st x ≡ true) × (cw ≡ false)
   parts e =
-      let p = and-true (not (eqb x k) && isOpen st x) (not cw) e in
-      (and-true (not (eqb x k)) (isOpen st x) (p .0) .1, not-is cw (p .1))
+      let p = and-true (not (eqb x k) && isUnvisited st x) (not cw) e in
+      (and-true (not (eqb x k)) (isUnvisited st x) (p .0) .1, not-is cw (p .1))
 
-  passed : replaces g st k c x ≡ false → isOpen st x ≡ true → (x ≡ k) ⊎ (cw ≡ true)
+  passed : replaces g st k c x ≡ false → isUnvisited st x ≡ true → (x ≡ k) ⊎ (cw ≡ true)
   passed e o =
       ⊎-elim
-      (λ h. ⊎-elim (λ n. inl (eqb-true x k (not-false (eqb x k) n))) (λ n. absurd (true≢false o n)) (and-false (not (eqb x k)) (isOpen st x) h))
+      (λ h. ⊎-elim (λ n. inl (eqb-true x k (not-false (eqb x k) n))) (λ n. absurd (true≢false o n)) (and-false (not (eqb x k)) (isUnvisited st x) h))
       (λ n. inr (not-false cw n))
-      (and-false (not (eqb x k) && isOpen st x) (not cw) e)
+      (and-false (not (eqb x k) && isUnvisited st x) (not cw) e)
 
 -- the points alone matter
 pub topmost-same : (g h : Graph) (st : List ℕ) (k : ℕ) → ((c x : ℕ) → replaces g st k c x ≡ replaces h st k c x) → (c : ℕ) (l : List ℕ) → topmost g st k c l ≡ topmost h st k c l
@@ -49,10 +49,10 @@ topmost-same g h st k e c (x ∷ l) = ap (λ (b : Bool). topmost g st k (pick b 
 
 -- ---- unvisited, and among the entries
 module _ (g : Graph) (st : List ℕ) (k : ℕ) where
-  topmost-open : (c : ℕ) (l : List ℕ) → isOpen st c ≡ true → isOpen st (topmost g st k c l) ≡ true
-  topmost-open c [] o = o
-  topmost-open c (x ∷ l) o =
-      topmost-open (pick (replaces g st k c x) x c) l (pick-ind (replaces g st k c x) x c (λ d. isOpen st d ≡ true) (λ e. parts g st k c x e .0) (λ _. o))
+  pub topmost-unvisited : (c : ℕ) (l : List ℕ) → isUnvisited st c ≡ true → isUnvisited st (topmost g st k c l) ≡ true
+  topmost-unvisited c [] o = o
+  topmost-unvisited c (x ∷ l) o =
+      topmost-unvisited (pick (replaces g st k c x) x c) l (pick-ind (replaces g st k c x) x c (λ d. isUnvisited st d ≡ true) (λ e. parts g st k c x e .0) (λ _. o))
 
   topmost-in : (c : ℕ) (l : List ℕ) → Mem (topmost g st k c l) (c ∷ l)
   topmost-in c [] = List·Memᴰ·head refl
@@ -62,16 +62,16 @@ module _ (g : Graph) (st : List ℕ) (k : ℕ) where
       (topmost-in (pick (replaces g st k c x) x c) l)
 
 -- what is named is unvisited
-pub first-unvisited : (g : Graph) (st : List ℕ) (k : ℕ) → isOpen st k ≡ true → Unvisited st (firstLink g st k)
+pub first-unvisited : (g : Graph) (st : List ℕ) (k : ℕ) → isUnvisited st k ≡ true → NamesUnvisited st (firstLink g st k)
 unfolding firstLink
 first-unvisited g st k o = at (nodeOf (g .entries (g .aNode k)))
   where
-    at : (n : Node) → Unvisited st (firstAt g st k n)
+    at : (n : Node) → NamesUnvisited st (firstAt g st k n)
     at (bridge x y) = only-unvisited st (pick (clockwise (g .a x) (g .b x) (g .b y)) x y)
-    at (crossing l) = open-unvisited st (topmost g st k k l) (topmost-open g st k k l o)
+    at (crossing l) = names-unvisited st (topmost g st k k l) (topmost-unvisited g st k k l o)
 
 -- at a `Bridge`: "l0 if l0.a, l0.b, l1.b turn strictly clockwise, else l1", if it is unvisited
-pub first-at-bridge : (g : Graph) (st : List ℕ) (k x y : ℕ) → g .entries (g .aNode k) ≡ x ∷ (y ∷ []) → firstLink g st k ≡ onlyOpen st (pick (clockwise (g .a x) (g .b x) (g .b y)) x y)
+pub first-at-bridge : (g : Graph) (st : List ℕ) (k x y : ℕ) → g .entries (g .aNode k) ≡ x ∷ (y ∷ []) → firstLink g st k ≡ onlyUnvisited st (pick (clockwise (g .a x) (g .b x) (g .b y)) x y)
 unfolding firstLink
 first-at-bridge g st k x y two = rw two
 
@@ -161,7 +161,7 @@ module _ (g : Graph) (st : List ℕ) (p : Point) where
   record High (c : ℕ) (l : List ℕ) (r : ℕ) : Type 0 where
     starts : Starts g p r
     choice : NotUp (way r) (way c)
-    others : (x : ℕ) → Mem x l → isOpen st x ≡ true → NotUp (way r) (way x)
+    others : (x : ℕ) → Mem x l → isUnvisited st x ≡ true → NotUp (way r) (way x)
 
   not-up-self : (x : ℕ) → NotUp (way x) (way x)
   not-up-self x = rw (cross-self (way x)) (yes! tt)
@@ -188,7 +188,7 @@ module _ (g : Graph) (st : List ℕ) (p : Point) where
 
   module _ (k : ℕ) (start : Starts g p k) where
     abbrev AllStart : List ℕ → Type 0
-    AllStart l = (x : ℕ) → Mem x l → isOpen st x ≡ true → Starts g p x
+    AllStart l = (x : ℕ) → Mem x l → isUnvisited st x ≡ true → Starts g p x
 
     -- a turn in which entry x replaces the choice c, and one in which it does not
     module _ (c x : ℕ) (l : List ℕ) (s : Starts g p c) (u : NotUp (way c) (way k)) (h : AllStart (x ∷ l)) where
@@ -202,7 +202,7 @@ module _ (g : Graph) (st : List ℕ) (p : Point) where
             others = λ y m o. ⊎-elim (λ (q : y ≡ x). rw q (i .choice)) (λ j. i .others y j o) (List·Memᴰ·cases-cons m);
           }
 
-      at-entry : (r : ℕ) → High c l r → isOpen st x ≡ true → (x ≡ k) ⊎ (clockwise (g .a c) (g .b c) (g .b x) ≡ true) → NotUp (way r) (way x)
+      at-entry : (r : ℕ) → High c l r → isUnvisited st x ≡ true → (x ≡ k) ⊎ (clockwise (g .a c) (g .b c) (g .b x) ≡ true) → NotUp (way r) (way x)
       at-entry r i o (inl q) = rw q (go-on r c k (i .starts) s start (i .choice) u)
       at-entry r i o (inr q) = go-on r c x (i .starts) s (h x (List·Memᴰ·head refl) o) (i .choice) (not-up-old c x s q)
 
@@ -210,7 +210,7 @@ module _ (g : Graph) (st : List ℕ) (p : Point) where
       kept e r i = record {
         starts = i .starts;
         choice = i .choice;
-        others = λ y m o. ⊎-elim (λ (q : y ≡ x). let ox : isOpen st x ≡ true = rw q at o in rw q (at-entry r i ox (passed g st k c x e ox))) (λ j. i .others y j o) (List·Memᴰ·cases-cons m);
+        others = λ y m o. ⊎-elim (λ (q : y ≡ x). let ox : isUnvisited st x ≡ true = rw q at o in rw q (at-entry r i ox (passed g st k c x e ox))) (λ j. i .others y j o) (List·Memᴰ·cases-cons m);
       }
 
     high : (c : ℕ) (l : List ℕ) → Starts g p c → NotUp (way c) (way k) → AllStart l → High c l (topmost g st k c l)
@@ -225,9 +225,9 @@ module _ (g : Graph) (st : List ℕ) (p : Point) where
 -- At a `Cross` where the unvisited entries and k start at one point, as they do where k is the lowest unvisited link of a graph in order: the first link is a link, unvisited,
 -- one of the entries if k is, and starts there; and no unvisited entry is strictly counterclockwise of it.
 pub record Topmost (g : Graph) (st : List ℕ) (p : Point) (l : List ℕ) (r : ℕ) : Type 0 where
-  pub unvisited : isOpen st r ≡ true
+  pub unvisited : isUnvisited st r ≡ true
   pub starts : Starts g p r
-  pub none-above : (x : ℕ) → Mem x l → isOpen st x ≡ true → counterclockwise (g .a r) (g .b r) (g .b x) ≡ true → ⊥
+  pub none-above : (x : ℕ) → Mem x l → isUnvisited st x ≡ true → counterclockwise (g .a r) (g .b r) (g .b x) ≡ true → ⊥
 
 module _ (g : Graph) (st : List ℕ) (k : ℕ) (at-cross : length (g .entries (g .aNode k)) ≡ 2 → ⊥) where
   abbrev entries : List ℕ
@@ -240,13 +240,13 @@ module _ (g : Graph) (st : List ℕ) (k : ℕ) (at-cross : length (g .entries (g
   pub first-among : Mem k entries → Mem (topmost g st k k entries) entries
   first-among m = ⊎-elim (λ q. rw q m) (λ j. j) (List·Memᴰ·cases-cons (topmost-in g st k k entries))
 
-  pub first-topmost : (p : Point) → isOpen st k ≡ true → Starts g p k → ((x : ℕ) → Mem x entries → isOpen st x ≡ true → Starts g p x)
+  pub first-topmost : (p : Point) → isUnvisited st k ≡ true → Starts g p k → ((x : ℕ) → Mem x entries → isUnvisited st x ≡ true → Starts g p x)
       → Topmost g st p entries (topmost g st k k entries)
   first-topmost p o s h =
       let r = topmost g st k k entries in
       let i = high g st p k s k entries s (not-up-self g st p k) h in
       record {
-        unvisited = topmost-open g st k k entries o;
+        unvisited = topmost-unvisited g st k k entries o;
         starts = i .starts;
         none-above = λ x m ox e. no (sgn (cross (fromTo p (g .b r)) (fromTo p (g .b x)))) (i .others x m ox) (sym (gtZ-sgn (turn p (g .b r) (g .b x))) ∙ (rw (i .starts .here) at e));
       }

@@ -12,8 +12,8 @@ ghost use Rattle.turn.specs.Points.{Short, clockwise, cross};
 ghost use Rattle.turn.specs.Angle.{turned};
 ghost use Rattle.turn.specs.Rank.{byRank};
 ghost use Rattle.graph.specs.Graph.{lent, graphOf, pointAt, part};
-ghost use Rattle.next.specs.Next.{isOpen, opens, onlyOpen, nodeOf, runs, metFirst, best, firstMet, acrossAt, nextLink, replaces, topmost, firstLink};
-ghost use Rattle.next.specs.Known.{Links, Nodes, Entries, Numbers, Unvisited, linksOf, stretch, rayOf, sideOf};
+ghost use Rattle.next.specs.Next.{isUnvisited, unvisitedIn, onlyUnvisited, nodeOf, runs, metFirst, best, firstMet, acrossAt, nextLink, replaces, topmost, firstLink};
+ghost use Rattle.next.specs.Known.{Links, Nodes, Entries, Numbers, NamesUnvisited, linksOf, stretch, rayOf, sideOf};
 ghost use Rattle.next.specs.Passed.{Passed};
 
 // What the rules name as the first, last or next link: an unvisited link, or nothing.
@@ -68,7 +68,7 @@ fn point(x: &[i32], y: &[i32], k: usize) -> Point
 // A link that the rule names, if it is unvisited.
 fn only_unvisited(state: &[u8], k: usize) -> Next
     requires { ⌜ k < length (now state) ⌝ }
-    ensures { λ r. ⌜ r ≡ onlyOpen (now (state .entry)) k ⌝ }
+    ensures { λ r. ⌜ r ≡ onlyUnvisited (now (state .entry)) k ⌝ }
 {
     if state[k] == 0 {
         return Next::Link(k);
@@ -169,8 +169,8 @@ fn nearest(
     requires { ⌜ Links (now ax) (now ay) (now bx) (now by) (length (now aid)) ⌝ }
     requires { ⌜ (length (now state) ≡ length (now aid)) × (link < length (now aid)) × (k < length (now aid)) ⌝ }
     requires { ⌜ (second ≤ to) × (to ≤ length (now list)) × (Numbers (now list) second to (length (now aid))) ⌝ }
-    requires { ⌜ (second < to → isOpen (now state) (getD (now list) second 0) ≡ true) ⌝ }
-    ensures { λ r. ⌜ r ≡ best (metFirst (linksOf (now (ax .entry)) (now (ay .entry)) (now (bx .entry)) (now (by .entry)) (now (aid .entry))) sense node link) k (opens (now (state .entry)) (stretch (now (list .entry)) second to)) ⌝ }
+    requires { ⌜ (second < to → isUnvisited (now state) (getD (now list) second 0) ≡ true) ⌝ }
+    ensures { λ r. ⌜ r ≡ best (metFirst (linksOf (now (ax .entry)) (now (ay .entry)) (now (bx .entry)) (now (by .entry)) (now (aid .entry))) sense node link) k (unvisitedIn (now (state .entry)) (stretch (now (list .entry)) second to)) ⌝ }
 {
     let from = way_of(ax, ay, bx, by, aid, node, link);
     let mut choice = ray_of(ax, ay, bx, by, aid, sense, node, from, k);
@@ -201,7 +201,7 @@ fn find_nearest_link_to(
     requires { ⌜ Links (now ax) (now ay) (now bx) (now by) (length (now aid)) ⌝ }
     requires { ⌜ (length (now state) ≡ length (now aid)) × (link < length (now aid)) ⌝ }
     requires { ⌜ (from ≤ to) × (to ≤ length (now list)) × (Numbers (now list) from to (length (now aid))) ⌝ }
-    ensures { λ r. ⌜ r ≡ firstMet (metFirst (linksOf (now (ax .entry)) (now (ay .entry)) (now (bx .entry)) (now (by .entry)) (now (aid .entry))) sense node link) (opens (now (state .entry)) (stretch (now (list .entry)) from to)) ⌝ }
+    ensures { λ r. ⌜ r ≡ firstMet (metFirst (linksOf (now (ax .entry)) (now (ay .entry)) (now (bx .entry)) (now (by .entry)) (now (aid .entry))) sense node link) (unvisitedIn (now (state .entry)) (stretch (now (list .entry)) from to)) ⌝ }
 {
     let first = unvisited_from(list, state, from, to);
     if first == to {
@@ -265,7 +265,7 @@ pub fn next_link(
     requires { ⌜ Nodes (now aid) (now start) (now list) (length (now state)) ⌝ }
     requires { ⌜ (node + 1 < length (now start)) × (link < length (now state)) ⌝ }
     ensures { λ r. ⌜ ((bid top : List ℕ) → r ≡ nextLink (graphOf (lent (now (ax .entry)) (now (ay .entry)) (now (bx .entry)) (now (by .entry)) (now (aid .entry)) bid (now (start .entry)) (now (list .entry))) top) sense (now (state .entry)) node link) ⌝ }
-    ensures { λ r. ⌜ Unvisited (now (state .entry)) r ⌝ }
+    ensures { λ r. ⌜ NamesUnvisited (now (state .entry)) r ⌝ }
 {
     match on_bridge(start, list, state, node, link) {
         Across::Named(next) => next,
@@ -298,7 +298,7 @@ fn find_left_top_link_on_bridge(
 ) -> Next
     requires { ⌜ Links (now ax) (now ay) (now bx) (now by) (length (now state)) ⌝ }
     requires { ⌜ (l0 < length (now state)) × (l1 < length (now state)) ⌝ }
-    ensures { λ r. ⌜ r ≡ onlyOpen (now (state .entry)) (pick (clockwise (pointAt (now (ax .entry)) (now (ay .entry)) l0) (pointAt (now (bx .entry)) (now (by .entry)) l0) (pointAt (now (bx .entry)) (now (by .entry)) l1)) l0 l1) ⌝ }
+    ensures { λ r. ⌜ r ≡ onlyUnvisited (now (state .entry)) (pick (clockwise (pointAt (now (ax .entry)) (now (ay .entry)) l0) (pointAt (now (bx .entry)) (now (by .entry)) l0) (pointAt (now (bx .entry)) (now (by .entry)) l1)) l0 l1) ⌝ }
 {
     let a = point(ax, ay, l0);
     let b = point(bx, by, l0);
@@ -385,9 +385,9 @@ pub fn find_left_top_link(
 ) -> Next
     requires { ⌜ Links (now ax) (now ay) (now bx) (now by) (length (now state)) ⌝ }
     requires { ⌜ Nodes (now aid) (now start) (now list) (length (now state)) ⌝ }
-    requires { ⌜ isOpen (now state) k ≡ true ⌝ }
+    requires { ⌜ isUnvisited (now state) k ≡ true ⌝ }
     ensures { λ r. ⌜ ((bid top : List ℕ) → r ≡ firstLink (graphOf (lent (now (ax .entry)) (now (ay .entry)) (now (bx .entry)) (now (by .entry)) (now (aid .entry)) bid (now (start .entry)) (now (list .entry))) top) (now (state .entry)) k) ⌝ }
-    ensures { λ r. ⌜ Unvisited (now (state .entry)) r ⌝ }
+    ensures { λ r. ⌜ NamesUnvisited (now (state .entry)) r ⌝ }
 {
     let node = number(aid, k);
     let from = number(start, node);

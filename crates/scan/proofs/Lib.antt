@@ -1,4 +1,3 @@
 -- The laws that the proofs of the functions cite, leaves first.
-pub mod Counting
 pub mod Noting
 pub mod Scans

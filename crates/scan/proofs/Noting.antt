@@ -18,18 +18,19 @@ use Rattle.graph.specs.Graph.{Graph, Lent, graphOf, pointAt}
 use Rattle.next.specs.declared.Next.{Next}
 use Rattle.next.specs.declared.Next.the-variants.{Link, Nothing}
 use Rattle.next.specs.Next.{unvisited}
-use Rattle.scan.specs.declared.Counts.{Counts}
+use Rattle.keep.specs.declared.Counts.{Counts}
 use Rattle.walk.specs.declared.Ended.{Ended}
 use Rattle.walk.specs.declared.Ended.the-variants as ended
 use Rattle.scan.specs.declared.Noted.{Noted}
 use Rattle.scan.specs.declared.Noted.the-variants as noting
-use Rattle.scan.proofs.Counting.{sum-within}
-use Rattle.walk.specs.Walk.{Step, Walk, Walked, stuck, done, walkFrom, left, points}
-use Rattle.scan.specs.Scan.{markOf, senseOf, walkOf}
-use Rattle.scan.specs.Outcome.{coordinates}
-use Rattle.scan.specs.Ledger.{paste-part, points-back, kept-three}
+use Rattle.keep.specs.Tables.{sum-within}
+use Rattle.walk.specs.Walk.{Step, Walk, Walked, stuck, done, walkFrom, left, points, markOf}
+use Rattle.scan.specs.Scan.{senseOf, walkOf}
+use Rattle.keep.specs.Outcome.{coordinates}
+use Rattle.keep.specs.Ledger.{paste-part, points-back, kept-three}
 use Rattle.walk.specs.Code.{paste, plain, Shape, Marks, WalkLeaves}
-use Rattle.scan.specs.Tables.{Tables, tables, enter, enterKept, enterLost, withPoints, noted, WalkNoted, FirstNoted, Within, Fewer}
+use Rattle.keep.specs.Tables.{Tables, tables, enter, enterKept, enterLost, withPoints, noted, Within}
+use Rattle.scan.specs.Notes.{WalkNoted, FirstNoted, Fewer}
 use Rattle.walk.specs.Tops.{from-tops}
 
 pub marks-of : (hole : Bool) → Marks (markOf hole)

@@ -12,16 +12,17 @@ use Rattle.laws.specs.Lowest.{None, none, found}
 use Rattle.graph.specs.Graph.{Graph}
 use Rattle.next.specs.declared.Next.{Next}
 use Rattle.next.specs.declared.Next.the-variants.{Link, Nothing}
-use Rattle.next.specs.Next.{isOpen, unvisited, firstLink}
-use Rattle.scan.specs.declared.Counts.{Counts}
+use Rattle.next.specs.Next.{isUnvisited, unvisited, firstLink}
+use Rattle.keep.specs.declared.Counts.{Counts}
 use Rattle.scan.specs.declared.Noted.{Noted}
 use Rattle.scan.specs.declared.Noted.the-variants as noting
 use Rattle.scan.specs.declared.Extraction.{Extraction}
 use Rattle.scan.specs.declared.Extraction.the-variants.{Done, Refused}
 use Rattle.walk.specs.Walk.{Walk, Walked, stuck, done}
-use Rattle.scan.specs.Scan.{walkOf, Scanned, stopped, walks, consWalk, afterWalk, scanAt, lowestOpen, scanOn}
+use Rattle.scan.specs.Scan.{walkOf, Scanned, stopped, walks, consWalk, afterWalk, scanAt, lowestUnvisited, scanOn}
 use Rattle.scan.specs.Enough.{scan-enough}
-use Rattle.scan.specs.Tables.{Tables, tables, noted, WalkNoted, FirstNoted, Fewer, ScanLeaves, Within, noCounts}
+use Rattle.keep.specs.Tables.{Tables, tables, noted, Within, noCounts}
+use Rattle.scan.specs.Notes.{WalkNoted, FirstNoted, Fewer, ScanLeaves}
 use Rattle.walk.specs.Code.{Kept}
 use Rattle.walk.specs.Marks.{kept-none, kept-then}
 use Rattle.walk.specs.States.{unvisited-some}
@@ -31,16 +32,16 @@ module _ (g : Graph) (cw : Bool) (st : List ℕ) where
   abbrev after : List ℕ → Scanned
   after s = scanOn (unvisited st) g cw s
 
-  pub stands : (k : ℕ) → None (isOpen st) k → k < length st → isOpen st k ≡ true → scanOn (suc (unvisited st)) g cw st ≡ scanAt g cw after st k (firstLink g st k)
+  pub stands : (k : ℕ) → None (isUnvisited st) k → k < length st → isUnvisited st k ≡ true → scanOn (suc (unvisited st)) g cw st ≡ scanAt g cw after st k (firstLink g st k)
   unfolding scanOn
   stands k h l o =
-      let e : lowestOpen st ≡ k = found (isOpen st) (length st) k l h o in
+      let e : lowestUnvisited st ≡ k = found (isUnvisited st) (length st) k l h o in
       rw (e, lt-ltb k (length st) l)
 
-  pub over : None (isOpen st) (length st) → scanOn (suc (unvisited st)) g cw st ≡ walks [] st
+  pub over : None (isUnvisited st) (length st) → scanOn (suc (unvisited st)) g cw st ≡ walks [] st
   unfolding scanOn
   over h =
-      let e : lowestOpen st ≡ length st = none (isOpen st) (length st) h in
+      let e : lowestUnvisited st ≡ length st = none (isUnvisited st) (length st) h in
       rw (e, le-ltb (length st) (length st) (omega arith))
 
 -- ---- one walk, then the others
@@ -78,7 +79,7 @@ module _ (g : Graph) (cw : Bool) (minimum : ℕ) (t : Tables) (st : List ℕ) (k
 pub record Scanning (g : Graph) (cw : Bool) (minimum n : ℕ) (st₀ : List ℕ) (pts₀ : List ℤ) (first₀ len₀ kind₀ : List ℕ) (k : ℕ) (c : Counts) (st : List ℕ) (pts : List ℤ) (first len kind : List ℕ) : Type 0 where
   pub leaves : (r : Extraction) (s : List ℕ) (p : List ℤ) (x y z : List ℕ) → ScanLeaves g minimum (tables pts first len kind c) (scanOn (suc (unvisited st)) g cw st) r s p x y z
       → ScanLeaves g minimum (tables pts₀ first₀ len₀ kind₀ noCounts) (scanOn (suc (unvisited st₀)) g cw st₀) r s p x y z
-  pub passed : None (isOpen st) k
+  pub passed : None (isUnvisited st) k
   pub in-links : k ≤ n
   pub all-links : length st₀ ≡ n
   pub within : Within n (unvisited st) c
@@ -91,10 +92,10 @@ pub record Scanning (g : Graph) (cw : Bool) (minimum n : ℕ) (st₀ : List ℕ)
 module _ (g : Graph) (cw : Bool) (minimum n : ℕ) (st₀ : List ℕ) (pts₀ : List ℤ) (first₀ len₀ kind₀ : List ℕ) (k : ℕ) (c : Counts) (st : List ℕ) (pts : List ℤ) (first len kind : List ℕ)
     (i : Scanning g cw minimum n st₀ pts₀ first₀ len₀ kind₀ k c st pts first len kind) where
   -- link k is visited or skipped: the scan moves on
-  pub scan-moves : k < n → isOpen st k ≡ false → Scanning g cw minimum n st₀ pts₀ first₀ len₀ kind₀ (k + 1) c st pts first len kind
+  pub scan-moves : k < n → isUnvisited st k ≡ false → Scanning g cw minimum n st₀ pts₀ first₀ len₀ kind₀ (k + 1) c st pts first len kind
   scan-moves l e = record {
     leaves = i .leaves;
-    passed = below-more (λ j. isOpen st j ≡ false) k (i .passed) e;
+    passed = below-more (λ j. isUnvisited st j ≡ false) k (i .passed) e;
     in-links = omega arith;
     all-links = i .all-links;
     within = i .within;
@@ -105,7 +106,7 @@ module _ (g : Graph) (cw : Bool) (minimum n : ℕ) (st₀ : List ℕ) (pts₀ : 
     kind-length = i .kind-length;
   }
 
-  module _ (l : k < n) (o : isOpen st k ≡ true) (st′ : List ℕ) (pts′ : List ℤ) (first′ len′ kind′ : List ℕ) where
+  module _ (l : k < n) (o : isUnvisited st k ≡ true) (st′ : List ℕ) (pts′ : List ℤ) (first′ len′ kind′ : List ℕ) where
     here : scanOn (suc (unvisited st)) g cw st ≡ scanAt g cw (λ s. scanOn (unvisited st) g cw s) st k (firstLink g st k)
     here = stands g cw st k (i .passed) (rw (i .kept .len ∙ i .all-links) l) o
 

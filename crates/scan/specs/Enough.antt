@@ -11,11 +11,11 @@ use Rattle.graph.specs.Graph.{Graph}
 use Rattle.next.specs.declared.Next.{Next}
 use Rattle.next.specs.declared.Next.the-variants.{Link, Nothing}
 use Rattle.next.specs.Next.{unvisited, firstLink}
-use Rattle.walk.specs.Walk.{Walked, stuck, done}
-use Rattle.scan.specs.Scan.{markOf, senseOf, walkOf, Scanned, walks, consWalk, afterWalk, scanAt, lowestOpen, scanOn}
-use Rattle.walk.specs.Named.{IsOpen, first-open}
-use Rattle.walk.specs.Visits.{Visits, from-visits, visits-fewer}
-use Rattle.scan.specs.Visits.{mark-of, lowest-open}
+use Rattle.walk.specs.Walk.{Walked, stuck, done, markOf}
+use Rattle.scan.specs.Scan.{senseOf, walkOf, Scanned, walks, consWalk, afterWalk, scanAt, lowestUnvisited, scanOn}
+use Rattle.walk.specs.Named.{LinkUnvisited, first-is-unvisited}
+use Rattle.walk.specs.Visits.{Visits, from-visits, visits-fewer, mark-of}
+use Rattle.scan.specs.Visits.{lowest-unvisited}
 use Rattle.walk.specs.Enough.{no-fewer}
 
 pick-same : {A : Type 0} (b : Bool) (x y z : A) → (b ≡ true → x ≡ y) → pick b x z ≡ pick b y z
@@ -29,7 +29,7 @@ module _ (g : Graph) (cw : Bool) where
   after-walk p q st k hole (stuck number) v h = refl
   after-walk p q st k hole (done l after) v h = ap (consWalk (record { hole = hole; steps = l })) (h after (visits-fewer (markOf hole) st l after (mark-of hole) v))
 
-  at-first : (p q : List ℕ → Scanned) (st : List ℕ) (k : ℕ) (o : Next) → IsOpen st o
+  at-first : (p q : List ℕ → Scanned) (st : List ℕ) (k : ℕ) (o : Next) → LinkUnvisited st o
       → ((after : List ℕ) → unvisited after < unvisited st → p after ≡ q after) → scanAt g cw p st k o ≡ scanAt g cw q st k o
   at-first p q st k Nothing i h = refl
   at-first p q st k (Link s) i h =
@@ -40,6 +40,6 @@ module _ (g : Graph) (cw : Bool) where
   scan-enough zero fuel′ st h k = absurd (no-fewer st h)
   scan-enough (suc fuel) zero st h k = absurd (no-fewer st k)
   scan-enough (suc fuel) (suc fuel′) st h k =
-      pick-same (ltb (lowestOpen st) (length st)) _ _ (walks [] st)
-      (λ t. at-first (λ after. scanOn fuel g cw after) (λ after. scanOn fuel′ g cw after) st (lowestOpen st) (firstLink g st (lowestOpen st))
-      (first-open g st (lowestOpen st) (lowest-open st t)) (λ after l. scan-enough fuel fuel′ after (omega arith) (omega arith)))
+      pick-same (ltb (lowestUnvisited st) (length st)) _ _ (walks [] st)
+      (λ t. at-first (λ after. scanOn fuel g cw after) (λ after. scanOn fuel′ g cw after) st (lowestUnvisited st) (firstLink g st (lowestUnvisited st))
+      (first-is-unvisited g st (lowestUnvisited st) (lowest-unvisited st t)) (λ after l. scan-enough fuel fuel′ after (omega arith) (omega arith)))

@@ -9,14 +9,10 @@ use Rattle.laws.specs.Lowest.{lowest}
 use Rattle.graph.specs.Graph.{Graph}
 use Rattle.next.specs.declared.Next.{Next}
 use Rattle.next.specs.declared.Next.the-variants.{Link, Nothing}
-use Rattle.next.specs.Next.{isOpen, unvisited, firstLink}
-use Rattle.walk.specs.Walk.{Walk, Walked, stuck, done, walkFrom}
+use Rattle.next.specs.Next.{isUnvisited, unvisited, firstLink}
+use Rattle.walk.specs.Walk.{Walk, Walked, stuck, done, walkFrom, markOf}
 
 -- ---- which walk: rule 2
-
--- rule 2: "The first link's top decides: 1 hole (state 2), 0 hull (state 3)."
-abbrev pub markOf : Bool → ℕ
-markOf hole = pick hole 2 3
 
 -- "Sense = (hole equals clockwise output)."
 abbrev pub senseOf : Graph → Bool → ℕ → Bool
@@ -46,15 +42,15 @@ scanAt g cw go st k Nothing = stopped 8 k
 scanAt g cw go st k (Link s) = afterWalk k (g .top s) go (walkOf g cw st s)
 
 -- the lowest unvisited link, or the number of links
-abbrev pub lowestOpen : List ℕ → ℕ
-lowestOpen st = lowest (isOpen st) (length st)
+abbrev pub lowestUnvisited : List ℕ → ℕ
+lowestUnvisited st = lowest (isUnvisited st) (length st)
 
 -- "The scan takes the lowest unvisited link k." Rule 7: it "moves on only when link k is visited". A refusal's place is the link the scan stands at.
 unfoldable pub scanOn : ℕ → Graph → Bool → List ℕ → Scanned
 scanOn zero g cw st = walks [] st
 scanOn (suc fuel) g cw st =
-    pick (ltb (lowestOpen st) (length st))
-    (scanAt g cw (λ after. scanOn fuel g cw after) st (lowestOpen st) (firstLink g st (lowestOpen st)))
+    pick (ltb (lowestUnvisited st) (length st))
+    (scanAt g cw (λ after. scanOn fuel g cw after) st (lowestUnvisited st) (firstLink g st (lowestUnvisited st)))
     (walks [] st)
 
 -- the fuel is above the number of walks, each of which visits a link or more

@@ -12,18 +12,14 @@ use Rattle.laws.specs.Lowest.{some-of, none-of}
 use Rattle.graph.specs.Graph.{Graph}
 use Rattle.next.specs.declared.Next.{Next}
 use Rattle.next.specs.declared.Next.the-variants.{Link, Nothing}
-use Rattle.next.specs.Next.{isOpen, unvisited, firstLink}
-use Rattle.next.specs.States.{open-below}
-use Rattle.walk.specs.Walk.{Walk, Walked, stuck, done, marked}
-use Rattle.scan.specs.Scan.{markOf, senseOf, walkOf, Scanned, stopped, walks, consWalk, afterWalk, scanAt, lowestOpen, scanOn, scan}
-use Rattle.scan.specs.Outcome.{statesAfter, lens, sum}
-use Rattle.walk.specs.States.{Open, NoneOpen, Mark, none-unvisited}
-use Rattle.walk.specs.Named.{IsOpen, first-open}
-use Rattle.walk.specs.Visits.{Fresh, fresh-count, timesIn, one, fresh-times, Visits, from-visits, visits-fewer}
-
-pub mark-of : (hole : Bool) → Mark (markOf hole)
-mark-of true = refl
-mark-of false = refl
+use Rattle.next.specs.Next.{isUnvisited, unvisited, firstLink}
+use Rattle.next.specs.States.{unvisited-below}
+use Rattle.walk.specs.Walk.{Walk, Walked, stuck, done, marked, markOf}
+use Rattle.scan.specs.Scan.{senseOf, walkOf, Scanned, stopped, walks, consWalk, afterWalk, scanAt, lowestUnvisited, scanOn, scan}
+use Rattle.keep.specs.Outcome.{statesAfter, lens, sum}
+use Rattle.walk.specs.States.{Unvisited, NoneUnvisited, none-unvisited}
+use Rattle.walk.specs.Named.{LinkUnvisited, first-is-unvisited}
+use Rattle.walk.specs.Visits.{Fresh, fresh-count, timesIn, one, fresh-times, Visits, from-visits, visits-fewer, mark-of}
 
 -- ---- walks that mark unvisited links only
 abbrev pub AllFresh : List ℕ → List Walk → Type 0
@@ -41,22 +37,22 @@ abbrev pub times : ℕ → List Walk → ℕ
 times k [] = 0
 times k (w ∷ ws) = timesIn k (w .steps) + times k ws
 
-pub walks-times : (k : ℕ) (st : List ℕ) (ws : List Walk) → AllFresh st ws → times k ws + one (isOpen (statesAfter ws st) k) ≡ one (isOpen st k)
+pub walks-times : (k : ℕ) (st : List ℕ) (ws : List Walk) → AllFresh st ws → times k ws + one (isUnvisited (statesAfter ws st) k) ≡ one (isUnvisited st k)
 walks-times k st [] f = omega arith
 walks-times k st (w ∷ ws) f =
     let m : ℕ = markOf (w .hole) in
     omega (arith, fresh-times k m st (w .steps) (mark-of (w .hole)) (f .0), walks-times k (marked m (w .steps) st) ws (f .1))
 
 -- ---- the scan
-pub lowest-open : (st : List ℕ) → ltb (lowestOpen st) (length st) ≡ true → Open st (lowestOpen st)
-lowest-open st e = some-of (isOpen st) (length st) e .passes
+pub lowest-unvisited : (st : List ℕ) → ltb (lowestUnvisited st) (length st) ≡ true → Unvisited st (lowestUnvisited st)
+lowest-unvisited st e = some-of (isUnvisited st) (length st) e .passes
 
-pub lowest-none : (st : List ℕ) → ltb (lowestOpen st) (length st) ≡ false → NoneOpen st
-lowest-none st e k = not-true (isOpen st k) (λ o. true≢false o (none-of (isOpen st) (length st) e k (open-below st k o)))
+pub lowest-none : (st : List ℕ) → ltb (lowestUnvisited st) (length st) ≡ false → NoneUnvisited st
+lowest-none st e k = not-true (isUnvisited st k) (λ o. true≢false o (none-of (isUnvisited st) (length st) e k (unvisited-below st k o)))
 
 abbrev pub LeavesAll : List ℕ → Scanned → Type 0
 LeavesAll st (stopped number place) = Unit {0}
-LeavesAll st (walks ws after) = (after ≡ statesAfter ws st) × AllFresh st ws × NoneOpen after
+LeavesAll st (walks ws after) = (after ≡ statesAfter ws st) × AllFresh st ws × NoneUnvisited after
 
 module _ (g : Graph) (cw : Bool) where
   all-cons : (w : Walk) (st : List ℕ) (o : Scanned) → Fresh (markOf (w .hole)) st (w .steps) → LeavesAll (marked (markOf (w .hole)) (w .steps) st) o → LeavesAll st (consWalk w o)
@@ -70,7 +66,7 @@ module _ (g : Graph) (cw : Bool) where
       all-cons (record { hole = hole; steps = l }) st (go after) (v .1)
       (subst (λ a. LeavesAll a (go after)) (v .0) (h after (visits-fewer (markOf hole) st l after (mark-of hole) v)))
 
-  at-first : (go : List ℕ → Scanned) (st : List ℕ) (k : ℕ) (o : Next) → IsOpen st o
+  at-first : (go : List ℕ → Scanned) (st : List ℕ) (k : ℕ) (o : Next) → LinkUnvisited st o
       → ((after : List ℕ) → unvisited after < unvisited st → LeavesAll after (go after)) → LeavesAll st (scanAt g cw go st k o)
   at-first go st k Nothing i h = tt
   at-first go st k (Link s) i h =
@@ -83,8 +79,8 @@ module _ (g : Graph) (cw : Bool) where
       few : (st : List ℕ) → unvisited st < 0 → ⊥
       few st h = omega arith
   scan-leaves (suc fuel) st h =
-      pick-ind (ltb (lowestOpen st) (length st)) _ (walks [] st) (LeavesAll st)
-      (λ t. at-first (λ after. scanOn fuel g cw after) st (lowestOpen st) (firstLink g st (lowestOpen st)) (first-open g st (lowestOpen st) (lowest-open st t))
+      pick-ind (ltb (lowestUnvisited st) (length st)) _ (walks [] st) (LeavesAll st)
+      (λ t. at-first (λ after. scanOn fuel g cw after) st (lowestUnvisited st) (firstLink g st (lowestUnvisited st)) (first-is-unvisited g st (lowestUnvisited st) (lowest-unvisited st t))
       (λ after l. scan-leaves fuel after (omega arith)))
       (λ n. (refl, tt, lowest-none st n))
 
@@ -93,18 +89,18 @@ pub record Scan (st : List ℕ) (ws : List Walk) (after : List ℕ) : Type 0 whe
   -- the states that it leaves are those of its walks
   pub states : after ≡ statesAfter ws st
   -- none of them is 0
-  pub none : NoneOpen after
+  pub none : NoneUnvisited after
   -- "On success, links walked is the number of states that were 0 at entry."
   pub count : sum (lens ws) ≡ unvisited st
   -- it has walked each link that was unvisited exactly once, and no other
-  pub once : (k : ℕ) → times k ws ≡ pick (isOpen st k) 1 0
+  pub once : (k : ℕ) → times k ws ≡ pick (isUnvisited st k) 1 0
   -- in the order of the walks, each link was unvisited when it was walked
   pub fresh : AllFresh st ws
 
 pub scanned : (g : Graph) (cw : Bool) (st : List ℕ) (ws : List Walk) (after : List ℕ) → scan g cw st ≡ walks ws after → Scan st ws after
 scanned g cw st ws after e =
     let h : LeavesAll st (walks ws after) = subst (LeavesAll st) e (scan-leaves g cw (suc (unvisited st)) st (omega arith)) in
-    let none : NoneOpen (statesAfter ws st) = subst NoneOpen (h .0) (h .2) in
+    let none : NoneUnvisited (statesAfter ws st) = subst NoneUnvisited (h .0) (h .2) in
     record {
       states = h .0;
       none = h .2;

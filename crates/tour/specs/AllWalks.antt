@@ -12,15 +12,15 @@ use Rattle.laws.specs.Test.{pick-ind}
 use Rattle.graph.specs.Graph.{Graph}
 use Rattle.next.specs.Next.{metFirst, firstLink, unvisited}
 use Rattle.next.specs.Choice.{Mem}
-use Rattle.next.specs.States.{open-below}
-use Rattle.walk.specs.Walk.{Step, Walk, Walked, done, consStep, onNext, walkOn, walkFrom}
-use Rattle.scan.specs.Scan.{markOf, senseOf, walkOf, Scanned, walks, consWalk, afterWalk, scanAt, lowestOpen, scanOn, scan}
-use Rattle.walk.specs.States.{Open, Mark, set-in, set-gone, set-of}
-use Rattle.walk.specs.Visits.{Visits, from-visits, visits-fewer}
-use Rattle.scan.specs.Visits.{mark-of, lowest-open}
+use Rattle.next.specs.States.{unvisited-below}
+use Rattle.walk.specs.Walk.{Step, Walk, Walked, done, consStep, onNext, walkOn, walkFrom, markOf}
+use Rattle.scan.specs.Scan.{senseOf, walkOf, Scanned, walks, consWalk, afterWalk, scanAt, lowestUnvisited, scanOn, scan}
+use Rattle.walk.specs.States.{Unvisited, Mark, set-in, set-gone, set-of}
+use Rattle.walk.specs.Visits.{Visits, from-visits, visits-fewer, mark-of}
+use Rattle.scan.specs.Visits.{lowest-unvisited}
 use Rattle.tour.specs.Alternation.{Cyc, mirror, alt-mirror, alt-ext, no-not}
 use Rattle.tour.specs.First.{next-ok, Paired, first-ok}
-use Rattle.tour.specs.Ends.{End, hd, tl, link, arrives, wayOf, headN, tailN, node, OpenEnd, Listed, end-at, listed, same-end}
+use Rattle.tour.specs.Ends.{End, hd, tl, link, arrives, wayOf, headN, tailN, node, UnvisitedEnd, Listed, end-at, listed, same-end}
 use Rattle.tour.specs.OneWalk.{Chain, During, ByTurns, Walks, Inv, walk-ok}
 
 -- the order of turning clockwise, and of turning the other way
@@ -40,11 +40,11 @@ pub record Scans (g : Graph) (cw : Bool) (o : Scanned) : Type 0 where
   pub closed : Closed g cw all
 
 module _ (g : Graph) (ok : Listed g) (cw : Bool) (st₀ : List ℕ) (len : length st₀ ≡ g .n) {B : End → End → End → Type 0}
-    (c : Cyc End (node g cw) (OpenEnd st₀) B)
+    (c : Cyc End (node g cw) (UnvisitedEnd st₀) B)
     (seen : (w : Bool) (x y z : End) → sensed w B x y z → metFirst g w (node g cw x) (link x) (link y) (link z) ≡ true)
     (irr : (w : Bool) (v e x : ℕ) → metFirst g w v e x x ≡ true → ⊥)
     (trans : (w : Bool) (v e x y z : ℕ) → metFirst g w v e x y ≡ true → metFirst g w v e y z ≡ true → metFirst g w v e x z ≡ true) where
-  cyc : (w : Bool) → Cyc End (node g cw) (OpenEnd st₀) (sensed w B)
+  cyc : (w : Bool) → Cyc End (node g cw) (UnvisitedEnd st₀) (sensed w B)
   cyc true = c
   cyc false = mirror c
 
@@ -60,12 +60,12 @@ module _ (g : Graph) (ok : Listed g) (cw : Bool) (st₀ : List ℕ) (len : lengt
   turned true x y z h = h
   turned false x y z h = h
 
-  module _ (σ : List ℕ) (sub : (k : ℕ) → Open σ k → Open st₀ k) (turns : ByTurns g cw B (OpenEnd σ)) where
-    small : (k : ℕ) → Open σ k → k < g .n
-    small k o = subst (λ x. k < x) len (open-below st₀ k (sub k o))
+  module _ (σ : List ℕ) (sub : (k : ℕ) → Unvisited σ k → Unvisited st₀ k) (turns : ByTurns g cw B (UnvisitedEnd σ)) where
+    small : (k : ℕ) → Unvisited σ k → k < g .n
+    small k o = subst (λ x. k < x) len (unvisited-below st₀ k (sub k o))
 
     -- the partner of an unvisited end: another unvisited link at its node
-    partner : (x : End) → OpenEnd σ x → (z : ℕ) × Mem z (g .entries (node g cw x)) × Open σ z × (z ≡ link x → ⊥)
+    partner : (x : End) → UnvisitedEnd σ x → (z : ℕ) × Mem z (g .entries (node g cw x)) × Unvisited σ z × (z ≡ link x → ⊥)
     partner x o =
         let r = turns (node g cw x) x x o o refl refl refl in
         let z = r .0 in (
@@ -82,21 +82,21 @@ module _ (g : Graph) (ok : Listed g) (cw : Bool) (st₀ : List ℕ) (len : lengt
         two : {a : ℕ} → Mem a (x ∷ (y ∷ [])) → (a ≡ x) ⊎ (a ≡ y)
         two m = ⊎-elim inl (λ n. ⊎-elim inr (λ j. absurd (List·Memᴰ·not-nil j)) (List·Memᴰ·cases-cons n)) (List·Memᴰ·cases-cons m)
 
-        both : (a b : ℕ) → Open σ a → Open σ b → (b ≡ a → ⊥) → (a ≡ x) ⊎ (a ≡ y) → (b ≡ x) ⊎ (b ≡ y) → Open σ x × Open σ y
+        both : (a b : ℕ) → Unvisited σ a → Unvisited σ b → (b ≡ a → ⊥) → (a ≡ x) ⊎ (a ≡ y) → (b ≡ x) ⊎ (b ≡ y) → Unvisited σ x × Unvisited σ y
         both a b oa ob d (inl p) (inl q) = absurd (d (q ∙ sym p))
-        both a b oa ob d (inl p) (inr q) = (subst (Open σ) p oa, subst (Open σ) q ob)
-        both a b oa ob d (inr p) (inl q) = (subst (Open σ) q ob, subst (Open σ) p oa)
+        both a b oa ob d (inl p) (inr q) = (subst (Unvisited σ) p oa, subst (Unvisited σ) q ob)
+        both a b oa ob d (inr p) (inl q) = (subst (Unvisited σ) q ob, subst (Unvisited σ) p oa)
         both a b oa ob d (inr p) (inr q) = absurd (d (q ∙ sym p))
 
-        by : (f : End) → link f ≡ k → node g cw f ≡ v → Open σ x × Open σ y
+        by : (f : End) → link f ≡ k → node g cw f ≡ v → Unvisited σ x × Unvisited σ y
         by f lf nf =
-            let of : OpenEnd σ f = subst (Open σ) (sym lf) o in
+            let of : UnvisitedEnd σ f = subst (Unvisited σ) (sym lf) o in
             let z = partner f of in
             let mz : Mem (z .0) (x ∷ (y ∷ [])) = subst (Mem (z .0)) (ap (g .entries) nf ∙ e) (z .1) in
             both k (z .0) o (z .2) (λ q. z .3 (q ∙ sym lf)) (two mk) (two mz)
 
     -- ---- a walk from s
-    module _ (s : ℕ) (os : Open σ s) where
+    module _ (s : ℕ) (os : Unvisited σ s) where
       abbrev w : Bool
       w = senseOf g cw s
 
@@ -112,14 +112,14 @@ module _ (g : Graph) (ok : Listed g) (cw : Bool) (st₀ : List ℕ) (len : lengt
       n0 : Mark m
       n0 = mark-of (g .top s)
 
-      turns′ : ByTurns g cw (sensed (not w) B) (OpenEnd σ)
-      turns′ = to-sense (not w) (OpenEnd σ) turns
+      turns′ : ByTurns g cw (sensed (not w) B) (UnvisitedEnd σ)
+      turns′ = to-sense (not w) (UnvisitedEnd σ) turns
 
       abbrev Last : ℕ → Type 0
-      Last t = (headN g cw t ≡ home) × ((x : End) → OpenEnd σ x → node g cw x ≡ home → sensed (not w) B (tl s) x (hd t) → ⊥)
+      Last t = (headN g cw t ≡ home) × ((x : End) → UnvisitedEnd σ x → node g cw x ≡ home → sensed (not w) B (tl s) x (hd t) → ⊥)
 
-      module _ (t : ℕ) (ot : Open σ₁ t) (first : (x : ℕ) → Mem x (g .entries home) → Open σ₁ x → metFirst g (not w) home s x t ≡ true → ⊥) where
-        none-between : (y : End) → link y ≡ t → (x : End) → OpenEnd σ x → node g cw x ≡ home → sensed (not w) B (tl s) x y → ⊥
+      module _ (t : ℕ) (ot : Unvisited σ₁ t) (first : (x : ℕ) → Mem x (g .entries home) → Unvisited σ₁ x → metFirst g (not w) home s x t ≡ true → ⊥) where
+        none-between : (y : End) → link y ≡ t → (x : End) → UnvisitedEnd σ x → node g cw x ≡ home → sensed (not w) B (tl s) x y → ⊥
         none-between y ly x o nx h = go (ℕ-discrete (link x) s)
           where
             go : Dec (link x ≡ s) → ⊥
@@ -127,7 +127,7 @@ module _ (g : Graph) (ok : Listed g) (cw : Bool) (st₀ : List ℕ) (len : lengt
             go (no n) = first (link x) (subst (λ v. Mem (link x) (g .entries v)) nx (listed g ok cw x (small (link x) o))) (set-in σ s m (link x) o n)
                 (subst (λ k. metFirst g (not w) home s (link x) k ≡ true) ly (seen (not w) (tl s) x y h))
 
-        ot′ : Open σ t
+        ot′ : Unvisited σ t
         ot′ = set-of σ s m t os n0 ot .0
 
         last-is : (tailN g cw t ≡ home) ⊎ (headN g cw t ≡ home) → Last t
@@ -135,13 +135,13 @@ module _ (g : Graph) (ok : Listed g) (cw : Bool) (st₀ : List ℕ) (len : lengt
         last-is (inr p) = (p, none-between (hd t) refl)
 
         module _ (la : Last t) where
-          to : (x : End) → OpenEnd σ x → During σ₁ s s x
+          to : (x : End) → UnvisitedEnd σ x → During σ₁ s s x
           to (hd k) o = elim (ℕ-discrete k s) [ yes p ↦ inr p | no n ↦ inl (set-in σ s m k o n) ]
           to (tl k) o = elim (ℕ-discrete k s) [ yes p ↦ inr p | no n ↦ inl (set-in σ s m k o n) ]
 
-          from : (x : End) → During σ₁ s s x → OpenEnd σ x
-          from (hd k) = ⊎-elim (λ o. set-of σ s m k os n0 o .0) (λ q. subst (Open σ) (sym q) os)
-          from (tl k) = ⊎-elim (λ o. set-of σ s m k os n0 o .0) (λ q. subst (Open σ) (sym q) os)
+          from : (x : End) → During σ₁ s s x → UnvisitedEnd σ x
+          from (hd k) = ⊎-elim (λ o. set-of σ s m k os n0 o .0) (λ q. subst (Unvisited σ) (sym q) os)
+          from (tl k) = ⊎-elim (λ o. set-of σ s m k os n0 o .0) (λ q. subst (Unvisited σ) (sym q) os)
 
           begun : Inv g ok cw w st₀ len (cyc w) (seen w) (irr w) (trans w) m n0 s t (sub s os) (sub t ot′) (la .0) σ₁ s
           begun = record {
@@ -150,7 +150,7 @@ module _ (g : Graph) (ok : Listed g) (cw : Bool) (st₀ : List ℕ) (len : lengt
             ce = set-gone σ s m os n0;
             cs = set-gone σ s m os n0;
             last = λ n. ot;
-            turns = alt-ext to from (to-sense w (OpenEnd σ) turns);
+            turns = alt-ext to from (to-sense w (UnvisitedEnd σ) turns);
             adj = λ x d n h. la .1 x (from x d) n (turned w (hd t) x (tl s) h);
           }
 
@@ -172,8 +172,8 @@ module _ (g : Graph) (ok : Listed g) (cw : Bool) (st₀ : List ℕ) (len : lengt
 
     -- ---- the scan
     module _ (fuel : ℕ) (h : unvisited σ < suc fuel)
-        (ih : (σ′ : List ℕ) → ((k : ℕ) → Open σ′ k → Open st₀ k) → ByTurns g cw B (OpenEnd σ′) → unvisited σ′ < fuel → Scans g cw (scanOn fuel g cw σ′)) where
-      walk-then : (k s : ℕ) → Open σ s → Scans g cw (afterWalk k (g .top s) (λ after. scanOn fuel g cw after) (walkOf g cw σ s))
+        (ih : (σ′ : List ℕ) → ((k : ℕ) → Unvisited σ′ k → Unvisited st₀ k) → ByTurns g cw B (UnvisitedEnd σ′) → unvisited σ′ < fuel → Scans g cw (scanOn fuel g cw σ′)) where
+      walk-then : (k s : ℕ) → Unvisited σ s → Scans g cw (afterWalk k (g .top s) (λ after. scanOn fuel g cw after) (walkOf g cw σ s))
       walk-then k s os =
           let r = from-ok s os in
           let p : Step = record { link = s; forward = wayOf g cw s } in
@@ -181,7 +181,7 @@ module _ (g : Graph) (ok : Listed g) (cw : Bool) (st₀ : List ℕ) (len : lengt
           let is : walkOf g cw σ s ≡ done (p ∷ q .steps) (q .state) = r .1 ∙ ap (consStep p) (q .is) in
           let v = subst (Visits (markOf (g .top s)) σ) is (from-visits g (wayOf g cw s) (senseOf g cw s) (markOf (g .top s)) σ s os) in
           let fewer : unvisited (q .state) < unvisited σ = visits-fewer (markOf (g .top s)) σ (p ∷ q .steps) (q .state) (mark-of (g .top s)) v in
-          let rest = ih (q .state) (q .sub) (of-sense (senseOf g cw s) (OpenEnd (q .state)) (q .turns)) (omega arith) in
+          let rest = ih (q .state) (q .sub) (of-sense (senseOf g cw s) (UnvisitedEnd (q .state)) (q .turns)) (omega arith) in
           let one : Walk = record { hole = g .top s; steps = p ∷ q .steps } in
           record {
             all = one ∷ rest .all;
@@ -190,23 +190,23 @@ module _ (g : Graph) (ok : Listed g) (cw : Bool) (st₀ : List ℕ) (len : lengt
             closed = ((tailN g cw s, (refl, refl, q .chain)), rest .closed);
           }
 
-      at-lowest : (k : ℕ) → Open σ k → Scans g cw (scanAt g cw (λ after. scanOn fuel g cw after) σ k (firstLink g σ k))
+      at-lowest : (k : ℕ) → Unvisited σ k → Scans g cw (scanAt g cw (λ after. scanOn fuel g cw after) σ k (firstLink g σ k))
       at-lowest k o =
           let f = first-ok g σ k paired (ok .at-a k (small k o)) o in
           subst (λ x. Scans g cw (scanAt g cw (λ after. scanOn fuel g cw after) σ k x)) (sym (f .1)) (walk-then k (f .0) (f .2))
 
       scan-step : Scans g cw (scanOn (suc fuel) g cw σ)
       unfolding scanOn
-      scan-step = pick-ind (ltb (lowestOpen σ) (length σ)) _ (walks [] σ) (Scans g cw)
-          (λ t. at-lowest (lowestOpen σ) (lowest-open σ t))
+      scan-step = pick-ind (ltb (lowestUnvisited σ) (length σ)) _ (walks [] σ) (Scans g cw)
+          (λ t. at-lowest (lowestUnvisited σ) (lowest-unvisited σ t))
           (λ n. record { all = []; state = σ; is = refl; closed = tt })
 
-  pub scan-ok : (fuel : ℕ) (σ : List ℕ) → ((k : ℕ) → Open σ k → Open st₀ k) → ByTurns g cw B (OpenEnd σ) → unvisited σ < fuel → Scans g cw (scanOn fuel g cw σ)
+  pub scan-ok : (fuel : ℕ) (σ : List ℕ) → ((k : ℕ) → Unvisited σ k → Unvisited st₀ k) → ByTurns g cw B (UnvisitedEnd σ) → unvisited σ < fuel → Scans g cw (scanOn fuel g cw σ)
   scan-ok zero σ sub turns h = absurd (few h)
     where
       few : unvisited σ < 0 → ⊥
       few h = omega arith
   scan-ok (suc fuel) σ sub turns h = scan-step σ sub turns fuel h (scan-ok fuel)
 
-  pub all-ok : ByTurns g cw B (OpenEnd st₀) → Scans g cw (scan g cw st₀)
+  pub all-ok : ByTurns g cw B (UnvisitedEnd st₀) → Scans g cw (scan g cw st₀)
   all-ok turns = scan-ok (suc (unvisited st₀)) st₀ (λ k o. o) turns (omega arith)

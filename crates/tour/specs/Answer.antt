@@ -9,11 +9,12 @@ use Rattle.turn.specs.declared.Checked.the-variants as check
 use Rattle.graph.specs.Graph.{Lent, Graph, graphOf}
 use Rattle.graph.specs.Checks.{Room, room, checked}
 use Rattle.next.specs.Next.{unvisited}
-use Rattle.scan.specs.declared.Counts.{Counts}
+use Rattle.keep.specs.declared.Counts.{Counts}
 use Rattle.scan.specs.declared.Extraction.the-variants.{Done}
-use Rattle.scan.specs.Outcome.{countsOf, statesAfter}
-use Rattle.extract.specs.Extract.{Buffers, afterScan, afterChecks, extracted}
+use Rattle.keep.specs.Outcome.{countsOf, statesAfter}
 use Rattle.scan.specs.Visits.{scanned}
+use Rattle.extract.specs.Extract.{afterScan, afterChecks, extracted}
+use Rattle.finish.specs.Finish.{Buffers}
 use Rattle.tour.specs.Statement.{ComesByTurns, linkTotal}
 use Rattle.tour.specs.Demand.{third-demand, kept-total}
 

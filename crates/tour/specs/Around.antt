@@ -10,9 +10,9 @@ use Rattle.turn.specs.Angular.{irreflexive, transitive, own-last, total, cyclic
 use Rattle.graph.specs.Graph.{Graph}
 use Rattle.next.specs.Next.{runs, metFirst}
 use Rattle.next.specs.Choice.{Mem}
-use Rattle.walk.specs.States.{Open}
+use Rattle.walk.specs.States.{Unvisited}
 use Rattle.tour.specs.Alternation.{Cyc}
-use Rattle.tour.specs.Ends.{End, link, node, OpenEnd}
+use Rattle.tour.specs.Ends.{End, link, node, UnvisitedEnd}
 use Rattle.tour.specs.AllWalks.{sensed}
 
 -- ---- the rules' test, for any links
@@ -24,11 +24,11 @@ met-trans g w v e x y z p q = is-true (transitive w (runs g v e) (runs g v x) (r
 
 -- what the order asks of the unskipped links: each has a length, and no two run from a node in one direction
 pub record Spread (g : Graph) (st : List ℕ) : Type 0 where
-  pub long : (v k : ℕ) → Open st k → Is (nonzero (runs g v k))
-  pub apart : (v x y : ℕ) → Open st x → Open st y → Mem x (g .entries v) → Mem y (g .entries v) → (x ≡ y → ⊥) → Is (sameDirection (runs g v x) (runs g v y)) → ⊥
+  pub long : (v k : ℕ) → Unvisited st k → Is (nonzero (runs g v k))
+  pub apart : (v x y : ℕ) → Unvisited st x → Unvisited st y → Mem x (g .entries v) → Mem y (g .entries v) → (x ≡ y → ⊥) → Is (sameDirection (runs g v x) (runs g v y)) → ⊥
 
 -- ---- for unskipped links
-module _ (g : Graph) (st : List ℕ) (sp : Spread g st) (v x y z : ℕ) (ox : Open st x) (oy : Open st y) (oz : Open st z) where
+module _ (g : Graph) (st : List ℕ) (sp : Spread g st) (v x y z : ℕ) (ox : Unvisited st x) (oy : Unvisited st y) (oz : Unvisited st z) where
   pub met-total : Mem y (g .entries v) → Mem z (g .entries v) → (y ≡ z → ⊥) → (metFirst g true v x y z ≡ true) ⊎ (metFirst g true v x z y ≡ true)
   met-total my mz d =
       ⊎-elim (λ h. inl (is-true h)) (⊎-elim (λ h. absurd (sp .apart v y z oy oz my mz d h)) (λ h. inr (is-true h)))
@@ -39,7 +39,7 @@ module _ (g : Graph) (st : List ℕ) (sp : Spread g st) (v x y z : ℕ) (ox : Op
       ⊎-elim (λ h. inl (is-true h)) (λ h. inr (is-true h))
       (total-on true (runs g v x) (runs g v y) (runs g v z) (sp .long v x ox) (sp .long v y oy) (sp .long v z oz) (sp .apart v x y ox oy mx my d))
 
-  pub met-trans-on : (u : ℕ) → Open st u → metFirst g true v x y u ≡ true → metFirst g true v y z u ≡ true → metFirst g true v x z u ≡ true
+  pub met-trans-on : (u : ℕ) → Unvisited st u → metFirst g true v x y u ≡ true → metFirst g true v y z u ≡ true → metFirst g true v x z u ≡ true
   met-trans-on u ou p q =
       is-true (transitive-on true (runs g v x) (runs g v y) (runs g v z) (sp .long v x ox) (sp .long v y oy) (sp .long v z oz) (runs g v u) (sp .long v u ou) (true-is p) (true-is q))
 
@@ -49,24 +49,24 @@ module _ (g : Graph) (st : List ℕ) (sp : Spread g st) (v x y z : ℕ) (ox : Op
 
 -- ---- the order of ends
 pub record Met (g : Graph) (cw : Bool) (st : List ℕ) (x y z : End) : Type 0 where
-  pub ox : OpenEnd st x
-  pub oy : OpenEnd st y
-  pub oz : OpenEnd st z
+  pub ox : UnvisitedEnd st x
+  pub oy : UnvisitedEnd st y
+  pub oz : UnvisitedEnd st z
   pub ny : node g cw y ≡ node g cw x
   pub nz : node g cw z ≡ node g cw x
   pub is : metFirst g true (node g cw x) (link x) (link y) (link z) ≡ true
 
 module _ (g : Graph) (cw : Bool) (st : List ℕ) (sp : Spread g st)
-    (listed : (x : End) → OpenEnd st x → Mem (link x) (g .entries (node g cw x)))
-    (same-end : (x y : End) → OpenEnd st x → link x ≡ link y → node g cw x ≡ node g cw y → x ≡ y) where
-  at-node : (v : ℕ) (x : End) → OpenEnd st x → node g cw x ≡ v → Mem (link x) (g .entries v)
+    (listed : (x : End) → UnvisitedEnd st x → Mem (link x) (g .entries (node g cw x)))
+    (same-end : (x y : End) → UnvisitedEnd st x → link x ≡ link y → node g cw x ≡ node g cw y → x ≡ y) where
+  at-node : (v : ℕ) (x : End) → UnvisitedEnd st x → node g cw x ≡ v → Mem (link x) (g .entries v)
   at-node v x o n = subst (λ u. Mem (link x) (g .entries u)) n (listed x o)
 
-  differ : (v : ℕ) (x y : End) → OpenEnd st x → node g cw x ≡ v → node g cw y ≡ v → (x ≡ y → ⊥) → link x ≡ link y → ⊥
+  differ : (v : ℕ) (x y : End) → UnvisitedEnd st x → node g cw x ≡ v → node g cw y ≡ v → (x ≡ y → ⊥) → link x ≡ link y → ⊥
   differ v x y ox nx ny d e = d (same-end x y ox e (nx ∙ sym ny))
 
   -- an order at node v, seen from the node of its first end
-  seen-at : (v : ℕ) (x y z : End) → OpenEnd st x → OpenEnd st y → OpenEnd st z → node g cw x ≡ v → node g cw y ≡ v → node g cw z ≡ v
+  seen-at : (v : ℕ) (x y z : End) → UnvisitedEnd st x → UnvisitedEnd st y → UnvisitedEnd st z → node g cw x ≡ v → node g cw y ≡ v → node g cw z ≡ v
       → metFirst g true v (link x) (link y) (link z) ≡ true → Met g cw st x y z
   seen-at v x y z ox oy oz nx ny nz h = record {
     ox = ox;
@@ -77,7 +77,7 @@ module _ (g : Graph) (cw : Bool) (st : List ℕ) (sp : Spread g st)
     is = subst (λ u. metFirst g true u (link x) (link y) (link z) ≡ true) (sym nx) h;
   }
 
-  pub cyc : Cyc End (node g cw) (OpenEnd st) (Met g cw st)
+  pub cyc : Cyc End (node g cw) (UnvisitedEnd st) (Met g cw st)
   cyc = record {
     irr = λ x y h. met-irr g true (node g cw x) (link x) (link y) (h .is);
     irr′ = λ x y h. own-last true (runs g (node g cw x) (link x)) (runs g (node g cw x) (link y)) (true-is (h .is));

@@ -16,8 +16,8 @@ use Rattle.laws.specs.Fails.{Iff}
 use Rattle.graph.specs.Fine.{fine}
 use Rattle.next.specs.declared.Next.{Next}
 use Rattle.next.specs.declared.Next.the-variants.{Link, Nothing}
-use Rattle.next.specs.Next.{opens, metFirst, firstMet}
-use Rattle.next.specs.Choice.{Mem, opens-in, opens-of}
+use Rattle.next.specs.Next.{unvisitedIn, metFirst, firstMet}
+use Rattle.next.specs.Choice.{Mem, unvisited-in-in, unvisited-in-of}
 use Rattle.tour.specs.Statement.{leaves, ComesByTurns}
 use Rattle.tour.specs.First.{first-of}
 use Rattle.tour.specs.Around.{met-irr, met-trans}
@@ -36,7 +36,7 @@ otherSort g v x (Link z) = Bool·beq (leaves g v z) (not (leaves g v x))
 
 -- at node v each unskipped link's next clockwise is of the other sort
 abbrev pub turnsAt : Graph → List ℕ → ℕ → Bool
-turnsAt g st v = allOf (λ x. otherSort g v x (firstMet (metFirst g true v x) (opens st (g .entries v)))) (opens st (g .entries v))
+turnsAt g st v = allOf (λ x. otherSort g v x (firstMet (metFirst g true v x) (unvisitedIn st (g .entries v)))) (unvisitedIn st (g .entries v))
 
 -- at none of m nodes it is otherwise
 abbrev pub comesByTurns : Graph → List ℕ → ℕ → Bool
@@ -66,29 +66,29 @@ eq-beq false false e = refl
 
 module _ (g : Graph) (st : List ℕ) (ok : Sound g st) where
   -- the next clockwise: it is there, whatever the sorts
-  next-there : (v x : ℕ) → At g st v x → (z : ℕ) × (firstMet (metFirst g true v x) (opens st (g .entries v)) ≡ Link z) × (At g st v z × NoneBetween g st v x z)
+  next-there : (v x : ℕ) → At g st v x → (z : ℕ) × (firstMet (metFirst g true v x) (unvisitedIn st (g .entries v)) ≡ Link z) × (At g st v z × NoneBetween g st v x z)
   next-there v x a =
       let l : List ℕ = g .entries v in
-      let r = first-of (metFirst g true v x) (met-irr g true v x) (met-trans g true v x) x (opens st l) (opens-in st l x (a .0) (a .1)) in
-      (r .0, r .1, (opens-of st l (r .0) (r .2 .0), λ y b. r .2 .1 y (opens-in st l y (b .0) (b .1))))
+      let r = first-of (metFirst g true v x) (met-irr g true v x) (met-trans g true v x) x (unvisitedIn st l) (unvisited-in-in st l x (a .0) (a .1)) in
+      (r .0, r .1, (unvisited-in-of st l (r .0) (r .2 .0), λ y b. r .2 .1 y (unvisited-in-in st l y (b .0) (b .1))))
 
   abbrev test : ℕ → ℕ → Bool
-  test v x = otherSort g v x (firstMet (metFirst g true v x) (opens st (g .entries v)))
+  test v x = otherSort g v x (firstMet (metFirst g true v x) (unvisitedIn st (g .entries v)))
 
   passes-next : ((v : ℕ) → turnsAt g st v ≡ true) → NextTurns g st
   passes-next h v x a =
       let r = next-there v x a in
-      let t : test v x ≡ true = all-of (test v) (opens st (g .entries v)) (h v) x (opens-in st (g .entries v) x (a .0) (a .1)) in
+      let t : test v x ≡ true = all-of (test v) (unvisitedIn st (g .entries v)) (h v) x (unvisited-in-in st (g .entries v) x (a .0) (a .1)) in
       (r .0, r .2, beq-eq (leaves g v (r .0)) (not (leaves g v x)) (sym (ap (otherSort g v x) (r .1)) ∙ t))
 
   next-passes : NextTurns g st → (v : ℕ) → turnsAt g st v ≡ true
-  next-passes n v = of-all (test v) (opens st (g .entries v)) (λ x m. one x (opens-of st (g .entries v) x m))
+  next-passes n v = of-all (test v) (unvisitedIn st (g .entries v)) (λ x m. one x (unvisited-in-of st (g .entries v) x m))
     where
       one : (x : ℕ) → At g st v x → test v x ≡ true
       one x a = by (n v x a) (next-there v x a)
         where
           by : (z : ℕ) × (At g st v z × NoneBetween g st v x z) × (leaves g v z ≡ not (leaves g v x))
-              → (y : ℕ) × (firstMet (metFirst g true v x) (opens st (g .entries v)) ≡ Link y) × (At g st v y × NoneBetween g st v x y) → test v x ≡ true
+              → (y : ℕ) × (firstMet (metFirst g true v x) (unvisitedIn st (g .entries v)) ≡ Link y) × (At g st v y × NoneBetween g st v x y) → test v x ≡ true
           by p r = ap (otherSort g v x) (r .1) ∙ eq-beq (leaves g v (r .0)) (not (leaves g v x)) (ap (leaves g v) (same (ℕ-discrete (r .0) (p .0))) ∙ p .2)
             where
               same : Dec (r .0 ≡ p .0) → r .0 ≡ p .0
@@ -104,7 +104,7 @@ module _ (g : Graph) (st : List ℕ) (ok : Sound g st) where
   }
     where
       at-node : (v : ℕ) → Dec (m ≤ v) → some (λ v. not (turnsAt g st v)) m ≡ false → turnsAt g st v ≡ true
-      at-node v (yes h) t = subst (λ l. allOf (λ x. otherSort g v x (firstMet (metFirst g true v x) (opens st l))) (opens st l) ≡ true) (sym (empty v h)) refl
+      at-node v (yes h) t = subst (λ l. allOf (λ x. otherSort g v x (firstMet (metFirst g true v x) (unvisitedIn st l))) (unvisitedIn st l) ≡ true) (sym (empty v h)) refl
       at-node v (no n) t = not-false (turnsAt g st v) (none-of (λ v. not (turnsAt g st v)) m t v (omega arith))
 
 -- ---- of what is lent

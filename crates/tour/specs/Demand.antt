@@ -7,7 +7,7 @@ use lib.IntN.{_+ℤ_}
 use Rattle.graph.specs.Graph.{Graph}
 use Rattle.extract.specs.Theorems.{kept-and-rejected}
 use Rattle.scan.specs.Scan.{Scanned, stopped, walks, scan}
-use Rattle.scan.specs.Outcome.{kept, rejected, areas, total}
+use Rattle.keep.specs.Outcome.{kept, rejected, areas, total}
 use Rattle.tour.specs.Statement.{Toured, ThirdDemand, linkTotal}
 use Rattle.tour.specs.Round.{next-turns}
 use Rattle.tour.specs.Theorem.{tour}

@@ -13,7 +13,7 @@ use Rattle.next.specs.Next.{other}
 use Rattle.next.specs.Choice.{Mem}
 use Rattle.walk.specs.Walk.{stepFrom}
 use Rattle.scan.specs.Scan.{senseOf}
-use Rattle.walk.specs.States.{Open}
+use Rattle.walk.specs.States.{Unvisited}
 
 -- the end at which a link arrives, and the end at which it leaves
 pub data End : Type 0 where
@@ -44,8 +44,8 @@ node g cw (hd k) = headN g cw k
 node g cw (tl k) = tailN g cw k
 
 -- an end of an unvisited link
-abbrev pub OpenEnd : List ℕ → End → Type 0
-OpenEnd st x = Open st (link x)
+abbrev pub UnvisitedEnd : List ℕ → End → Type 0
+UnvisitedEnd st x = Unvisited st (link x)
 
 -- the lists of the nodes hold each link at its two nodes, which differ, and nothing else
 pub record Listed (g : Graph) : Type 0 where

@@ -11,7 +11,7 @@ use Rattle.turn.specs.declared.Checked.the-variants.{Fine}
 use Rattle.graph.specs.Graph.{Lent, lent, Graph, graphOf}
 use Rattle.laws.specs.Count.{count}
 use Rattle.graph.specs.Checks.{room, nodesChecked, eachChecked, linksChecked, checked}
-use Rattle.next.specs.Next.{opens, nextLink, firstLink}
+use Rattle.next.specs.Next.{unvisitedIn, nextLink, firstLink}
 use Rattle.walk.specs.Walk.{Step, walkOn, walkFrom}
 use Rattle.scan.specs.Scan.{stopped, walks, scanOn, scan}
 use Rattle.tour.specs.Statement.{leaves, howMany, ComesByTurns, linkTotal, Toured}
@@ -109,7 +109,7 @@ crossed-fine = refl
 
 -- at each of the five nodes as many links leave as arrive
 abbrev sortsAt : ℕ → List Bool
-sortsAt v = map (leaves crossedGraph v) (opens crossedStates (crossedGraph .entries v))
+sortsAt v = map (leaves crossedGraph v) (unvisitedIn crossedStates (crossedGraph .entries v))
 
 crossed-as-many : some (λ v. not (eqb (howMany true (sortsAt v)) (howMany false (sortsAt v)))) 5 ≡ false
 unfolding lowest

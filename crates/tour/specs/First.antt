@@ -11,10 +11,10 @@ use Rattle.turn.specs.Points.{clockwise}
 use Rattle.graph.specs.Graph.{Graph}
 use Rattle.next.specs.declared.Next.{Next}
 use Rattle.next.specs.declared.Next.the-variants.{Link, Nothing}
-use Rattle.next.specs.Next.{opens, onlyOpen, nodeOf, metFirst, best, firstMet, nextAt, nextLink, topmost, firstAt, firstLink}
-use Rattle.next.specs.Choice.{Mem, opens-in, opens-of, first-met}
-use Rattle.walk.specs.States.{Open}
-use Rattle.walk.specs.Named.{topmost-open}
+use Rattle.next.specs.Next.{unvisitedIn, onlyUnvisited, nodeOf, metFirst, best, firstMet, nextAt, nextLink, topmost, firstAt, firstLink}
+use Rattle.next.specs.Choice.{Mem, unvisited-in-in, unvisited-in-of, first-met}
+use Rattle.walk.specs.States.{Unvisited}
+use Rattle.next.specs.Topmost.{topmost-unvisited}
 
 abbrev pub First : (ℕ → ℕ → Bool) → List ℕ → ℕ → Type 0
 First lt l r = Mem r l × ((x : ℕ) → Mem x l → lt x r ≡ true → ⊥)
@@ -30,27 +30,27 @@ module _ (lt : ℕ → ℕ → Bool) (irr : (x : ℕ) → lt x x ≡ true → �
 module _ (g : Graph) (w : Bool) (st : List ℕ) (v e : ℕ)
     (irr : (x : ℕ) → metFirst g w v e x x ≡ true → ⊥)
     (trans : (x y z : ℕ) → metFirst g w v e x y ≡ true → metFirst g w v e y z ≡ true → metFirst g w v e x z ≡ true)
-    (gone : Open st e → ⊥) (z : ℕ) (oz : Open st z) where
+    (gone : Unvisited st e → ⊥) (z : ℕ) (oz : Unvisited st z) where
   abbrev pub Names : List ℕ → Next → Type 0
-  Names l o = (f : ℕ) × (o ≡ Link f) × Mem f l × Open st f × ((x : ℕ) → Mem x l → Open st x → metFirst g w v e x f ≡ true → ⊥)
+  Names l o = (f : ℕ) × (o ≡ Link f) × Mem f l × Unvisited st f × ((x : ℕ) → Mem x l → Unvisited st x → metFirst g w v e x f ≡ true → ⊥)
 
-  at-cross : (l : List ℕ) → Mem z l → Names l (firstMet (metFirst g w v e) (opens st l))
+  at-cross : (l : List ℕ) → Mem z l → Names l (firstMet (metFirst g w v e) (unvisitedIn st l))
   at-cross l m =
-      let r = first-of (metFirst g w v e) irr trans z (opens st l) (opens-in st l z m oz) in
-      let p = opens-of st l (r .0) (r .2 .0) in
-      (r .0, r .1, p .0, p .1, λ x n o. r .2 .1 x (opens-in st l x n o))
+      let r = first-of (metFirst g w v e) irr trans z (unvisitedIn st l) (unvisited-in-in st l z m oz) in
+      let p = unvisited-in-of st l (r .0) (r .2 .0) in
+      (r .0, r .1, p .0, p .1, λ x n o. r .2 .1 x (unvisited-in-in st l x n o))
 
-  only-one : (l : List ℕ) (c : ℕ) → Mem c l → Mem z l → ((x : ℕ) → Mem x l → Open st x → x ≡ c) → Names l (onlyOpen st c)
+  only-one : (l : List ℕ) (c : ℕ) → Mem c l → Mem z l → ((x : ℕ) → Mem x l → Unvisited st x → x ≡ c) → Names l (onlyUnvisited st c)
   only-one l c mc mz one =
-      let oc : Open st c = subst (Open st) (one z mz oz) oz in
+      let oc : Unvisited st c = subst (Unvisited st) (one z mz oz) oz in
       (c, pick-true (Link c) Nothing oc, mc, oc, λ x m o t. irr c (subst (λ u. metFirst g w v e u c ≡ true) (one x m o) t))
 
-  at-bridge : (x y : ℕ) → Mem e (x ∷ (y ∷ [])) → Mem z (x ∷ (y ∷ [])) → Names (x ∷ (y ∷ [])) (onlyOpen st (pick (eqb x e) y x))
-  at-bridge x y me mz = pick-ind (eqb x e) y x (λ c. Names (x ∷ (y ∷ [])) (onlyOpen st c))
+  at-bridge : (x y : ℕ) → Mem e (x ∷ (y ∷ [])) → Mem z (x ∷ (y ∷ [])) → Names (x ∷ (y ∷ [])) (onlyUnvisited st (pick (eqb x e) y x))
+  at-bridge x y me mz = pick-ind (eqb x e) y x (λ c. Names (x ∷ (y ∷ [])) (onlyUnvisited st c))
       (λ t. only-one (x ∷ (y ∷ [])) y (List·Memᴰ·tail (List·Memᴰ·head refl)) mz
-      (λ a m o. ⊎-elim (λ q. absurd (gone (subst (Open st) (q ∙ eqb-true x e t) o))) (λ k. in-one k) (List·Memᴰ·cases-cons m)))
+      (λ a m o. ⊎-elim (λ q. absurd (gone (subst (Unvisited st) (q ∙ eqb-true x e t) o))) (λ k. in-one k) (List·Memᴰ·cases-cons m)))
       (λ n. only-one (x ∷ (y ∷ [])) x (List·Memᴰ·head refl) mz
-      (λ a m o. ⊎-elim (λ q. q) (λ k. absurd (gone (subst (Open st) (in-one k ∙ sym (e-is n)) o))) (List·Memᴰ·cases-cons m)))
+      (λ a m o. ⊎-elim (λ q. q) (λ k. absurd (gone (subst (Unvisited st) (in-one k ∙ sym (e-is n)) o))) (List·Memᴰ·cases-cons m)))
     where
       in-one : {a : ℕ} → Mem a (y ∷ []) → a ≡ y
       in-one k = ⊎-elim (λ q. q) (λ j. absurd (List·Memᴰ·not-nil j)) (List·Memᴰ·cases-cons k)
@@ -70,21 +70,21 @@ module _ (g : Graph) (w : Bool) (st : List ℕ) (v e : ℕ)
 
 -- ---- the first link: at a bridge with an unvisited entry both are unvisited
 abbrev pub Paired : Graph → List ℕ → Type 0
-Paired g st = (v x y k : ℕ) → g .entries v ≡ x ∷ (y ∷ []) → Mem k (x ∷ (y ∷ [])) → Open st k → Open st x × Open st y
+Paired g st = (v x y k : ℕ) → g .entries v ≡ x ∷ (y ∷ []) → Mem k (x ∷ (y ∷ [])) → Unvisited st k → Unvisited st x × Unvisited st y
 
-abbrev pub NamesOpen : List ℕ → Next → Type 0
-NamesOpen st o = (s : ℕ) × (o ≡ Link s) × Open st s
+abbrev pub NamesUnvisitedAt : List ℕ → Next → Type 0
+NamesUnvisitedAt st o = (s : ℕ) × (o ≡ Link s) × Unvisited st s
 
-first-in : (g : Graph) (st : List ℕ) (k : ℕ) (l : List ℕ) → ((x y : ℕ) → l ≡ x ∷ (y ∷ []) → Open st x × Open st y) → Open st k → NamesOpen st (firstAt g st k (nodeOf l))
+first-in : (g : Graph) (st : List ℕ) (k : ℕ) (l : List ℕ) → ((x y : ℕ) → l ≡ x ∷ (y ∷ []) → Unvisited st x × Unvisited st y) → Unvisited st k → NamesUnvisitedAt st (firstAt g st k (nodeOf l))
 first-in g st k [] p o = (k, refl, o)
-first-in g st k (x ∷ []) p o = (topmost g st k k (x ∷ []), refl, topmost-open g st k k (x ∷ []) o)
+first-in g st k (x ∷ []) p o = (topmost g st k k (x ∷ []), refl, topmost-unvisited g st k k (x ∷ []) o)
 first-in g st k (x ∷ (y ∷ [])) p o =
     let h = p x y refl in
     let t : Bool = clockwise (g .a x) (g .b x) (g .b y) in
-    let q : Open st (pick t x y) = pick-ind t x y (Open st) (λ t. h .0) (λ n. h .1) in
+    let q : Unvisited st (pick t x y) = pick-ind t x y (Unvisited st) (λ t. h .0) (λ n. h .1) in
     (pick t x y, pick-true (Link (pick t x y)) Nothing q, q)
-first-in g st k (x ∷ (y ∷ (z ∷ l))) p o = (topmost g st k k (x ∷ (y ∷ (z ∷ l))), refl, topmost-open g st k k (x ∷ (y ∷ (z ∷ l))) o)
+first-in g st k (x ∷ (y ∷ (z ∷ l))) p o = (topmost g st k k (x ∷ (y ∷ (z ∷ l))), refl, topmost-unvisited g st k k (x ∷ (y ∷ (z ∷ l))) o)
 
-pub first-ok : (g : Graph) (st : List ℕ) (k : ℕ) → Paired g st → Mem k (g .entries (g .aNode k)) → Open st k → NamesOpen st (firstLink g st k)
+pub first-ok : (g : Graph) (st : List ℕ) (k : ℕ) → Paired g st → Mem k (g .entries (g .aNode k)) → Unvisited st k → NamesUnvisitedAt st (firstLink g st k)
 unfolding firstLink
 first-ok g st k p m o = first-in g st k (g .entries (g .aNode k)) (λ x y e. p (g .aNode k) x y k e (subst (Mem k) e m) o) o

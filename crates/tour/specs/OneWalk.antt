@@ -14,12 +14,12 @@ use Rattle.graph.specs.Graph.{Graph}
 use Rattle.next.specs.declared.Next.the-variants.{Link}
 use Rattle.next.specs.Next.{metFirst, nextLink, other, unvisited}
 use Rattle.next.specs.Choice.{Mem}
-use Rattle.next.specs.States.{open-below}
+use Rattle.next.specs.States.{unvisited-below}
 use Rattle.walk.specs.Walk.{Step, stepFrom, Walked, done, consStep, onNext, walkOn}
-use Rattle.walk.specs.States.{Open, Mark, set-in, set-gone, set-of, unvisited-set}
+use Rattle.walk.specs.States.{Unvisited, Mark, set-in, set-gone, set-of, unvisited-set}
 use Rattle.tour.specs.Alternation.{Cyc, Alt, alt-ext, remove, some-next, none-before, next-sort}
 use Rattle.tour.specs.First.{next-ok}
-use Rattle.tour.specs.Ends.{End, hd, tl, link, arrives, wayOf, headN, tailN, node, OpenEnd, Listed, dec, end-at, listed, leave}
+use Rattle.tour.specs.Ends.{End, hd, tl, link, arrives, wayOf, headN, tailN, node, UnvisitedEnd, Listed, dec, end-at, listed, leave}
 
 -- a line of links in their directions, from node v to node u
 abbrev pub Chain : Graph → Bool → ℕ → List Step → ℕ → Type 0
@@ -28,8 +28,8 @@ Chain g cw v (p ∷ l) u = (tailN g cw (p .link) ≡ v) × (p .forward ≡ wayOf
 
 -- the ends that count while a walk is under way: s was left, e just walked
 abbrev pub During : List ℕ → ℕ → ℕ → End → Type 0
-During st s e (hd k) = Open st k ⊎ (k ≡ e)
-During st s e (tl k) = Open st k ⊎ (k ≡ s)
+During st s e (hd k) = Unvisited st k ⊎ (k ≡ e)
+During st s e (tl k) = Unvisited st k ⊎ (k ≡ s)
 
 abbrev pub ByTurns : Graph → Bool → (End → End → End → Type 0) → (End → Type 0) → Type 0
 ByTurns g cw B W = Alt End (node g cw) arrives B W
@@ -39,8 +39,8 @@ pub record Walks (g : Graph) (cw : Bool) (B : End → End → End → Type 0) (s
   pub state : List ℕ
   pub is : o ≡ done steps state
   pub chain : Chain g cw v steps u
-  pub sub : (k : ℕ) → Open state k → Open st₀ k
-  pub turns : ByTurns g cw B (OpenEnd state)
+  pub sub : (k : ℕ) → Unvisited state k → Unvisited st₀ k
+  pub turns : ByTurns g cw B (UnvisitedEnd state)
 
 -- a link, and then the rest of the walk
 pub one-more : (g : Graph) (cw : Bool) (B : End → End → End → Type 0) (st₀ : List ℕ) (v u f : ℕ) (go : Walked) → tailN g cw f ≡ v
@@ -55,42 +55,42 @@ one-more g cw B st₀ v u f go n b pf r = record {
 }
 
 module _ (g : Graph) (ok : Listed g) (cw w : Bool) (st₀ : List ℕ) (len : length st₀ ≡ g .n) {B : End → End → End → Type 0}
-    (c : Cyc End (node g cw) (OpenEnd st₀) B)
+    (c : Cyc End (node g cw) (UnvisitedEnd st₀) B)
     (seen : (x y z : End) → B x y z → metFirst g w (node g cw x) (link x) (link y) (link z) ≡ true)
     (irr : (v e x : ℕ) → metFirst g w v e x x ≡ true → ⊥)
     (trans : (v e x y z : ℕ) → metFirst g w v e x y ≡ true → metFirst g w v e y z ≡ true → metFirst g w v e x z ≡ true)
-    (m : ℕ) (m≢0 : Mark m) (s t : ℕ) (ss : Open st₀ s) (st : Open st₀ t) (home : headN g cw t ≡ tailN g cw s) where
-  small : (k : ℕ) → Open st₀ k → k < g .n
-  small k o = subst (λ x. k < x) len (open-below st₀ k o)
+    (m : ℕ) (m≢0 : Mark m) (s t : ℕ) (ss : Unvisited st₀ s) (st : Unvisited st₀ t) (home : headN g cw t ≡ tailN g cw s) where
+  small : (k : ℕ) → Unvisited st₀ k → k < g .n
+  small k o = subst (λ x. k < x) len (unvisited-below st₀ k o)
 
   pub record Inv (σ : List ℕ) (e : ℕ) : Type 0 where
-    pub sub : (k : ℕ) → Open σ k → Open st₀ k
-    pub se : Open st₀ e
-    pub ce : Open σ e → ⊥
-    pub cs : Open σ s → ⊥
-    pub last : (e ≡ t → ⊥) → Open σ t
+    pub sub : (k : ℕ) → Unvisited σ k → Unvisited st₀ k
+    pub se : Unvisited st₀ e
+    pub ce : Unvisited σ e → ⊥
+    pub cs : Unvisited σ s → ⊥
+    pub last : (e ≡ t → ⊥) → Unvisited σ t
     pub turns : ByTurns g cw B (During σ s e)
     pub adj : (x : End) → During σ s e x → node g cw x ≡ tailN g cw s → B (hd t) x (tl s) → ⊥
 
   module _ (σ : List ℕ) (e : ℕ) (i : Inv σ e) where
-    sub-end : (x : End) → During σ s e x → OpenEnd st₀ x
-    sub-end (hd k) = ⊎-elim (λ o. i .sub k o) (λ q. subst (Open st₀) (sym q) (i .se))
-    sub-end (tl k) = ⊎-elim (λ o. i .sub k o) (λ q. subst (Open st₀) (sym q) ss)
+    sub-end : (x : End) → During σ s e x → UnvisitedEnd st₀ x
+    sub-end (hd k) = ⊎-elim (λ o. i .sub k o) (λ q. subst (Unvisited st₀) (sym q) (i .se))
+    sub-end (tl k) = ⊎-elim (λ o. i .sub k o) (λ q. subst (Unvisited st₀) (sym q) ss)
 
-    open-during : (x : End) → OpenEnd σ x → During σ s e x
-    open-during (hd k) o = inl o
-    open-during (tl k) o = inl o
+    unvisited-during : (x : End) → UnvisitedEnd σ x → During σ s e x
+    unvisited-during (hd k) o = inl o
+    unvisited-during (tl k) o = inl o
 
-    during-open : (x : End) → During σ s e x → (x ≡ hd e → ⊥) → (x ≡ tl s → ⊥) → OpenEnd σ x
-    during-open (hd k) d p q = ⊎-elim (λ o. o) (λ r. absurd (p (ap hd r))) d
-    during-open (tl k) d p q = ⊎-elim (λ o. o) (λ r. absurd (q (ap tl r))) d
+    during-unvisited : (x : End) → During σ s e x → (x ≡ hd e → ⊥) → (x ≡ tl s → ⊥) → UnvisitedEnd σ x
+    during-unvisited (hd k) d p q = ⊎-elim (λ o. o) (λ r. absurd (p (ap hd r))) d
+    during-unvisited (tl k) d p q = ⊎-elim (λ o. o) (λ r. absurd (q (ap tl r))) d
 
     -- ---- the walk is over
-    not-left : (x : End) → OpenEnd σ x → During σ s e x × (x ≡ hd e → ⊥) × (x ≡ tl s → ⊥)
-    not-left x o = (open-during x o, λ q. i .ce (subst (OpenEnd σ) q o), λ q. i .cs (subst (OpenEnd σ) q o))
+    not-left : (x : End) → UnvisitedEnd σ x → During σ s e x × (x ≡ hd e → ⊥) × (x ≡ tl s → ⊥)
+    not-left x o = (unvisited-during x o, λ q. i .ce (subst (UnvisitedEnd σ) q o), λ q. i .cs (subst (UnvisitedEnd σ) q o))
 
-    finished : e ≡ t → ByTurns g cw B (OpenEnd σ)
-    finished p = alt-ext (λ x h. during-open x (h .0) (h .1) (h .2)) not-left
+    finished : e ≡ t → ByTurns g cw B (UnvisitedEnd σ)
+    finished p = alt-ext (λ x h. during-unvisited x (h .0) (h .1) (h .2)) not-left
         (remove dec arrives c sub-end (i .turns) (tailN g cw s) (hd e) (tl s) (inr refl) (inr refl) (ap (headN g cw) p ∙ home) refl refl
         (λ x d n h. i .adj x d n (subst (λ k. B (hd k) x (tl s)) p h)))
 
@@ -99,17 +99,17 @@ module _ (g : Graph) (ok : Listed g) (cw w : Bool) (st₀ : List ℕ) (len : len
       abbrev Going : ℕ → Type 0
       Going f = (tailN g cw f ≡ headN g cw e) × ((x : End) → During σ s e x → node g cw x ≡ headN g cw e → B (hd e) x (tl f) → ⊥)
 
-      some-open : (z : ℕ) × Mem z (g .entries (headN g cw e)) × Open σ z
-      some-open =
+      some-unvisited : (z : ℕ) × Mem z (g .entries (headN g cw e)) × Unvisited σ z
+      some-unvisited =
           let r = some-next dec arrives c sub-end (i .turns) (hd e) (tl s) (hd t) (inr refl) (inr refl) (inl (i .last d)) home refl refl (λ q. d (ap link q)) (i .adj) in
           let x = r .0 in
-          let o : OpenEnd σ x = during-open x (r .1) (λ q. true≢false (sym (ap arrives q) ∙ r .3)) (r .4) in
+          let o : UnvisitedEnd σ x = during-unvisited x (r .1) (λ q. true≢false (sym (ap arrives q) ∙ r .3)) (r .4) in
           (link x, subst (λ v. Mem (link x) (g .entries v)) (r .2) (listed g ok cw x (small (link x) (i .sub (link x) o))), o)
 
-      module _ (f : ℕ) (of : Open σ f) (first : (x : ℕ) → Mem x (g .entries (headN g cw e)) → Open σ x → metFirst g w (headN g cw e) e x f ≡ true → ⊥) where
+      module _ (f : ℕ) (of : Unvisited σ f) (first : (x : ℕ) → Mem x (g .entries (headN g cw e)) → Unvisited σ x → metFirst g w (headN g cw e) e x f ≡ true → ⊥) where
         first-end : (y : End) → link y ≡ f → (x : End) → During σ s e x → node g cw x ≡ headN g cw e → (x ≡ hd e → ⊥) → (x ≡ tl s → ⊥) → B (hd e) x y → ⊥
         first-end y q x dx nx n₁ n₂ h =
-            let o : OpenEnd σ x = during-open x dx n₁ n₂ in
+            let o : UnvisitedEnd σ x = during-unvisited x dx n₁ n₂ in
             first (link x) (subst (λ v. Mem (link x) (g .entries v)) nx (listed g ok cw x (small (link x) (i .sub (link x) o)))) o
             (subst (λ k. metFirst g w (headN g cw e) e (link x) k ≡ true) q (seen (hd e) x y h))
 
@@ -131,17 +131,17 @@ module _ (g : Graph) (ok : Listed g) (cw w : Bool) (st₀ : List ℕ) (len : len
           Left x = During σ s e x × (x ≡ hd e → ⊥) × (x ≡ tl f → ⊥)
 
           to : (x : End) → Left x → During σ′ s f x
-          to (hd k) h = elim (ℕ-discrete k f) [ yes p ↦ inr p | no n ↦ inl (set-in σ f m k (during-open (hd k) (h .0) (h .1) (λ q. true≢false (ap arrives q))) n) ]
+          to (hd k) h = elim (ℕ-discrete k f) [ yes p ↦ inr p | no n ↦ inl (set-in σ f m k (during-unvisited (hd k) (h .0) (h .1) (λ q. true≢false (ap arrives q))) n) ]
           to (tl k) h = ⊎-elim (λ o. inl (set-in σ f m k o (λ q. h .2 (ap tl q)))) (λ q. inr q) (h .0)
 
           from : (x : End) → During σ′ s f x → Left x
           from (hd k) h =
-              let o : Open σ k = ⊎-elim (λ o. set-of σ f m k of m≢0 o .0) (λ q. subst (Open σ) (sym q) of) h in
-              (inl o, λ q. i .ce (subst (Open σ) (ap link q) o), λ q. true≢false (ap arrives q))
+              let o : Unvisited σ k = ⊎-elim (λ o. set-of σ f m k of m≢0 o .0) (λ q. subst (Unvisited σ) (sym q) of) h in
+              (inl o, λ q. i .ce (subst (Unvisited σ) (ap link q) o), λ q. true≢false (ap arrives q))
           from (tl k) h = (
             ⊎-elim (λ o. inl (set-of σ f m k of m≢0 o .0)) (λ q. inr q) h,
             λ q. true≢false (sym (ap arrives q)),
-            λ q. ⊎-elim (λ o. set-of σ f m k of m≢0 o .1 (ap link q)) (λ r. i .cs (subst (Open σ) (sym (ap link q) ∙ r) of)) h,
+            λ q. ⊎-elim (λ o. set-of σ f m k of m≢0 o .1 (ap link q)) (λ r. i .cs (subst (Unvisited σ) (sym (ap link q) ∙ r) of)) h,
           )
 
           inv : Inv σ′ f
@@ -186,10 +186,10 @@ module _ (g : Graph) (ok : Listed g) (cw w : Bool) (st₀ : List ℕ) (len : len
       → ((σ′ : List ℕ) (e′ : ℕ) → Inv σ′ e′ → unvisited σ′ < fuel → Out e′ (run fuel e′ σ′)) → Out e (run (suc fuel) e σ)
   go-on fuel σ e i d h ih =
       let v : ℕ = headN g cw e in
-      let z = some-open σ e i d in
+      let z = some-unvisited σ e i d in
       let r = next-ok g w σ v e (irr v e) (trans v e) (i .ce) (z .0) (z .2) (listed g ok cw (hd e) (small e (i .se))) (z .1) in
       let f : ℕ = r .0 in
-      let of : Open σ f = r .3 in
+      let of : Unvisited σ f = r .3 in
       let gf = going σ e i d f of (r .4) (end-at g ok cw v f (r .2)) in
       let l = leave g ok cw v f (small f (i .sub f of)) (gf .0) in
       let fewer : unvisited σ ≡ suc (unvisited (set σ f m)) = unvisited-set σ f m of m≢0 in

@@ -17,12 +17,12 @@ use Rattle.graph.specs.Graph.{Lent, Graph, graphOf}
 use Rattle.graph.specs.Checks.{Room, checked}
 use Rattle.graph.specs.Fine.{FineGraph, wayFrom, fine}
 use Rattle.next.specs.Next.{runs}
-use Rattle.next.specs.States.{open-below}
-use Rattle.walk.specs.States.{Open}
+use Rattle.next.specs.States.{unvisited-below}
+use Rattle.walk.specs.States.{Unvisited}
 use Rattle.tour.specs.Sound.{Sound}
 
 -- an unvisited link is unskipped
-not-skipped : (st : List ℕ) (k : ℕ) → Open st k → getD st k 0 ≡ 1 → ⊥
+not-skipped : (st : List ℕ) (k : ℕ) → Unvisited st k → getD st k 0 ≡ 1 → ⊥
 not-skipped [] k o e = true≢false o refl
 not-skipped (x ∷ st) zero o e = omega (arith, eqb-true x 0 o)
 not-skipped (x ∷ st) (suc k) o e = not-skipped st k o e
@@ -45,7 +45,7 @@ sound-fine g top st r h =
       points = h .one-point;
       spread = record {
         long = λ v k o.
-            let d = before-differ (G .a k) (G .b k) (h .links .strict k (subst (λ n. k < n) (h .band .state-long) (open-below st k o))) in
+            let d = before-differ (G .a k) (G .b k) (h .links .strict k (subst (λ n. k < n) (h .band .state-long) (unvisited-below st k o))) in
             pick-ind (eqb (G .aNode k) v) (fromTo (G .a k) (G .b k)) (fromTo (G .b k) (G .a k)) (λ u. Is (nonzero u))
             (λ t. nonzero-between (G .a k) (G .b k) d) (λ n. nonzero-between (G .b k) (G .a k) (differ-sym (G .b k) (G .a k) ∙ d));
         apart = λ v x y ox oy mx my d s. true≢false (is-true s)

@@ -13,8 +13,8 @@ use Rattle.laws.specs.Test.{pick, pick-true, pick-ind, true≢false, true-is}
 use Rattle.turn.specs.Angular.{own-last}
 use Rattle.graph.specs.Graph.{Graph}
 use Rattle.laws.specs.Count.{count, counted-in}
-use Rattle.next.specs.Next.{isOpen, opens, runs, metFirst}
-use Rattle.next.specs.Choice.{Mem, opens-in, opens-of}
+use Rattle.next.specs.Next.{isUnvisited, unvisitedIn, runs, metFirst}
+use Rattle.next.specs.Choice.{Mem, unvisited-in-in, unvisited-in-of}
 use Rattle.tour.specs.Statement.{leaves, InOrder, Clockwise, ByTurns, howMany, TurnsAt, ComesByTurns}
 use Rattle.tour.specs.Alternation.{no-not, dicho}
 use Rattle.tour.specs.Around.{met-irr, met-trans, met-total, met-trans-on}
@@ -133,10 +133,10 @@ same-here : (k x : ℕ) (m l : List ℕ) → count k m ≤ count k l → count k
 unfolding count
 same-here k x m l h = omega arith
 
-count-opens : (k : ℕ) (st l : List ℕ) → count k (opens st l) ≤ count k l
-count-opens k st [] = omega arith
-count-opens k st (x ∷ l) = pick-ind (isOpen st x) (x ∷ opens st l) (opens st l) (λ m. count k m ≤ count k (x ∷ l))
-    (λ t. same-here k x (opens st l) l (count-opens k st l)) (λ n. skip k x (opens st l) l (count-opens k st l))
+count-unvisited-in : (k : ℕ) (st l : List ℕ) → count k (unvisitedIn st l) ≤ count k l
+count-unvisited-in k st [] = omega arith
+count-unvisited-in k st (x ∷ l) = pick-ind (isUnvisited st x) (x ∷ unvisitedIn st l) (unvisitedIn st l) (λ m. count k m ≤ count k (x ∷ l))
+    (λ t. same-here k x (unvisitedIn st l) l (count-unvisited-in k st l)) (λ n. skip k x (unvisitedIn st l) l (count-unvisited-in k st l))
   where
     skip : (k x : ℕ) (m l : List ℕ) → count k m ≤ count k l → count k m ≤ count k (x ∷ l)
     skip k x m l h = omega (arith, more-here k x l)
@@ -237,27 +237,27 @@ module _ (g : Graph) (st : List ℕ) (ok : Sound g st) (v : ℕ) where
       by zero e = omega arith
       by (suc n) e = omega (arith, ok .single v k (counted-in k (g .entries v) (omega arith)))
 
-  once-opens : Once (opens st (g .entries v))
-  once-opens k = omega (arith, count-opens k st (g .entries v), once-entries k)
+  once-unvisited-in : Once (unvisitedIn st (g .entries v))
+  once-unvisited-in k = omega (arith, count-unvisited-in k st (g .entries v), once-entries k)
 
-  opens-at : (u : ℕ) → Mem u (opens st (g .entries v)) → M u
-  opens-at u m = opens-of st (g .entries v) u m
+  unvisited-in-at : (u : ℕ) → Mem u (unvisitedIn st (g .entries v)) → M u
+  unvisited-in-at u m = unvisited-in-of st (g .entries v) u m
 
-  at-opens : (u : ℕ) → M u → Mem u (opens st (g .entries v))
-  at-opens u m = opens-in st (g .entries v) u (m .0) (m .1)
+  at-unvisited-in : (u : ℕ) → M u → Mem u (unvisitedIn st (g .entries v))
+  at-unvisited-in u m = unvisited-in-in st (g .entries v) u (m .0) (m .1)
 
   -- the same of any list that has them, each as often
   abbrev These : List ℕ → Type 0
-  These l = (k : ℕ) → count k l ≡ count k (opens st (g .entries v))
+  These l = (k : ℕ) → count k l ≡ count k (unvisitedIn st (g .entries v))
 
   these-at : (l : List ℕ) → These l → (u : ℕ) → Mem u l → M u
-  these-at l t u m = opens-at u (counted-in u (opens st (g .entries v)) (omega (arith, t u, mem-count u l m)))
+  these-at l t u m = unvisited-in-at u (counted-in u (unvisitedIn st (g .entries v)) (omega (arith, t u, mem-count u l m)))
 
   at-these : (l : List ℕ) → These l → (u : ℕ) → M u → Mem u l
-  at-these l t u m = counted-in u l (omega (arith, t u, mem-count u (opens st (g .entries v)) (at-opens u m)))
+  at-these l t u m = counted-in u l (omega (arith, t u, mem-count u (unvisitedIn st (g .entries v)) (at-unvisited-in u m)))
 
   these-once : (l : List ℕ) → These l → Once l
-  these-once l t k = omega (arith, t k, once-opens k)
+  these-once l t k = omega (arith, t k, once-unvisited-in k)
 
   -- ---- from the list to the next clockwise
   abbrev NextAt : ℕ → Type 0
@@ -324,12 +324,12 @@ module _ (g : Graph) (st : List ℕ) (ok : Sound g st) (v : ℕ) where
       by (yes r) = ap (leaves g v) (sym r) ∙ n .2
       by (no d) = ⊎-elim (λ h. absurd (gap (n .0) (n .1 .0) h)) (λ h. absurd (n .1 .1 q mq h)) (order p (n .0) q mp (n .1 .0) mq d)
 
-  turns-of : (l : List ℕ) → l ≡ opens st (g .entries v) → ((x : ℕ) → M x → NextAt x) → TurnsAt g st v
+  turns-of : (l : List ℕ) → l ≡ unvisitedIn st (g .entries v) → ((x : ℕ) → M x → NextAt x) → TurnsAt g st v
   turns-of [] q next = record { round = []; these = λ k. ap (count k) q; clockwise = tt; by-turns = tt; as-many = refl }
   turns-of (e ∷ l) q next =
-      let at : (u : ℕ) → Mem u (e ∷ l) → M u = λ u m. opens-at u (subst (Mem u) q m) in
+      let at : (u : ℕ) → Mem u (e ∷ l) → M u = λ u m. unvisited-in-at u (subst (Mem u) q m) in
       let me : M e = at e (List·Memᴰ·head refl) in
-      let one : Once (e ∷ l) = λ k. subst (λ m. count k m ≤ 1) (sym q) (once-opens k) in
+      let one : Once (e ∷ l) = λ k. subst (λ m. count k m ≤ 1) (sym q) (once-unvisited-in k) in
       let s : List ℕ = sorted e l in
       let t : These (e ∷ s) = λ k. count-cons k e s l (sorted-count k e l) ∙ ap (count k) q in
       let o : InOrder g v e s = sorted-order e l me (λ u m. at u (List·Memᴰ·tail m)) (once-tail e l one) in
@@ -350,4 +350,4 @@ pub next-turns : (g : Graph) (st : List ℕ) → Sound g st → ComesByTurns g s
 next-turns g st ok t v x m = next-turns-at g st ok v (t v) x m
 
 pub comes-by-turns : (g : Graph) (st : List ℕ) → Sound g st → NextTurns g st → ComesByTurns g st
-comes-by-turns g st ok n v = turns-of g st ok v (opens st (g .entries v)) refl (n v)
+comes-by-turns g st ok n v = turns-of g st ok v (unvisitedIn st (g .entries v)) refl (n v)

@@ -9,8 +9,8 @@ use Rattle.laws.specs.Count.{count}
 use Rattle.graph.specs.Fine.{OnePoint}
 use Rattle.next.specs.Next.{metFirst}
 use Rattle.next.specs.Choice.{Mem}
-use Rattle.next.specs.States.{open-below}
-use Rattle.walk.specs.States.{Open}
+use Rattle.next.specs.States.{unvisited-below}
+use Rattle.walk.specs.States.{Unvisited}
 use Rattle.tour.specs.Statement.{leaves}
 use Rattle.tour.specs.Ends.{Listed}
 use Rattle.tour.specs.Around.{Spread}
@@ -22,12 +22,12 @@ pub record Sound (g : Graph) (st : List ℕ) : Type 0 where
   pub points : OnePoint g
   pub spread : Spread g st
 
-pub below : (g : Graph) (st : List ℕ) → Sound g st → (k : ℕ) → Open st k → k < g .n
-below g st ok k o = subst (λ x. k < x) (ok .states) (open-below st k o)
+pub below : (g : Graph) (st : List ℕ) → Sound g st → (k : ℕ) → Unvisited st k → k < g .n
+below g st ok k o = subst (λ x. k < x) (ok .states) (unvisited-below st k o)
 
 -- an unskipped link at node v
 abbrev pub At : Graph → List ℕ → ℕ → ℕ → Type 0
-At g st v k = Mem k (g .entries v) × Open st k
+At g st v k = Mem k (g .entries v) × Unvisited st k
 
 -- none of the unskipped links at node v is met between x and z, turning clockwise
 abbrev pub NoneBetween : Graph → List ℕ → ℕ → ℕ → ℕ → Type 0

@@ -13,10 +13,10 @@ use Rattle.turn.specs.declared.Checked.the-variants.{Fine}
 use Rattle.graph.specs.Graph.{Lent, Graph, graphOf}
 use Rattle.laws.specs.Count.{count}
 use Rattle.graph.specs.Checks.{Room, checked}
-use Rattle.next.specs.Next.{isOpen, opens, metFirst}
+use Rattle.next.specs.Next.{isUnvisited, unvisitedIn, metFirst}
 use Rattle.walk.specs.Walk.{Step, Walk, left}
 use Rattle.scan.specs.Scan.{walks, scan}
-use Rattle.scan.specs.Outcome.{statesAfter, areas, total}
+use Rattle.keep.specs.Outcome.{statesAfter, areas, total}
 
 -- ---- What is asked: clockwise round every node the unskipped links come by turns as arriving and leaving, as many of one as of the other.
 
@@ -49,7 +49,7 @@ pub record TurnsAt (g : Graph) (st : List ℕ) (v : ℕ) : Type 0 where
   -- a list of links
   pub round : List ℕ
   -- that holds the unskipped links at node v, each as often as the node does
-  pub these : (k : ℕ) → count k round ≡ count k (opens st (g .entries v))
+  pub these : (k : ℕ) → count k round ≡ count k (unvisitedIn st (g .entries v))
   -- goes clockwise round the node
   pub clockwise : Clockwise g v round
   -- by turns leaves and arrives
@@ -106,14 +106,14 @@ sumOf (suc n) f = f 0 +ℤ sumOf n (λ k. f (suc k))
 
 -- the total over the unskipped links
 abbrev pub linkTotal : Graph → Bool → List ℕ → ℤ
-linkTotal g cw st = sumOf (g .n) (λ k. pick (isOpen st k) (adds g cw k) (pos 0))
+linkTotal g cw st = sumOf (g .n) (λ k. pick (isUnvisited st k) (adds g cw k) (pos 0))
 
 pub record Toured (g : Graph) (cw : Bool) (st : List ℕ) : Type 0 where
   pub found : List Walk
   -- no walk is refused: the scan ends with all its walks, and leaves the states that they give
   pub done : scan g cw st ≡ walks found (statesAfter found st)
   -- each unskipped link is walked exactly once, and no other link
-  pub once : (k : ℕ) → count k (linksOf found) ≡ pick (isOpen st k) 1 0
+  pub once : (k : ℕ) → count k (linksOf found) ≡ pick (isUnvisited st k) 1 0
   -- with fill on the left, for clockwise output on the right
   pub fill : (w : Walk) → List·Memᴰ w found → (s : Step) → List·Memᴰ s (w .steps) → fillOnLeft g s ≡ not cw
   -- every walk is closed

@@ -11,13 +11,12 @@ use Rattle.laws.specs.Int.{+ℤ-left}
 use Rattle.turn.specs.Area.{wedge, areaTo, area}
 use Rattle.graph.specs.Graph.{Graph}
 use Rattle.graph.specs.Fine.{OnePoint}
-use Rattle.next.specs.Next.{isOpen}
-use Rattle.walk.specs.Walk.{Step, Walk, left, marked}
-use Rattle.scan.specs.Scan.{markOf}
-use Rattle.scan.specs.Outcome.{areas, total, statesAfter}
-use Rattle.walk.specs.States.{Open, NoneOpen, Mark, set-of, over, over-set, over-none}
-use Rattle.walk.specs.Visits.{Fresh}
-use Rattle.scan.specs.Visits.{AllFresh, mark-of}
+use Rattle.next.specs.Next.{isUnvisited}
+use Rattle.walk.specs.Walk.{Step, Walk, left, marked, markOf}
+use Rattle.keep.specs.Outcome.{areas, total, statesAfter}
+use Rattle.walk.specs.States.{Unvisited, NoneUnvisited, Mark, set-of, over, over-set, over-none}
+use Rattle.walk.specs.Visits.{Fresh, mark-of}
+use Rattle.scan.specs.Visits.{AllFresh}
 use Rattle.tour.specs.Statement.{reached, adds, sumOf}
 use Rattle.tour.specs.Ends.{wayOf, headN, tailN}
 use Rattle.tour.specs.OneWalk.{Chain}
@@ -34,23 +33,23 @@ allAlong w (x ∷ ws) r = along w (x .steps) (allAlong w ws r)
 
 -- ---- the walks of a scan have each unvisited link once: their sum is the sum over the unvisited links
 module _ (w : ℕ → ℤ) where
-  abbrev overOpen : List ℕ → ℤ
-  overOpen st = over _+ℤ_ (pos 0) w st
+  abbrev overUnvisited : List ℕ → ℤ
+  overUnvisited st = over _+ℤ_ (pos 0) w st
 
-  fresh-over : (m : ℕ) (st : List ℕ) (l : List Step) → Mark m → Fresh m st l → overOpen st ≡ along w l (overOpen (marked m l st))
+  fresh-over : (m : ℕ) (st : List ℕ) (l : List Step) → Mark m → Fresh m st l → overUnvisited st ≡ along w l (overUnvisited (marked m l st))
   fresh-over m st [] n f = refl
   fresh-over m st (s ∷ l) n f = over-set _+ℤ_ (pos 0) +ℤ-left w st (s .link) m (f .0) n ∙ ap (λ r. w (s .link) +ℤ r) (fresh-over m (set st (s .link) m) l n (f .1))
 
-  walks-over : (st : List ℕ) (ws : List Walk) → AllFresh st ws → overOpen st ≡ allAlong w ws (overOpen (statesAfter ws st))
+  walks-over : (st : List ℕ) (ws : List Walk) → AllFresh st ws → overUnvisited st ≡ allAlong w ws (overUnvisited (statesAfter ws st))
   walks-over st [] f = refl
   walks-over st (x ∷ ws) f =
       fresh-over (markOf (x .hole)) st (x .steps) (mark-of (x .hole)) (f .0)
       ∙ ap (along w (x .steps)) (walks-over (marked (markOf (x .hole)) (x .steps) st) ws (f .1))
 
-  all-over : (st : List ℕ) (ws : List Walk) → AllFresh st ws → NoneOpen (statesAfter ws st) → overOpen st ≡ allAlong w ws (pos 0)
+  all-over : (st : List ℕ) (ws : List Walk) → AllFresh st ws → NoneUnvisited (statesAfter ws st) → overUnvisited st ≡ allAlong w ws (pos 0)
   all-over st ws f n = walks-over st ws f ∙ ap (allAlong w ws) (over-none _+ℤ_ (pos 0) w (statesAfter ws st) n)
 
-sum-over : (w : ℕ → ℤ) (st : List ℕ) → sumOf (length st) (λ k. pick (isOpen st k) (w k) (pos 0)) ≡ over _+ℤ_ (pos 0) w st
+sum-over : (w : ℕ → ℤ) (st : List ℕ) → sumOf (length st) (λ k. pick (isUnvisited st k) (w k) (pos 0)) ≡ over _+ℤ_ (pos 0) w st
 sum-over w [] = refl
 sum-over w (x ∷ st) = by (eqb x 0) (w 0) _ _ (sum-over (λ k. w (suc k)) st)
   where
@@ -106,7 +105,7 @@ module _ (g : Graph) (pt : OnePoint g) (cw : Bool) where
   along-add (p ∷ l) r = ap (λ x. adds g cw (p .link) +ℤ x) (along-add l r) ∙ sym (+ℤ-assoc (adds g cw (p .link)) (along (adds g cw) l (pos 0)) r)
 
   abbrev Small : List ℕ → Type 0
-  Small st = (k : ℕ) → Open st k → k < g .n
+  Small st = (k : ℕ) → Unvisited st k → k < g .n
 
   fresh-within : (m : ℕ) (st : List ℕ) (l : List Step) → Mark m → Fresh m st l → Small st → Within (g .n) l × Small (marked m l st)
   fresh-within m st [] n f h = (tt, h)
@@ -122,8 +121,8 @@ module _ (g : Graph) (pt : OnePoint g) (cw : Bool) where
       ap₂ _+ℤ_ (closed-area (c .0 .0) (w .steps) (q .0) (c .0 .1)) (areas-along (marked m (w .steps) st) ws (f .1) (q .1) (c .1))
       ∙ sym (along-add (w .steps) (allAlong (adds g cw) ws (pos 0)))
 
-  pub areas-total : (st : List ℕ) (ws : List Walk) → AllFresh st ws → NoneOpen (statesAfter ws st) → length st ≡ g .n → Small st → Closed g cw ws
-      → total (areas g ws) ≡ sumOf (g .n) (λ k. pick (isOpen st k) (adds g cw k) (pos 0))
+  pub areas-total : (st : List ℕ) (ws : List Walk) → AllFresh st ws → NoneUnvisited (statesAfter ws st) → length st ≡ g .n → Small st → Closed g cw ws
+      → total (areas g ws) ≡ sumOf (g .n) (λ k. pick (isUnvisited st k) (adds g cw k) (pos 0))
   areas-total st ws f n e h c =
       areas-along st ws f h c ∙ sym (all-over (adds g cw) st ws f n) ∙ sym (sum-over (adds g cw) st)
-      ∙ ap (λ m. sumOf m (λ k. pick (isOpen st k) (adds g cw k) (pos 0))) e
+      ∙ ap (λ m. sumOf m (λ k. pick (isUnvisited st k) (adds g cw k) (pos 0))) e

@@ -10,16 +10,16 @@ use borrow.Author.Tests.{eq-eqb, ne-eqb}
 use Rattle.laws.specs.Test.{pick}
 use Rattle.graph.specs.Graph.{Graph}
 use Rattle.laws.specs.Count.{count}
-use Rattle.next.specs.Next.{isOpen, metFirst}
+use Rattle.next.specs.Next.{isUnvisited, metFirst}
 use Rattle.next.specs.Choice.{Mem}
 use Rattle.walk.specs.Walk.{Step, Walk}
 use Rattle.scan.specs.Scan.{walks, scan}
-use Rattle.walk.specs.States.{Open}
+use Rattle.walk.specs.States.{Unvisited}
 use Rattle.walk.specs.Visits.{timesIn}
 use Rattle.scan.specs.Visits.{times, scanned}
 use Rattle.tour.specs.Statement.{leaves, fillOnLeft, Line, linksOf, Toured}
 use Rattle.tour.specs.Alternation.{Cyc, no-not}
-use Rattle.tour.specs.Ends.{End, hd, tl, link, arrives, headN, node, OpenEnd, end-at, listed, same-end}
+use Rattle.tour.specs.Ends.{End, hd, tl, link, arrives, headN, node, UnvisitedEnd, end-at, listed, same-end}
 use Rattle.tour.specs.OneWalk.{Chain, ByTurns}
 use Rattle.tour.specs.AllWalks.{Closed, Scans, all-ok}
 use Rattle.tour.specs.Around.{Met, met-irr, met-trans, cyc, seen}
@@ -94,20 +94,20 @@ times-of k (w ∷ ws) = omega (arith, count-append k (map (λ s. s .link) (w .st
 
 -- ---- the theorem
 module _ (g : Graph) (st : List ℕ) (ok : Sound g st) (turns : NextTurns g st) (cw : Bool) where
-  one-end : (x y : End) → OpenEnd st x → link x ≡ link y → node g cw x ≡ node g cw y → x ≡ y
+  one-end : (x y : End) → UnvisitedEnd st x → link x ≡ link y → node g cw x ≡ node g cw y → x ≡ y
   one-end x y o = same-end g (ok .lists) cw x y (below g st ok (link x) o)
 
-  in-list : (x : End) → OpenEnd st x → Mem (link x) (g .entries (node g cw x))
+  in-list : (x : End) → UnvisitedEnd st x → Mem (link x) (g .entries (node g cw x))
   in-list x o = listed g (ok .lists) cw x (below g st ok (link x) o)
 
-  by-end : (v : ℕ) (x : End) → OpenEnd st x → node g cw x ≡ v → leaves g v (link x) ≡ Bool·beq (arrives x) cw
+  by-end : (v : ℕ) (x : End) → UnvisitedEnd st x → node g cw x ≡ v → leaves g v (link x) ≡ Bool·beq (arrives x) cw
   by-end v (hd k) o n = leave-hd (g .top k) cw (g .aNode k) (g .bNode k) v (ok .lists .differ k (below g st ok k o)) n
   by-end v (tl k) o n = leave-tl (g .top k) cw (g .aNode k) (g .bNode k) v (ok .lists .differ k (below g st ok k o)) n
 
-  C : Cyc End (node g cw) (OpenEnd st) (Met g cw st)
+  C : Cyc End (node g cw) (UnvisitedEnd st) (Met g cw st)
   C = cyc g cw st (ok .spread) in-list one-end
 
-  by-turns : ByTurns g cw (Met g cw st) (OpenEnd st)
+  by-turns : ByTurns g cw (Met g cw st) (UnvisitedEnd st)
   by-turns v x y ox oy nx ny s =
       let mx : Mem (link x) (g .entries v) = subst (λ u. Mem (link x) (g .entries u)) nx (in-list x ox) in
       let my : Mem (link y) (g .entries v) = subst (λ u. Mem (link y) (g .entries u)) ny (in-list y oy) in
@@ -115,9 +115,9 @@ module _ (g : Graph) (st : List ℕ) (ok : Sound g st) (turns : NextTurns g st) 
       ⊎-elim (λ p. found r my (tl (r .0)) refl p) (λ p. found r my (hd (r .0)) refl p) (end-at g (ok .lists) cw v (r .0) (r .1 .0 .0))
     where
       found : (r : (z : ℕ) × (At g st v z × NoneBetween g st v (link x) z) × (leaves g v z ≡ not (leaves g v (link x)))) → Mem (link y) (g .entries v) → (ζ : End) → link ζ ≡ r .0 → node g cw ζ ≡ v
-          → (z : End) × OpenEnd st z × (node g cw z ≡ v) × (arrives z ≡ not (arrives x)) × Met g cw st x z y
+          → (z : End) × UnvisitedEnd st z × (node g cw z ≡ v) × (arrives z ≡ not (arrives x)) × Met g cw st x z y
       found r my ζ lz nz =
-          let oz : OpenEnd st ζ = subst (Open st) (sym lz) (r .1 .0 .1) in
+          let oz : UnvisitedEnd st ζ = subst (Unvisited st) (sym lz) (r .1 .0 .1) in
           let sz : arrives ζ ≡ not (arrives x) =
           sorts (arrives ζ) (arrives x) cw (sym (by-end v ζ oz nz) ∙ ap (leaves g v) lz ∙ r .2 ∙ ap not (by-end v x ox nx)) in (
             ζ,
@@ -142,5 +142,5 @@ module _ (g : Graph) (st : List ℕ) (ok : Sound g st) (turns : NextTurns g st) 
         once = λ k. times-of k (r .all) ∙ f .once k;
         fill = λ w m. let c = in-closed g cw (r .all) (r .closed) w m in chain-fill g cw (c .0) (c .0) (w .steps) (c .1);
         closed = λ w m. let c = in-closed g cw (r .all) (r .closed) w m in (c .0, chain-line g cw (c .0) (c .0) (w .steps) (c .1));
-        area = areas-total g (ok .points) cw st (r .all) (f .fresh) (λ k. ap (λ s. isOpen s k) (sym (f .states)) ∙ f .none k) (ok .states) (below g st ok) (r .closed);
+        area = areas-total g (ok .points) cw st (r .all) (f .fresh) (λ k. ap (λ s. isUnvisited s k) (sym (f .states)) ∙ f .none k) (ok .states) (below g st ok) (r .closed);
       }

@@ -20,13 +20,13 @@ use Rattle.next.specs.declared.Next.{Next}
 use Rattle.next.specs.declared.Next.the-variants.{Link, Nothing}
 use Rattle.next.specs.Next.{runs, other, nextLink, firstLink, unvisited}
 use Rattle.next.specs.Choice.{Mem}
-use Rattle.walk.specs.Walk.{Step, Walk, Walked, stuck, done, consStep, onNext, stepFrom, walkOn, walkFrom, left, marked}
-use Rattle.scan.specs.Scan.{markOf, senseOf, walkOf, Scanned, stopped, walks, consWalk, afterWalk, scanAt, lowestOpen, scanOn, scan}
-use Rattle.scan.specs.Outcome.{areaOf, keeps}
-use Rattle.walk.specs.States.{Open, Mark, set-of}
+use Rattle.walk.specs.Walk.{Step, Walk, Walked, stuck, done, consStep, onNext, stepFrom, walkOn, walkFrom, left, marked, markOf}
+use Rattle.scan.specs.Scan.{senseOf, walkOf, Scanned, stopped, walks, consWalk, afterWalk, scanAt, lowestUnvisited, scanOn, scan}
+use Rattle.keep.specs.Outcome.{areaOf, keeps}
+use Rattle.walk.specs.States.{Unvisited, Mark, set-of}
 use Rattle.walk.specs.Named.{Among, next-among}
-use Rattle.walk.specs.Visits.{Fresh}
-use Rattle.scan.specs.Visits.{AllFresh, mark-of, scanned}
+use Rattle.walk.specs.Visits.{Fresh, mark-of}
+use Rattle.scan.specs.Visits.{AllFresh, scanned}
 use Rattle.tour.specs.Statement.{nodeLeft, nodeReached, Line, Closed, reached}
 use Rattle.tour.specs.Ends.{Listed}
 use Rattle.tour.specs.Sums.{meet}
@@ -112,14 +112,14 @@ module _ (g : Graph) (ok : Listed g) where
     scan-rounds : (fuel : ℕ) (st : List ℕ) → AllRounds (scanOn fuel g cw st)
     unfolding scanOn
     scan-rounds zero st = none-there st
-    scan-rounds (suc fuel) st = pick-ind (ltb (lowestOpen st) (length st)) _ (walks [] st) AllRounds
-        (λ t. at-first (λ after. scanOn fuel g cw after) st (lowestOpen st) (firstLink g st (lowestOpen st)) (scan-rounds fuel))
+    scan-rounds (suc fuel) st = pick-ind (ltb (lowestUnvisited st) (length st)) _ (walks [] st) AllRounds
+        (λ t. at-first (λ after. scanOn fuel g cw after) st (lowestUnvisited st) (firstLink g st (lowestUnvisited st)) (scan-rounds fuel))
         (λ n. none-there st)
 
 -- ---- a closed walk along different links has three steps or more
 module _ (g : Graph) (st : List ℕ) (ok : Sound g st) where
   abbrev Known : Step → Type 0
-  Known s = Open st (s .link)
+  Known s = Unvisited st (s .link)
 
   differ : (s : Step) → Known s → g .aNode (s .link) ≡ g .bNode (s .link) → ⊥
   differ s o = ok .lists .differ (s .link) (below g st ok (s .link) o)
@@ -177,7 +177,7 @@ module _ (g : Graph) (st : List ℕ) (ok : Sound g st) where
       ok .spread .apart h (s .link) (t .link) os ot (at-node h s os (inl (l .0))) (at-node h t ot (inr (l .1 .1))) (λ q. d (sym q))
       (subst (λ u. Is (sameDirection (runs g h (s .link)) u)) one (same-refl (runs g h (s .link)) (ok .spread .long h (s .link) os)))
 
-  three-steps : (m : ℕ) (now : List ℕ) (l : List Step) → Mark m → Fresh m now l → ((k : ℕ) → Open now k → Open st k) → ((v : ℕ) × Line g v l v) → 0 < length l → 3 ≤ length l
+  three-steps : (m : ℕ) (now : List ℕ) (l : List Step) → Mark m → Fresh m now l → ((k : ℕ) → Unvisited now k → Unvisited st k) → ((v : ℕ) × Line g v l v) → 0 < length l → 3 ≤ length l
   three-steps m now [] n f sub c z = absurd (none z)
     where
       none : 0 < 0 → ⊥
@@ -188,19 +188,19 @@ module _ (g : Graph) (st : List ℕ) (ok : Sound g st) where
       absurd (not-two (c .0) s t (sub (s .link) (f .0)) (sub (t .link) (o .0)) (o .1) (c .1))
   three-steps m now (s ∷ (t ∷ (u ∷ l))) n f sub c z = omega arith
 
-  -- what is open after a walk was open before
-  open-before : (m : ℕ) (now : List ℕ) (l : List Step) → Mark m → Fresh m now l → (k : ℕ) → Open (marked m l now) k → Open now k
-  open-before m now [] n f k o = o
-  open-before m now (s ∷ l) n f k o = set-of now (s .link) m k (f .0) n (open-before m (set now (s .link) m) l n (f .1) k o) .0
+  -- what is unvisited after a walk was unvisited before
+  unvisited-before : (m : ℕ) (now : List ℕ) (l : List Step) → Mark m → Fresh m now l → (k : ℕ) → Unvisited (marked m l now) k → Unvisited now k
+  unvisited-before m now [] n f k o = o
+  unvisited-before m now (s ∷ l) n f k o = set-of now (s .link) m k (f .0) n (unvisited-before m (set now (s .link) m) l n (f .1) k o) .0
 
-  all-three : (now : List ℕ) (ws : List Walk) → AllFresh now ws → ((k : ℕ) → Open now k → Open st k)
+  all-three : (now : List ℕ) (ws : List Walk) → AllFresh now ws → ((k : ℕ) → Unvisited now k → Unvisited st k)
       → ((w : Walk) → List·Memᴰ w ws → ((v : ℕ) × Line g v (w .steps) v) × (0 < length (w .steps))) → (w : Walk) → List·Memᴰ w ws → 3 ≤ length (w .steps)
   all-three now [] f sub c w i = absurd (List·Memᴰ·not-nil i)
   all-three now (x ∷ ws) f sub c w i =
       let m : ℕ = markOf (x .hole) in
       ⊎-elim
       (λ (e : w ≡ x). let r = c w i in three-steps m now (w .steps) (mark-of (x .hole)) (subst (λ y. Fresh m now (y .steps)) (sym e) (f .0)) sub (r .0) (r .1))
-      (λ k. all-three (marked m (x .steps) now) ws (f .1) (λ j o. sub j (open-before m now (x .steps) (mark-of (x .hole)) (f .0) j o)) (λ y q. c y (List·Memᴰ·tail q)) w k)
+      (λ k. all-three (marked m (x .steps) now) ws (f .1) (λ j o. sub j (unvisited-before m now (x .steps) (mark-of (x .hole)) (f .0) j o)) (λ y q. c y (List·Memᴰ·tail q)) w k)
       (List·Memᴰ·cases-cons i)
 
 -- ---- of what is lent: closed, and with three points or more

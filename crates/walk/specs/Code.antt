@@ -11,7 +11,7 @@ use Rattle.turn.specs.declared.Point.{Point}
 use Rattle.graph.specs.Graph.{Graph, Lent, graphOf}
 use Rattle.next.specs.declared.Next.{Next}
 use Rattle.next.specs.declared.Next.the-variants.{Link, Nothing}
-use Rattle.next.specs.Next.{isOpen, unvisited, other, nextLink}
+use Rattle.next.specs.Next.{isUnvisited, unvisited, other, nextLink}
 use Rattle.next.specs.Known.{Links, Nodes}
 use Rattle.walk.specs.declared.Walker.{Walker}
 use Rattle.walk.specs.declared.Stepped.{Stepped}
@@ -45,7 +45,7 @@ unmark x = pick (eqb x 1) 1 0
 pub record Kept (s s′ : List ℕ) : Type 0 where
   pub len : length s′ ≡ length s
   pub marks : map unmark s′ ≡ map unmark s
-  pub closed : (j : ℕ) → isOpen s j ≡ false → isOpen s′ j ≡ false
+  pub closed : (j : ℕ) → isUnvisited s j ≡ false → isUnvisited s′ j ≡ false
 
 -- ---- one walk
 

@@ -12,7 +12,7 @@ use Rattle.next.specs.declared.Next.{Next}
 use Rattle.next.specs.declared.Next.the-variants.{Link, Nothing}
 use Rattle.next.specs.Next.{unvisited, other, nextLink}
 use Rattle.walk.specs.Walk.{Walked, stuck, done, consStep, onNext, stepFrom, walkOn}
-use Rattle.walk.specs.States.{Open, Mark, unvisited-set}
+use Rattle.walk.specs.States.{Unvisited, Mark, unvisited-set}
 use Rattle.walk.specs.Named.{Among, next-among}
 
 pub no-fewer : (st : List ℕ) → unvisited st < 0 → ⊥
@@ -20,7 +20,7 @@ no-fewer st h = omega arith
 
 -- ---- a walk
 module _ (g : Graph) (w : Bool) (home last mark : ℕ) (m : Mark mark) where
-  same-next : (p q : ℕ → ℕ → List ℕ → Walked) (v : ℕ) (st l : List ℕ) → ((v e f : ℕ) → Open st f → p v e (set st f mark) ≡ q v e (set st f mark)) → (o : Next) → Among st l o
+  same-next : (p q : ℕ → ℕ → List ℕ → Walked) (v : ℕ) (st l : List ℕ) → ((v e f : ℕ) → Unvisited st f → p v e (set st f mark) ≡ q v e (set st f mark)) → (o : Next) → Among st l o
       → onNext (λ f. consStep (stepFrom g v f) (p (other g v f) f (set st f mark))) o ≡ onNext (λ f. consStep (stepFrom g v f) (q (other g v f) f (set st f mark))) o
   same-next p q v st l h Nothing a = refl
   same-next p q v st l h (Link f) a = ap (consStep (stepFrom g v f)) (h (other g v f) f f (a .1))
@@ -36,5 +36,5 @@ module _ (g : Graph) (w : Bool) (home last mark : ℕ) (m : Mark mark) where
       (λ u d f o. walk-enough fuel fuel′ u d (set st f mark) (less f o h) (less f o k))
       (nextLink g w st v e) (next-among g w st v e))
     where
-      less : {n : ℕ} (f : ℕ) → Open st f → unvisited st < suc n → unvisited (set st f mark) < n
+      less : {n : ℕ} (f : ℕ) → Unvisited st f → unvisited st < suc n → unvisited (set st f mark) < n
       less f o h = omega (arith, unvisited-set st f mark o m)

@@ -8,7 +8,7 @@ use native.Mathlib.Decide.{ℕ-discrete}
 use lib.ListN.{getD, set, length-set}
 use lib.Seq.{map-set-same}
 use borrow.Author.Tests.{eq-eqb, ne-eqb}
-use Rattle.next.specs.Next.{isOpen, unvisited}
+use Rattle.next.specs.Next.{isUnvisited, unvisited}
 use Rattle.walk.specs.States.{Mark, set-same, set-other, unvisited-set}
 use Rattle.walk.specs.Code.{unmark, Kept, Marks}
 
@@ -21,8 +21,8 @@ is-mark m h = ne-eqb m 0 (λ e. absurd (l e))
 pub kept-mark : (st : List ℕ) (k m : ℕ) → Marks m → getD st k 1 ≡ 0 → Kept st (set st k m)
 kept-mark st k m h e = record { len = length-set st k m; marks = map-set-same unmark st k m 1 (same ∙ ap unmark (sym e)); closed = stays }
   where
-    stays : (j : ℕ) → isOpen st j ≡ false → isOpen (set st k m) j ≡ false
-    stays j c = elim (ℕ-discrete j k) [ yes q ↦ ap (isOpen (set st k m)) q ∙ set-same st k m (eq-eqb _ _ e) (is-mark m h) | no d ↦ set-other st k m j d ∙ c ]
+    stays : (j : ℕ) → isUnvisited st j ≡ false → isUnvisited (set st k m) j ≡ false
+    stays j c = elim (ℕ-discrete j k) [ yes q ↦ ap (isUnvisited (set st k m)) q ∙ set-same st k m (eq-eqb _ _ e) (is-mark m h) | no d ↦ set-other st k m j d ∙ c ]
 
     not-one : m ≡ 1 → ⊥
     not-one q = omega arith

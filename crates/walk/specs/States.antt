@@ -9,37 +9,37 @@ use lib.ListN.{length, set}
 use lib.Seq.{getD-set-same, getD-set-other}
 use lib.Dec.{eqb}
 use Rattle.laws.specs.Test.{pick, pick-true, pick-false, true≢false}
-use Rattle.next.specs.Next.{isOpen, unvisited}
-use Rattle.next.specs.States.{open-below}
+use Rattle.next.specs.Next.{isUnvisited, unvisited}
+use Rattle.next.specs.States.{unvisited-below}
 
 -- link k is unvisited
-abbrev pub Open : List ℕ → ℕ → Type 0
-Open st k = isOpen st k ≡ true
+abbrev pub Unvisited : List ℕ → ℕ → Type 0
+Unvisited st k = isUnvisited st k ≡ true
 
 -- no link is
-abbrev pub NoneOpen : List ℕ → Type 0
-NoneOpen st = (k : ℕ) → isOpen st k ≡ false
+abbrev pub NoneUnvisited : List ℕ → Type 0
+NoneUnvisited st = (k : ℕ) → isUnvisited st k ≡ false
 
 -- a mark: any state but 0
 abbrev pub Mark : ℕ → Type 0
 Mark m = eqb m 0 ≡ false
 
 -- ---- one link is marked
-pub set-other : (st : List ℕ) (f m j : ℕ) → j ≢ f → isOpen (set st f m) j ≡ isOpen st j
+pub set-other : (st : List ℕ) (f m j : ℕ) → j ≢ f → isUnvisited (set st f m) j ≡ isUnvisited st j
 set-other st f m j d = ap (λ x. eqb x 0) (getD-set-other st f j m 1 d)
 
-pub set-same : (st : List ℕ) (f m : ℕ) → Open st f → Mark m → isOpen (set st f m) f ≡ false
-set-same st f m o n = ap (λ x. eqb x 0) (getD-set-same st f m 1 (open-below st f o)) ∙ n
+pub set-same : (st : List ℕ) (f m : ℕ) → Unvisited st f → Mark m → isUnvisited (set st f m) f ≡ false
+set-same st f m o n = ap (λ x. eqb x 0) (getD-set-same st f m 1 (unvisited-below st f o)) ∙ n
 
-pub set-gone : (st : List ℕ) (f m : ℕ) → Open st f → Mark m → Open (set st f m) f → ⊥
+pub set-gone : (st : List ℕ) (f m : ℕ) → Unvisited st f → Mark m → Unvisited (set st f m) f → ⊥
 set-gone st f m o n t = true≢false t (set-same st f m o n)
 
-pub set-in : (st : List ℕ) (f m j : ℕ) → Open st j → j ≢ f → Open (set st f m) j
+pub set-in : (st : List ℕ) (f m j : ℕ) → Unvisited st j → j ≢ f → Unvisited (set st f m) j
 set-in st f m j o d = set-other st f m j d ∙ o
 
-pub set-of : (st : List ℕ) (f m j : ℕ) → Open st f → Mark m → Open (set st f m) j → Open st j × (j ≡ f → ⊥)
+pub set-of : (st : List ℕ) (f m j : ℕ) → Unvisited st f → Mark m → Unvisited (set st f m) j → Unvisited st j × (j ≡ f → ⊥)
 set-of st f m j o n t =
-    let d : j ≡ f → ⊥ = λ q. set-gone st f m o n (subst (Open (set st f m)) q t) in
+    let d : j ≡ f → ⊥ = λ q. set-gone st f m o n (subst (Unvisited (set st f m)) q t) in
     (sym (set-other st f m j d) ∙ t, d)
 
 -- ---- totals over the unvisited links: op (w j) (op (w k) .. z), for the unvisited j, k, ..
@@ -49,7 +49,7 @@ over op z w (x ∷ st) = pick (eqb x 0) (op (w 0) (over op z (λ k. w (suc k)) s
 
 module _ {A : Type 0} (op : A → A → A) (z : A) (left : (x y r : A) → op x (op y r) ≡ op y (op x r)) where
   -- a link that is marked falls out
-  pub over-set : (w : ℕ → A) (st : List ℕ) (k m : ℕ) → Open st k → Mark m → over op z w st ≡ op (w k) (over op z w (set st k m))
+  pub over-set : (w : ℕ → A) (st : List ℕ) (k m : ℕ) → Unvisited st k → Mark m → over op z w st ≡ op (w k) (over op z w (set st k m))
   over-set w [] k m t n = absurd (true≢false t refl)
   over-set w (x ∷ st) zero m t n =
       let r : A = over op z (λ k. w (suc k)) st in
@@ -60,7 +60,7 @@ module _ {A : Type 0} (op : A → A → A) (z : A) (left : (x y r : A) → op x 
       by true r r′ ih = ap (op (w 0)) ih ∙ left (w 0) (w (suc k)) r′
       by false r r′ ih = ih
 
-pub over-none : {A : Type 0} (op : A → A → A) (z : A) (w : ℕ → A) (st : List ℕ) → NoneOpen st → over op z w st ≡ z
+pub over-none : {A : Type 0} (op : A → A → A) (z : A) (w : ℕ → A) (st : List ℕ) → NoneUnvisited st → over op z w st ≡ z
 over-none op z w [] h = refl
 over-none op z w (x ∷ st) h = pick-false (op (w 0) (over op z (λ k. w (suc k)) st)) (over op z (λ k. w (suc k)) st) (h 0) ∙ over-none op z (λ k. w (suc k)) st (λ k. h (suc k))
 
@@ -73,11 +73,11 @@ unvisited-over (x ∷ st) = by (eqb x 0) _ _ (unvisited-over st)
     by true n r h = omega arith
     by false n r h = h
 
-pub unvisited-set : (st : List ℕ) (k m : ℕ) → Open st k → Mark m → unvisited st ≡ suc (unvisited (set st k m))
+pub unvisited-set : (st : List ℕ) (k m : ℕ) → Unvisited st k → Mark m → unvisited st ≡ suc (unvisited (set st k m))
 unvisited-set st k m o n =
     omega (arith, unvisited-over st, unvisited-over (set st k m), over-set _+_ 0 (λ x y r. omega arith) (λ k. 1) st k m o n)
 
-pub none-unvisited : (st : List ℕ) → NoneOpen st → unvisited st ≡ 0
+pub none-unvisited : (st : List ℕ) → NoneUnvisited st → unvisited st ≡ 0
 none-unvisited st h = unvisited-over st ∙ over-none _+_ 0 (λ k. 1) st h
 
 -- and it is no more than the number of links

@@ -3,7 +3,7 @@ use Prim.Native.Nat.{ℕ, zero, suc, _+_, _<_}
 use native.Mathlib.Omega.{arith}
 use native.Mathlib.Decide.{ℕ-discrete}
 use mathlib.Core.Path.{_≡_, refl, sym, ap, ap₂, _∙_}
-use mathlib.Core.Bool.{Bool, not}
+use mathlib.Core.Bool.{Bool, true, false, not}
 use mathlib.Core.List.{List, [], _∷_}
 use lib.ListN.{length, set}
 use lib.Dec.{eqb}
@@ -12,15 +12,15 @@ use Rattle.laws.specs.Test.{pick, pick-true, pick-false, pick-ind}
 use Rattle.graph.specs.Graph.{Graph}
 use Rattle.next.specs.declared.Next.{Next}
 use Rattle.next.specs.declared.Next.the-variants.{Link, Nothing}
-use Rattle.next.specs.Next.{isOpen, unvisited, other, nextLink}
-use Rattle.walk.specs.Walk.{Step, Walked, stuck, done, consStep, onNext, stepFrom, walkOn, walkFrom, marked}
-use Rattle.walk.specs.States.{Open, Mark, set-other, set-same, unvisited-set}
+use Rattle.next.specs.Next.{isUnvisited, unvisited, other, nextLink}
+use Rattle.walk.specs.Walk.{Step, Walked, stuck, done, consStep, onNext, stepFrom, walkOn, walkFrom, marked, markOf}
+use Rattle.walk.specs.States.{Unvisited, Mark, set-other, set-same, unvisited-set}
 use Rattle.walk.specs.Named.{Among, next-among}
 
 -- ---- walks that mark unvisited links only
 abbrev pub Fresh : ℕ → List ℕ → List Step → Type 0
 Fresh m st [] = Unit {0}
-Fresh m st (s ∷ l) = Open st (s .link) × Fresh m (set st (s .link) m) l
+Fresh m st (s ∷ l) = Unvisited st (s .link) × Fresh m (set st (s .link) m) l
 
 -- each visits as many links as it has steps
 pub fresh-count : (m : ℕ) (st : List ℕ) (l : List Step) → Mark m → Fresh m st l → unvisited st ≡ length l + unvisited (marked m l st)
@@ -35,16 +35,16 @@ timesIn k (s ∷ l) = pick (eqb (s .link) k) 1 0 + timesIn k l
 abbrev pub one : Bool → ℕ
 one b = pick b 1 0
 
-step-times : (k m : ℕ) (st : List ℕ) (f : ℕ) → Open st f → Mark m → pick (eqb f k) 1 0 + one (isOpen (set st f m) k) ≡ one (isOpen st k)
+step-times : (k m : ℕ) (st : List ℕ) (f : ℕ) → Unvisited st f → Mark m → pick (eqb f k) 1 0 + one (isUnvisited (set st f m) k) ≡ one (isUnvisited st k)
 step-times k m st f o n = elim (ℕ-discrete k f) [ yes q ↦ same q | no d ↦ differs d ]
   where
-    same : k ≡ f → pick (eqb f k) 1 0 + one (isOpen (set st f m) k) ≡ one (isOpen st k)
-    same q = ap₂ _+_ (pick-true 1 0 (eq-eqb f k (sym q))) (ap one (ap (isOpen (set st f m)) q ∙ set-same st f m o n)) ∙ sym (ap one (ap (isOpen st) q ∙ o))
+    same : k ≡ f → pick (eqb f k) 1 0 + one (isUnvisited (set st f m) k) ≡ one (isUnvisited st k)
+    same q = ap₂ _+_ (pick-true 1 0 (eq-eqb f k (sym q))) (ap one (ap (isUnvisited (set st f m)) q ∙ set-same st f m o n)) ∙ sym (ap one (ap (isUnvisited st) q ∙ o))
 
-    differs : (k ≡ f → ⊥) → pick (eqb f k) 1 0 + one (isOpen (set st f m) k) ≡ one (isOpen st k)
+    differs : (k ≡ f → ⊥) → pick (eqb f k) 1 0 + one (isUnvisited (set st f m) k) ≡ one (isUnvisited st k)
     differs d = omega (arith, pick-false {A = ℕ} {b = eqb f k} 1 0 (ne-eqb f k (λ q. d (sym q))), ap one (set-other st f m k d))
 
-pub fresh-times : (k m : ℕ) (st : List ℕ) (l : List Step) → Mark m → Fresh m st l → timesIn k l + one (isOpen (marked m l st) k) ≡ one (isOpen st k)
+pub fresh-times : (k m : ℕ) (st : List ℕ) (l : List Step) → Mark m → Fresh m st l → timesIn k l + one (isUnvisited (marked m l st) k) ≡ one (isUnvisited st k)
 fresh-times k m st [] n f = omega arith
 fresh-times k m st (s ∷ l) n f = omega (arith, step-times k m st (s .link) (f .0) n, fresh-times k m (set st (s .link) m) l n (f .1))
 
@@ -53,7 +53,7 @@ abbrev pub Leaves : ℕ → List ℕ → Walked → Type 0
 Leaves m st (stuck number) = Unit {0}
 Leaves m st (done l after) = (after ≡ marked m l st) × Fresh m st l
 
-leaves-cons : (m : ℕ) (st : List ℕ) (s : Step) (o : Walked) → Open st (s .link) → Leaves m (set st (s .link) m) o → Leaves m st (consStep s o)
+leaves-cons : (m : ℕ) (st : List ℕ) (s : Step) (o : Walked) → Unvisited st (s .link) → Leaves m (set st (s .link) m) o → Leaves m st (consStep s o)
 leaves-cons m st s (stuck number) o h = tt
 leaves-cons m st s (done l after) o h = (h .0, (o, h .1))
 
@@ -76,11 +76,11 @@ abbrev pub Visits : ℕ → List ℕ → Walked → Type 0
 Visits m st (stuck number) = Unit {0}
 Visits m st (done l after) = (after ≡ marked m l st) × Fresh m st l × (0 < length l)
 
-visits-cons : (m : ℕ) (st : List ℕ) (s : Step) (o : Walked) → Open st (s .link) → Leaves m (set st (s .link) m) o → Visits m st (consStep s o)
+visits-cons : (m : ℕ) (st : List ℕ) (s : Step) (o : Walked) → Unvisited st (s .link) → Leaves m (set st (s .link) m) o → Visits m st (consStep s o)
 visits-cons m st s (stuck number) o h = tt
 visits-cons m st s (done l after) o h = (h .0, (o, h .1), omega arith)
 
-pub from-visits : (g : Graph) (forward sense : Bool) (mark : ℕ) (st : List ℕ) (s : ℕ) → Open st s → Visits mark st (walkFrom g forward sense mark st s)
+pub from-visits : (g : Graph) (forward sense : Bool) (mark : ℕ) (st : List ℕ) (s : ℕ) → Unvisited st s → Visits mark st (walkFrom g forward sense mark st s)
 unfolding walkFrom
 from-visits g forward sense mark st s o = by (nextLink g (not sense) (set st s mark) (pick forward (g .aNode s) (g .bNode s)) s)
   where
@@ -97,3 +97,7 @@ from-visits g forward sense mark st s o = by (nextLink g (not sense) (set st s m
 
 pub visits-fewer : (m : ℕ) (st : List ℕ) (l : List Step) (after : List ℕ) → Mark m → Visits m st (done l after) → unvisited after < unvisited st
 visits-fewer m st l after n h = omega (arith, fresh-count m st l n (h .1), ap unvisited (h .0), h .2)
+
+pub mark-of : (hole : Bool) → Mark (markOf hole)
+mark-of true = refl
+mark-of false = refl

@@ -62,6 +62,10 @@ walkFrom g forward sense mark st s =
 
 -- ---- what is read off a walk
 
+-- rule 2: "The first link's top decides: 1 hole (state 2), 0 hull (state 3)."
+abbrev pub markOf : Bool → ℕ
+markOf hole = pick hole 2 3
+
 -- the point of the node that a step leaves
 abbrev pub left : Graph → Step → Point
 left g s = pick (s .forward) (g .a (s .link)) (g .b (s .link))

@@ -7,7 +7,7 @@ ghost use lib.ListN.{length, getD};
 ghost use Rattle.laws.specs.Test.{pick};
 ghost use Rattle.graph.specs.Graph.{Lent, lent, Graph, graphOf, pointAt};
 ghost use Rattle.next.specs.Next.{unvisited, nextLink};
-ghost use Rattle.next.specs.Known.{Links, Nodes, Unvisited};
+ghost use Rattle.next.specs.Known.{Links, Nodes, NamesUnvisited};
 ghost use Rattle.walk.specs.Walk.{walkOn, walkFrom};
 ghost use Rattle.walk.specs.Code.{put, Kept, plain, otherNode, Shape, Marks, stepOut, stepOf, Goes, WalkLeaves, Counted};
 use next::Across;
@@ -104,7 +104,7 @@ fn next_from(
     ensures { λ r. ⌜ ((bid top : List ℕ) → r ≡ nextLink
         (graphOf (lent (now (ax .entry)) (now (ay .entry)) (now (bx .entry)) (now (by .entry)) (now (aid .entry)) bid
         (now (start .entry)) (now (list .entry))) top) sense (now (state .entry)) node link) ⌝ }
-    ensures { λ r. ⌜ Unvisited (now (state .entry)) r ⌝ }
+    ensures { λ r. ⌜ NamesUnvisited (now (state .entry)) r ⌝ }
 {
     match next::on_bridge(start, list, state, node, link) {
         Across::Named(next) => next,
@@ -145,7 +145,7 @@ fn last_link(
     ensures { λ r. ⌜ ((bid top : List ℕ) → r ≡ nextLink
         (graphOf (lent (now (ax .entry)) (now (ay .entry)) (now (bx .entry)) (now (by .entry)) (now (aid .entry)) bid
         (now (start .entry)) (now (list .entry))) top) (not sense) (now (state .entry)) node link) ⌝ }
-    ensures { λ r. ⌜ Unvisited (now (state .entry)) r ⌝ }
+    ensures { λ r. ⌜ NamesUnvisited (now (state .entry)) r ⌝ }
 {
     match next::on_bridge(start, list, state, node, link) {
         Across::Named(next) => next,

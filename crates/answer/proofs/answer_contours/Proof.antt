@@ -1,7 +1,7 @@
 -- `answer::answer_contours` meets its contract: extraction, then binding on what it wrote.
 use Rattle.graph.specs.Graph.{Lent, lent}
 use Rattle.extract.proofs.extract.Reads as extract-reads
-use Rattle.extract.specs.Extract.{Buffers, buffers}
+use Rattle.finish.specs.Finish.{Buffers, buffers}
 use native.Mathlib.Omega.{arith}
 use Rattle.answer.proofs.Extracts.{Written, written-fits, extracted-text}
 use Rattle.answer.proofs.Prints.{wrote-as}

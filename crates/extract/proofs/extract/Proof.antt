@@ -7,7 +7,7 @@ use Rattle.extract.proofs.extract.Tie as tie
 use Rattle.extract.proofs.extract.Reads as reads
 use Rattle.extract.proofs.extract.Lts as lts
 use Rattle.extract.proofs.extract_fine.Reads as extract-fine-reads
-use Rattle.extract.specs.Extract.{Buffers, buffers}
+use Rattle.finish.specs.Finish.{Buffers, buffers}
 use borrow.Author.Needs.{needs}
 use Rattle.check_graph.proofs.check_graph.Reads as check-graph-reads
 

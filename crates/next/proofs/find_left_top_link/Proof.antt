@@ -8,7 +8,7 @@ use borrow.Author.Needs.{needs}
 use Rattle.graph.specs.Graph.{Graph, graphOf, lent}
 use Rattle.next.specs.Known.{node-entries, linksOf, stretch}
 use Rattle.next.specs.Topmost.{first-at-bridge}
-use Rattle.next.specs.States.{open-below}
+use Rattle.next.specs.States.{unvisited-below}
 use Rattle.next.specs.declared.Next.the-variants.{Link}
 use Rattle.next.proofs.Answers.{Part, part-of, first-entry, second-entry, bridge-entries, below-first, below-second, cross-entries, first-answer, first-cross}
 use Rattle.next.proofs.find_left_top_link.Statement.{statement}
@@ -40,7 +40,7 @@ abbrev to : Known → ℕ
 to d = d .number3 .result
 
 below : (s : tie.Start) → s .args .k < length (s .args .state .now)
-below s = open-below (s .args .state .now) (s .args .k) (s .pre .1 .1)
+below s = unvisited-below (s .args .state .now) (s .args .k) (s .pre .1 .1)
 
 inside : (d : tie.After-number2) → d .before .number .result + 1 < length (d .before .before .before .before .before .before .args .start .now)
 inside d = let s = d .before .before .before .before .before .before in rw (d .before .number .ensures) (s .pre .1 .0 .a-node (s .args .k) (below s))

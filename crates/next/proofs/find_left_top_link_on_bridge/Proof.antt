@@ -2,7 +2,7 @@
 use mathlib.Core.Path.{sym, ap, _∙_}
 use borrow.Author.Needs.{needs}
 use Rattle.laws.specs.Test.{pick-true, pick-false}
-use Rattle.next.specs.Next.{onlyOpen}
+use Rattle.next.specs.Next.{onlyUnvisited}
 use Rattle.next.proofs.find_left_top_link_on_bridge.Statement.{statement}
 use Rattle.next.proofs.find_left_top_link_on_bridge.Tie as tie
 
@@ -27,7 +27,7 @@ returns : tie.Need-returns
 returns c =
     let d = c .before .before .before in let a = c .before .before .before .before .before .before .before .args in
     let e = rw (d .before .before .point .ensures, d .before .point2 .ensures, d .point3 .ensures) at (sym (c .before .before .clockwise .ensures) ∙ c .before .if1 .taken) in
-    c .only-unvisited .ensures ∙ ap (onlyOpen (a .state .now)) (sym (pick-true (a .l0) (a .l1) e))
+    c .only-unvisited .ensures ∙ ap (onlyUnvisited (a .state .now)) (sym (pick-true (a .l0) (a .l1) e))
 
 only-unvisited-requires-2 : tie.Need-only-unvisited-requires-2
 only-unvisited-requires-2 c κs = search needs
@@ -36,7 +36,7 @@ returns-2 : tie.Need-returns-2
 returns-2 c =
     let d = c .before .before .before in let a = c .before .before .before .before .before .before .before .args in
     let e = rw (d .before .before .point .ensures, d .before .point2 .ensures, d .point3 .ensures) at (sym (c .before .before .clockwise .ensures) ∙ c .before .if1 .left) in
-    c .only-unvisited2 .ensures ∙ ap (onlyOpen (a .state .now)) (sym (pick-false (a .l0) (a .l1) e))
+    c .only-unvisited2 .ensures ∙ ap (onlyUnvisited (a .state .now)) (sym (pick-false (a .l0) (a .l1) e))
 
 pub find-left-top-link-on-bridge-spec : {M : Type 1} → statement M
 find-left-top-link-on-bridge-spec =

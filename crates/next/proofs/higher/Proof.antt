@@ -6,7 +6,7 @@ use borrow.Author.Needs.{needs}
 use Rattle.turn.specs.Points.{OnGrid}
 use Rattle.graph.specs.Graph.{Graph}
 use Rattle.next.specs.declared.Side.{Side}
-use Rattle.next.specs.States.{read-open, read-shut}
+use Rattle.next.specs.States.{read-unvisited, read-shut}
 use Rattle.next.specs.Known.{linksOf}
 use Rattle.next.proofs.Loops.{higher-same, higher-shut, higher-clockwise, higher-new}
 use Rattle.next.proofs.higher.Statement.{statement}
@@ -41,7 +41,7 @@ clockwise-requires c κs =
 returns-3 : tie.Need-returns-3
 returns-3 c =
     let s = c .before .before .before .before .before .before .before in let a = s .args in
-    higher-clockwise (g s) (a .state .now) (a .k) (a .x) (a .choice) (s .pre .1 .1) (c .before .before .before .before .before .if1 .left) (read-open (a .state .now) (a .x) (s .pre .1 .0 .1) (c .before .before .before .if2 .left))
+    higher-clockwise (g s) (a .state .now) (a .k) (a .x) (a .choice) (s .pre .1 .1) (c .before .before .before .before .before .if1 .left) (read-unvisited (a .state .now) (a .x) (s .pre .1 .0 .1) (c .before .before .before .if2 .left))
     (c .before .before .point .result) (c .before .before .point .result) (c .before .before .point .ensures) (sym (c .before .clockwise .ensures) ∙ c .if3 .taken)
 
 point-requires-2 : tie.Need-point-requires-2
@@ -50,7 +50,7 @@ point-requires-2 c κs = search needs
 returns-4 : tie.Need-returns-4
 returns-4 c =
     let s = c .before .before .before .before .before .before .before .before in let a = s .args in
-    higher-new (g s) (a .state .now) (a .k) (a .x) (a .choice) (s .pre .1 .1) (c .before .before .before .before .before .before .if1 .left) (read-open (a .state .now) (a .x) (s .pre .1 .0 .1) (c .before .before .before .before .if2 .left))
+    higher-new (g s) (a .state .now) (a .k) (a .x) (a .choice) (s .pre .1 .1) (c .before .before .before .before .before .before .if1 .left) (read-unvisited (a .state .now) (a .x) (s .pre .1 .0 .1) (c .before .before .before .before .if2 .left))
     (c .point2 .result) (c .before .before .before .point .result) (c .before .before .before .point .ensures) (sym (c .before .before .clockwise .ensures) ∙ c .before .if3 .left) (c .point2 .ensures)
 
 pub higher-spec : {M : Type 1} → statement M

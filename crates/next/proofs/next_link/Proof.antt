@@ -6,7 +6,7 @@ use lib.ListN.{length}
 use borrow.Author.Needs.{needs}
 use Rattle.graph.specs.Graph.{Graph, graphOf, lent}
 use Rattle.next.specs.Known.{node-entries}
-use Rattle.next.specs.Next.{opens, metFirst, firstMet}
+use Rattle.next.specs.Next.{unvisitedIn, metFirst, firstMet}
 use Rattle.next.specs.Choice.{next-answer, next-named, no-bridge, next-met}
 use Rattle.next.proofs.Answers.{Part, part-of}
 use Rattle.next.proofs.next_link.Statement.{statement}
@@ -57,7 +57,7 @@ returns-2 c =
     let d = c .before in let s = at-start d in let a = s .args in let r = c .find-nearest-link-to in
     let cross = no-bridge (a .state .now) (a .link) (graph s [] [] .entries (a .node)) (sym (c .before .before .before .enum-told .given .1) ∙ c .before .before .before .before .before .on-bridge .ensures) in
     next-answer (graph s) (a .sense) (a .state .now) (a .node) (a .link) (r .result)
-    (λ bid top. r .ensures ∙ ap (λ (l : List ℕ). firstMet (metFirst (graph s bid top) (a .sense) (a .node) (a .link)) (opens (a .state .now) l)) (sym (here d .is))
+    (λ bid top. r .ensures ∙ ap (λ (l : List ℕ). firstMet (metFirst (graph s bid top) (a .sense) (a .node) (a .link)) (unvisitedIn (a .state .now) l)) (sym (here d .is))
     ∙ sym (next-met (graph s bid top) (a .sense) (a .state .now) (a .node) (a .link) cross))
 
 pub next-link-spec : {M : Type 1} → statement M

@@ -3,16 +3,16 @@ use Prim.Native.Nat.{_-_, _≤_}
 use native.Mathlib.Omega.{arith}
 use mathlib.Core.Path.{_≡_, refl, _∙_}
 use lib.ListN.{getD}
-use Rattle.next.specs.Next.{opens}
+use Rattle.next.specs.Next.{unvisitedIn}
 use Rattle.next.specs.Known.{stretch}
-use Rattle.next.specs.States.{read-open, read-shut}
-use Rattle.next.proofs.Stretch.{opens-miss}
+use Rattle.next.specs.States.{read-unvisited, read-shut}
+use Rattle.next.proofs.Stretch.{unvisited-in-miss}
 use Rattle.next.proofs.Loops.{past}
 use Rattle.next.proofs.unvisited_from.Statement.{statement}
 use Rattle.next.proofs.unvisited_from.Tie as tie
 
 abbrev Inv-loop : tie.InvT-loop
-Inv-loop list state from to i₀ i = (from ≤ i) × (i ≤ to) × (opens state (stretch list from to) ≡ opens state (stretch list i to))
+Inv-loop list state from to i₀ i = (from ≤ i) × (i ≤ to) × (unvisitedIn state (stretch list from to) ≡ unvisitedIn state (stretch list i to))
 
 abbrev μ-loop : tie.MeasureT-loop
 μ-loop list state from to i₀ i = to - i
@@ -33,7 +33,7 @@ returns c =
       low = l .loop .inv .0;
       high = l .loop .inv .1;
       rest = l .loop .inv .2;
-      here = λ _. read-open (a .state .now) (getD (a .list .now) (l .loop .i) 0) (s .pre .2 (l .loop .i) (l .loop .inv .0) (c .before .before .before .loop-test .taken)) (rw (c .before .before .number .ensures) at (c .if1 .taken));
+      here = λ _. read-unvisited (a .state .now) (getD (a .list .now) (l .loop .i) 0) (s .pre .2 (l .loop .i) (l .loop .inv .0) (c .before .before .before .loop-test .taken)) (rw (c .before .before .number .ensures) at (c .if1 .taken));
     }
 
 add-i : tie.Need-add-i Inv-loop μ-loop
@@ -46,7 +46,7 @@ loop-again : tie.Need-loop-again Inv-loop μ-loop
 loop-again c =
     let l = c .before .before .before .before in let s = l .before .before .before in let a = s .args in
     let shut = read-shut (a .state .now) (getD (a .list .now) (l .loop .i) 0) (s .pre .2 (l .loop .i) (l .loop .inv .0) (c .before .before .before .loop-test .taken)) (rw (c .before .before .number .ensures) at (c .if1 .left)) in
-    (omega arith, omega arith, l .loop .inv .2 ∙ opens-miss (a .list .now) (a .state .now) (l .loop .i) (a .to) (c .before .before .before .loop-test .taken) (s .pre .1) shut)
+    (omega arith, omega arith, l .loop .inv .2 ∙ unvisited-in-miss (a .list .now) (a .state .now) (l .loop .i) (a .to) (c .before .before .before .loop-test .taken) (s .pre .1) shut)
 
 returns-2 : tie.Need-returns-2 Inv-loop μ-loop
 returns-2 c =

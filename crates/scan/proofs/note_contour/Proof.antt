@@ -15,12 +15,11 @@ use Rattle.scan.proofs.note_contour.Reads as reads
 use Rattle.scan.proofs.note_contour.Lts as lts
 use Rattle.walk.proofs.find_contour.Reads as find-contour-reads
 use Rattle.scan.proofs.mark_of.Reads as mark-of-reads
-use Rattle.scan.proofs.note_walk.Reads as note-walk-reads
+use Rattle.keep.proofs.note_walk.Reads as note-walk-reads
 use Rattle.scan.proofs.same.Reads as same-reads
-use Rattle.walk.specs.Walk.{Walked, walkFrom}
-use Rattle.scan.specs.Scan.{markOf}
+use Rattle.walk.specs.Walk.{Walked, walkFrom, markOf}
 use Rattle.walk.specs.Code.{plain, Counted, WalkLeaves}
-use Rattle.scan.specs.Tables.{Tables, tables}
+use Rattle.keep.specs.Tables.{Tables, tables}
 use borrow.Author.Needs.{needs}
 
 abbrev g : tie.Start → Lent

@@ -7,7 +7,7 @@ use borrow.Author.Needs.{needs}
 use lib.ListN.{length}
 use Rattle.graph.specs.Graph.{Graph, lent, graphOf}
 use Rattle.next.specs.Next.{unvisited}
-use Rattle.next.specs.States.{read-open, read-shut}
+use Rattle.next.specs.States.{read-unvisited, read-shut}
 use Rattle.scan.proofs.Noting.{within-less}
 use Rattle.scan.proofs.Scans.{Scanning, scan-moves, scan-refused, scan-again, scan-over, none-yet, fewer-of}
 use Rattle.scan.proofs.scan_links.Statement.{statement}
@@ -15,7 +15,7 @@ use Rattle.scan.proofs.scan_links.Tie as tie
 use Rattle.scan.proofs.scan_links.Reads as reads
 use Rattle.scan.proofs.scan_links.Lts as lts
 use Rattle.scan.proofs.scan_walk.Reads as scan-walk-reads
-use Rattle.scan.specs.Tables.{Roomy}
+use Rattle.scan.specs.Notes.{Roomy}
 use Rattle.walk.specs.Marks.{kept-then}
 
 abbrev Inv-loop : tie.InvT-loop
@@ -66,7 +66,7 @@ scan-walk-requires c κs =
     let s = at-start l in
     let i = l .loop .inv in (
       (rw (i .kept .len) (s .pre .0 .0), s .pre .0 .1 ∙ sym (i .kept .len)),
-      (roomy l, (read-open (l .loop .state) (l .loop .k) (in-states l (c .before .before .before .before .before .before .before .loop-test .taken)) (c .before .before .before .before .before .if1 .left), rw (i .kept .len) (i .within))),
+      (roomy l, (read-unvisited (l .loop .state) (l .loop .k) (in-states l (c .before .before .before .before .before .before .before .loop-test .taken)) (c .before .before .before .before .before .if1 .left), rw (i .kept .len) (i .within))),
     )
 
 enum-known-number : tie.Need-enum-known-number Inv-loop μ-loop
@@ -95,7 +95,7 @@ returns c =
     let t = o .before .before .before .before .before .before .before .before .loop-test .taken in
     let i = l .loop .inv in (
       scan-refused (g s) (s .args .clockwise) (s .args .minimum) _ _ _ _ _ _ (l .loop .k) (l .loop .c) (l .loop .state) (l .loop .points) (l .loop .first) (l .loop .len) (l .loop .kind) i t
-          (read-open (l .loop .state) (l .loop .k) (in-states l t) (o .before .before .before .before .before .before .if1 .left)) _ _ _ _ _ _ _ (c .before .number .given .1) (o .scan-walk .ensures .0) _ _ _ _ _ _ refl,
+          (read-unvisited (l .loop .state) (l .loop .k) (in-states l t) (o .before .before .before .before .before .before .if1 .left)) _ _ _ _ _ _ _ (c .before .number .given .1) (o .scan-walk .ensures .0) _ _ _ _ _ _ refl,
       (tt, kept-then (i .kept) (o .scan-walk .ensures .1 .1)),
     )
 
@@ -117,7 +117,7 @@ loop-again-2 c =
     let t = o .before .before .before .before .before .before .before .before .loop-test .taken in
     let i = l .loop .inv in
     scan-again (g s) (s .args .clockwise) (s .args .minimum) _ _ _ _ _ _ (l .loop .k) (l .loop .c) (l .loop .state) (l .loop .points) (l .loop .first) (l .loop .len) (l .loop .kind) i t
-    (read-open (l .loop .state) (l .loop .k) (in-states l t) (o .before .before .before .before .before .before .if1 .left)) _ _ _ _ _ _ _ (c .before .d .given .1) (o .scan-walk .ensures .0)
+    (read-unvisited (l .loop .state) (l .loop .k) (in-states l t) (o .before .before .before .before .before .before .if1 .left)) _ _ _ _ _ _ _ (c .before .d .given .1) (o .scan-walk .ensures .0)
     (rw (i .kept .len) at (o .scan-walk .ensures .1 .0)) (o .scan-walk .ensures .1 .1) (o .scan-walk .kept .1 .1 .1 .1 .1 .1 .1 .1 .1 .1 .1 .1 .0) (o .scan-walk .kept .1 .1 .1 .1 .1 .1 .1 .1 .1 .1 .1 .1 .1 .0) (o .scan-walk .kept .1 .1 .1 .1 .1 .1 .1 .1 .1 .1 .1 .1 .1 .1 .0) (o .scan-walk .kept .1 .1 .1 .1 .1 .1 .1 .1 .1 .1 .1 .1 .1 .1 .1 .0)
 
 same-length-6 : tie.Need-same-length-6 Inv-loop μ-loop

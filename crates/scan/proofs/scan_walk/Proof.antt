@@ -9,7 +9,7 @@ use Rattle.scan.proofs.scan_walk.Tie as tie
 use Rattle.scan.proofs.scan_walk.Reads as reads
 use Rattle.scan.proofs.scan_walk.Lts as lts
 use Rattle.scan.proofs.note_contour.Reads as note-contour-reads
-use Rattle.scan.specs.Tables.{Tables, tables}
+use Rattle.keep.specs.Tables.{Tables, tables}
 use Rattle.walk.specs.Marks.{kept-none}
 use borrow.Author.Needs.{needs}
 use Rattle.next.proofs.find_left_top_link.Reads as find-left-top-link-reads

@@ -1,0 +1,113 @@
+// Rule 6: a walk is kept, and entered in the contour table, or it is rejected, and counted.
+ghost use mathlib.Core.Path.{_≡_};
+ghost use mathlib.Core.Bool.{true};
+ghost use mathlib.Core.List.{[]};
+ghost use Prim.Native.Nat.{_+_, _-_, _*_, _<_, _≤_};
+ghost use lib.ListN.{length, set, take, drop};
+ghost use lib.IntN.{natAbs};
+ghost use Rattle.laws.specs.Test.{pick};
+ghost use Rattle.turn.specs.Limits.{maxLinks};
+ghost use Rattle.turn.specs.Points.{Grid};
+ghost use Rattle.turn.specs.Area.{area, pointsOf, wedgeBound};
+ghost use Rattle.keep.specs.Tables.{Tables, tables, enterKept, enterLost, enter, Within};
+
+// What extraction returns on success. `kept` and `lost` are the signed doubled totals of kept and of rejected walks.
+pub struct Counts {
+    pub contours: usize,
+    pub points: usize,
+    pub rejected: usize,
+    pub walked: usize,
+    pub kept: i64,
+    pub lost: i64,
+}
+
+// The counts with one contour more.
+fn kept_counts(size: usize, area: i64, c: Counts) -> Counts
+    requires { ⌜ (Within maxLinks size c) × (natAbs area ≤ size * (2 * wedgeBound)) ⌝ }
+    ensures { λ r. ⌜ r ≡ enterKept true size area (tables [] [] [] [] c) .counts ⌝ }
+{
+    let kept = c.kept + area;
+    let lost = c.lost;
+    Counts {
+        contours: c.contours + 1,
+        points: c.points + size,
+        rejected: c.rejected,
+        walked: c.walked + size,
+        kept: kept,
+        lost: lost,
+    }
+}
+
+// The counts with one rejected walk more.
+fn lost_counts(size: usize, area: i64, c: Counts) -> Counts
+    requires { ⌜ (Within maxLinks size c) × (natAbs area ≤ size * (2 * wedgeBound)) ⌝ }
+    ensures { λ r. ⌜ r ≡ enterLost size area (tables [] [] [] [] c) .counts ⌝ }
+{
+    let kept = c.kept;
+    let lost = c.lost + area;
+    Counts {
+        contours: c.contours,
+        points: c.points,
+        rejected: c.rejected + 1,
+        walked: c.walked + size,
+        kept: kept,
+        lost: lost,
+    }
+}
+
+// A contour's entry in the table.
+fn enter_contour(
+    first: &mut [u32],
+    len: &mut [u32],
+    kind: &mut [u8],
+    hole: bool,
+    i: usize,
+    at: usize,
+    size: usize,
+)
+    requires { ⌜ (i < length (now first)) × (i < length (now len)) × (i < length (now kind)) ⌝ }
+    requires { ⌜ (at ≤ maxLinks) × (size ≤ maxLinks) ⌝ }
+    ensures { λ _. ⌜ now (first .exit) ≡ set (now (first .entry)) i at ⌝ }
+    ensures { λ _. ⌜ now (len .exit) ≡ set (now (len .entry)) i size ⌝ }
+    ensures { λ _. ⌜ now (kind .exit) ≡ set (now (kind .entry)) i (pick hole 1 0) ⌝ }
+{
+    first[i] = at as u32;
+    len[i] = size as u32;
+    kind[i] = kind_of(hole);
+}
+
+fn kind_of(hole: bool) -> u8
+    ensures { λ r. ⌜ r ≡ pick hole 1 0 ⌝ }
+{
+    if hole { 1 } else { 0 }
+}
+
+// Rule 6: a walk whose points stand up to number `to` is entered as a contour, or counted as rejected.
+pub fn note_walk(
+    points: &[i32],
+    first: &mut [u32],
+    len: &mut [u32],
+    kind: &mut [u8],
+    hole: bool,
+    minimum: u64,
+    to: usize,
+    c: Counts,
+) -> Counts
+    requires { ⌜ (c .points ≤ to) × (to * 2 ≤ length (now points)) × (Within maxLinks (to - c .points) c) ⌝ }
+    requires { ⌜ Grid (take (to * 2 - c .points * 2) (drop (c .points * 2) (now points))) ⌝ }
+    requires { ⌜ (to ≤ length (now first) * 3 + 2) × (length (now len) ≡ length (now first)) × (length (now kind) ≡ length (now first)) ⌝ }
+    ensures { λ r. ⌜ (let before : Tables = tables (now (points .entry)) (now (first .entry)) (now (len .entry)) (now (kind .entry)) c in
+        tables (now (points .entry)) (now (first .exit)) (now (len .exit)) (now (kind .exit)) r ≡ enter minimum hole (to - c .points)
+        (area (pointsOf (take (to * 2 - c .points * 2) (drop (c .points * 2) (now (points .entry)))))) before) ⌝ }
+{
+    let at = c.points;
+    let begin = at * 2;
+    let end = to * 2;
+    let size = to - at;
+    let area = turn::doubled_area(&points[begin..end]);
+    if turn::is_kept(size, area, minimum) {
+        enter_contour(first, len, kind, hole, c.contours, at, size);
+        return kept_counts(size, area, c);
+    }
+    lost_counts(size, area, c)
+}
