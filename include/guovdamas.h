@@ -1,13 +1,64 @@
 /*
- * guovdamas.h: contour extraction and hole binding, as proved in crates/guovdamas.
+ * guovdamas.h: contour extraction and hole binding, as proved in crates/guovdamas. docs/RULES.md has the rules in full.
  *
- * Link with libguovdamas.a (`rt staticlib guovdamas`; x86-64 Linux). The functions need no memory but what is lent and some
- * 200 kB of stack, keep no pointer, call nothing and always return. They require nothing of what the lists hold: whatever is
- * wrong is refused with a number and a place. What is left to the caller is C's own rule: each pointer is valid for its length
- * (and not null, even at length 0), a list that is written overlaps no other, and `clockwise` is true or false.
+ * Link with libguovdamas.a (`rt staticlib guovdamas`; x86-64 Linux).
  *
- * Numbers, places and rules are those of document 01, "Checks and numbers". Points are in units of 0.01 mm, from -524,288 to
- * 524,288. Areas are doubled and signed: positive when counterclockwise.
+ * What the functions do. They need no memory but what is lent and some 200 kB of stack. They keep no pointer and always
+ * return. They call nothing but memcpy and memset of the C library.
+ *
+ * What may be passed. Anything may stand in the lists: whatever is wrong is refused with a number and a place. What is
+ * left to the caller is C's own rule: each pointer is valid for its length (and not null, even at length 0), a list
+ * that is written overlaps no other, and `clockwise` is true or false.
+ *
+ * Units. Coordinates are whole numbers in units of 0.01 mm, from -524,288 to 524,288, and y points upward. Areas are
+ * doubled and signed: positive when counterclockwise. "Before", of points: by x, then by y, strictly.
+ *
+ * Words. A link is skipped (lent with state 1), a walk rejected (too small), a hole dropped (there is no hull), a call
+ * refused (answered by a number other than 0). The scan stands at the lowest unvisited link.
+ *
+ * Numbers. The checks run in the order of their numbers, each over all of the input before the next. n is the length of
+ * a_id, m is one less than the length of start.
+ *
+ *   no.  given when                                                               place
+ *    0   done                                                                     0
+ *
+ *        guovdamas_extract:
+ *    1   n is above 4,096                                                         0
+ *    2   a list of the links, or state, is not n long; start is empty; first,     0
+ *        len and kind differ in length; there is room for fewer than n points,
+ *        or for fewer than n / 3 contours, rounded down
+ *    3   a coordinate is out of range; a is not before b; a node id is not        lowest such link
+ *        below m; both ids are equal; top or state is neither 0 nor 1
+ *    4   a link's a is before the previous link's a                               lowest such link
+ *    5   the starts do not begin at 0, fall, or do not end at the length of       0
+ *        list; a node has fewer than 2 entries; or list does not hold each link
+ *        once at its a node and once at its b node, and nothing else
+ *    6   two ends at one node have different points                               lowest such node
+ *    7   two unskipped links run from one node in the same direction              lowest such node
+ *    8   the first, last or next link that the rules of walking name is not       the link that the
+ *        unvisited, or there is none                                              scan stands at
+ *    9   a walk has reached its last link and is not back at its beginning        the link that the
+ *                                                                                 scan stands at
+ *
+ *        guovdamas_bind:
+ *   10   first, len and kind differ in length; owner is shorter; there are more   0
+ *        than 4,096 points; points has an odd length; the last contour does not
+ *        end at the last point
+ *   10   a contour does not begin where the one before it ends, or at 0; is past  lowest such contour
+ *        the points; has fewer than 3 points, or equal neighbours round it; a
+ *        coordinate is out of range; kind is neither 0 nor 1
+ *   11   a hole's anchor (point 1 for clockwise output, else point 0) is not its  lowest such contour
+ *        least point, or is before the previous hole's anchor
+ *   12   there are two hulls or more, and no edge lies under a hole's anchor, or  that hole's contour
+ *        the nearest one belongs to a hole that has no owner yet
+ *
+ * What the buffers hold afterwards.
+ *   0         what was asked for; see each function.
+ *   1 to 7    all is as before the call.
+ *   8 and 9   state is as before the call; all of points, first, len and kind is zero.
+ *   10 to 12  all is as before the call.
+ *
+ * guovdamas_lookup gives no number: it finds a record, or it does not.
  */
 #ifndef GUOVDAMAS_H
 #define GUOVDAMAS_H
@@ -20,7 +71,7 @@
 extern "C" {
 #endif
 
-/* The owner of a hole where there is no hull. */
+/* The owner of a dropped hole: one where there is no hull. */
 #define GUOVDAMAS_DROPPED 65535
 
 /* What guovdamas_extract answers. After a refusal the counts and totals are 0. */
@@ -29,7 +80,7 @@ typedef struct {
     size_t place;          /* 0, or the link or node that is at fault */
     size_t contours;       /* contours kept */
     size_t points;         /* their points */
-    size_t rejected;       /* walks that were too small */
+    size_t rejected;       /* walks rejected: too small */
     size_t walked;         /* links walked, by kept and rejected walks */
     int64_t kept_area;     /* sum of the doubled areas of the contours kept */
     int64_t rejected_area; /* and of the walks rejected */
@@ -55,19 +106,19 @@ typedef struct {
 /*
  * Checks 1 to 7, then the walks.
  *
- * Read, for n links (n is a_id_len): ax, ay, bx, by, the points a and b of each link; a_id, b_id, the nodes of both; top, 1 where
- * the left of a to b is filled, else 0. For m nodes: start, m + 1 positions in list; list, link numbers, those of node v from
- * start[v] up to start[v + 1]. clockwise: the output's direction. minimum: the least area of a contour that is kept, in whole
- * square units (not doubled); 0 keeps all.
+ * Read, for n links (n is a_id_len): ax, ay, bx, by, the points a and b of each link; a_id, b_id, the nodes of both;
+ * top, 1 where the left of a to b is filled, else 0. For m nodes: start, m + 1 positions in list; list, link numbers,
+ * those of node v from start[v] up to start[v + 1]. clockwise: the output's direction. minimum: the least area of a
+ * contour that is kept, in whole square units (not doubled); 0 keeps all.
  *
- * Written: state, n long, 0 for an unvisited link and 1 for a skipped one; points, x and y in turn, with room for n points or
- * more; first, len and kind, of one length, with room for n / 3 contours or more: a contour's first point, how many points it
- * has, and 0 for a hull or 1 for a hole.
- *   Done:      state has 2 for every link of a hole and 3 for every link of a hull, of rejected walks too, and 1 for a skipped one;
- *              points has the points of the contours kept, one contour after the other in the order found, and zeros after them;
- *              first, len and kind have the contours, and zeros after them.
- *   1 to 7:    all is as before the call.
- *   8 and 9:   state is as before the call; all of points, first, len and kind is zero.
+ * Written: state, n long, 0 for an unvisited link and 1 for a skipped one; points, x and y in turn, with room for n
+ * points or more; first, len and kind, of one length, with room for n / 3 contours or more: the position of a contour's
+ * first point, how many points it has, and 0 for a hull or 1 for a hole.
+ *   0:        state has 2 for every link of a hole and 3 for every link of a hull, of rejected walks too, and 1 for a
+ *             skipped one; points has the points of the contours kept, one contour after the other in the order found,
+ *             and zeros after them; first, len and kind have the contours, and zeros after them.
+ *   1 to 7:   all is as before the call.
+ *   8 and 9:  state is as before the call; all of points, first, len and kind is zero.
  */
 GuovdamasExtraction guovdamas_extract(
     const int32_t *ax, size_t ax_len, const int32_t *ay, size_t ay_len,
@@ -83,11 +134,12 @@ GuovdamasExtraction guovdamas_extract(
 /*
  * Checks 10 to 12, and the owner of every contour.
  *
- * Read: the points and the contour table as extraction leaves them, cut to the contours and points that it counted, and the
- * direction that it was given.
+ * Read: the points and the contour table as extraction leaves them, cut to the contours and points that it counted, and
+ * the direction that it was given.
+ *
  * Written: owner, as many as there are contours or more.
- *   Done:      a hull's owner is its own shape number, hulls counted from 0; a hole's is the number of the shape that it belongs to,
- *              or 65,535 where there is no hull. What is past the contours is as before the call.
+ *   0:         a hull's owner is its own shape number, hulls counted from 0; a hole's is the number of the shape that
+ *              it belongs to, or 65,535 where there is no hull. What is past the contours is as before the call.
  *   10 to 12:  owner is as before the call.
  */
 GuovdamasBinding guovdamas_bind(
@@ -97,9 +149,10 @@ GuovdamasBinding guovdamas_bind(
     uint16_t *owner, size_t owner_len);
 
 /*
- * One contour's record. None is found exactly when the number is not below the count, the table fails check 10, or the contour's
- * owner is not right: for a hull its own number, for a hole one below the number of hulls, or 65,535 where there is no hull.
- * Nothing is written.
+ * One contour's record. None is found exactly when the number is not below the count, the table fails check 10 (which
+ * asks for an owner for each contour), or the contour's owner is not right. It is right if it is, for a hull, its own
+ * shape number; for a hole where there are hulls, any number below the number of hulls; for a hole where there are
+ * none, 65,535. Nothing is written.
  */
 GuovdamasRecord guovdamas_lookup(
     const int32_t *points, size_t points_len,
