@@ -16,7 +16,7 @@ use Rattle.turn.specs.Refusals.{refuseIf, refuseAt}
 use Rattle.turn.specs.declared.Checked.{Checked}
 use Rattle.turn.specs.declared.Checked.the-variants.{Fine, Refused}
 use Rattle.graph.specs.Graph.{Lent, linkCount, nodeCount, pointAt, part}
-use Rattle.graph.specs.Count.{count}
+use Rattle.laws.specs.Count.{count}
 
 -- What is lent for the answer, by length: the points' buffer, two numbers to a point, and the three lists of the contour table.
 pub record Room : Type 0 where

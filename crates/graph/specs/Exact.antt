@@ -12,7 +12,7 @@ use Rattle.turn.specs.Points.{before, OnGrid}
 use Rattle.turn.specs.Angle.{sameDirection}
 use Rattle.turn.specs.declared.Checked.the-variants.{Fine}
 use Rattle.graph.specs.Graph.{Lent, linkCount, nodeCount}
-use Rattle.graph.specs.Count.{count}
+use Rattle.laws.specs.Count.{count}
 use Rattle.graph.specs.Checks.{Room, aOf, bOf, nodeAt, entriesOf, unlike, fewPoints, unlikeBand, fewContours, linkWrong, badStarts, badNodes, apartAt, alikeAt, checkedNodes, checkedLinks, checked}
 use Rattle.graph.specs.Passes.{Even, EndAt, entry, endOf, awayOf, Passes}
 use Rattle.laws.specs.Fails.{Iff, Fails, then, both, or-fails, some-fails, lt-fails, ne-fails}

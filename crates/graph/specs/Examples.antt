@@ -7,7 +7,7 @@ use Rattle.laws.specs.Lowest.{lowest}
 use Rattle.turn.specs.declared.Checked.{Checked}
 use Rattle.turn.specs.declared.Checked.the-variants.{Fine, Refused}
 use Rattle.graph.specs.Graph.{Lent, lent}
-use Rattle.graph.specs.Count.{count}
+use Rattle.laws.specs.Count.{count}
 use Rattle.graph.specs.Checks.{Room, room, checked, checkedLinks, checkedNodes}
 
 abbrev axs : List ℤ

@@ -17,7 +17,8 @@ use Rattle.turn.specs.Points.{before, OnGrid}
 use Rattle.turn.specs.Angle.{sameDirection}
 use Rattle.turn.specs.declared.Checked.the-variants.{Fine}
 use Rattle.graph.specs.Graph.{Lent, Graph, graphOf, linkCount, nodeCount}
-use Rattle.graph.specs.Count.{count, Place, place-of, member, counted-in, count-two}
+use Rattle.laws.specs.Count.{count, counted-in, count-two}
+use Rattle.laws.specs.Lists.{Place, place-of, member}
 use Rattle.graph.specs.Checks.{Room, endAt, away, checked}
 use Rattle.graph.specs.Passes.{Even, Rising, EndAt, entry, SharedPasses, BandPasses, Passes}
 use Rattle.graph.specs.PointLaws.{Upto, upto, upto-refl, upto-trans, not-before, same-direction-sym}
@@ -131,7 +132,7 @@ module _ {g : Lent} {points : ℕ} (top : List ℕ) (h : SharedPasses g points) 
 
   an-end : (v k : ℕ) → List·Memᴰ k (G .entries v) → EndAt (g .aId) (g .bId) v k
   an-end v k m =
-      let p = place-of (G .entries v) m in
+      let p = place-of 0 (G .entries v) m in
       subst (EndAt (g .aId) (g .bId) v) (p .here) (h .ends v (p .place) (inside v k m) (p .within))
 
   at-a : (k : ℕ) → k < linkCount g → List·Memᴰ k (G .entries (G .aNode k))
@@ -152,7 +153,7 @@ module _ {g : Lent} {points : ℕ} (top : List ℕ) (h : SharedPasses g points) 
   not-later v i j l m e =
       let x : ℕ = getD (G .entries v) j 0 in
       let c : 2 ≤ count x (G .entries v) = count-two x (G .entries v) i j l m e refl in
-      let o : count x (G .entries v) ≡ 1 = once v x (member (G .entries v) j m) in
+      let o : count x (G .entries v) ≡ 1 = once v x (member 0 (G .entries v) j m) in
       omega arith
 
   no-twice : (v i j : ℕ) → i < length (G .entries v) → j < length (G .entries v) → getD (G .entries v) i 0 ≡ getD (G .entries v) j 0 → i ≡ j
@@ -170,7 +171,7 @@ module _ {g : Lent} {points : ℕ} (top : List ℕ) (h : SharedPasses g points) 
     inside = inside;
     below = λ v k m. an-end v k m .below;
     only = λ v k m. an-end v k m .end;
-    below-at = λ v i l. an-end v (getD (G .entries v) i 0) (member (G .entries v) i l) .below;
+    below-at = λ v i l. an-end v (getD (G .entries v) i 0) (member 0 (G .entries v) i l) .below;
     at-a = at-a;
     at-b = at-b;
     once = once;
@@ -186,8 +187,8 @@ module _ {g : Lent} {points : ℕ} (top : List ℕ) (h : SharedPasses g points) 
 
   ends : (v j k : ℕ) → List·Memᴰ j (G .entries v) → List·Memᴰ k (G .entries v) → endPoint G v j ≡ endPoint G v k
   ends v j k p q =
-      let s = place-of (G .entries v) p in
-      let t = place-of (G .entries v) q in
+      let s = place-of 0 (G .entries v) p in
+      let t = place-of 0 (G .entries v) q in
       sym (ap (endPoint G v) (s .here)) ∙ h .one-point v (s .place) (t .place) (inside v j p) (s .within) (t .within) ∙ ap (endPoint G v) (t .here)
 
   -- the ends p at node u and q at node w of two links, where u is w
@@ -211,11 +212,11 @@ module _ {g : Lent} {points : ℕ} (top : List ℕ) (h : SharedPasses g points) 
         → (getD state j 0 ≡ 1 → ⊥) → (getD state k 0 ≡ 1 → ⊥) → sameDirection (wayFrom G v j) (wayFrom G v k) ≡ false
     spread v j k p q d sj sk = go (decLe (t .place) (s .place)) (decLe (s .place) (t .place))
       where
-        s : Place j (G .entries v)
-        s = place-of (G .entries v) p
+        s : Place 0 j (G .entries v)
+        s = place-of 0 (G .entries v) p
 
-        t : Place k (G .entries v)
-        t = place-of (G .entries v) q
+        t : Place 0 k (G .entries v)
+        t = place-of 0 (G .entries v) q
 
         open-s : getD state (entry g v (s .place)) 0 ≡ 1 → ⊥
         open-s e = sj (subst (λ (x : ℕ). getD state x 0 ≡ 1) (s .here) e)

@@ -1,6 +1,5 @@
 -- The definitions that the contracts cite, then what they mean.
 pub mod Graph
-pub mod Count
 pub mod Checks
 pub mod Quick
 pub mod Examples

@@ -11,7 +11,7 @@ use Rattle.turn.specs.Limits.{maxLinks}
 use Rattle.turn.specs.Points.{before, OnGrid}
 use Rattle.turn.specs.Angle.{sameDirection}
 use Rattle.graph.specs.Graph.{Lent, linkCount, nodeCount}
-use Rattle.graph.specs.Count.{count}
+use Rattle.laws.specs.Count.{count}
 use Rattle.graph.specs.Checks.{Room, aOf, bOf, nodeAt, entriesOf, endAt, away}
 
 -- the lists of the links are of one length

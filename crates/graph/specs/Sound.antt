@@ -14,7 +14,8 @@ use Rattle.laws.specs.Lowest.{some, none-of}
 use Rattle.turn.specs.declared.Point.{Point}
 use Rattle.turn.specs.declared.Checked.the-variants.{Fine}
 use Rattle.graph.specs.Graph.{Lent, linkCount, nodeCount}
-use Rattle.graph.specs.Count.{count, counted-in, place-of, count-single, sum, sum-same, sum-add, sum-const, sum-swap, sum-once, sum-less, sum-tight, counted}
+use Rattle.laws.specs.Count.{count, counted-in, count-single, sum, sum-same, sum-add, sum-const, sum-swap, sum-once, sum-less, sum-tight, counted}
+use Rattle.laws.specs.Lists.{place-of}
 use Rattle.graph.specs.Checks.{room, aOf, bOf, nodeAt, entriesOf, badStarts, stray, strayIn, endAt, apart, alike, checkedNodes}
 use Rattle.graph.specs.Quick.{clashAt, standsBefore, alikeBefore, bridgeWrong, nodeWrong}
 use Rattle.graph.specs.Passes.{Rising, EndAt}
@@ -121,7 +122,7 @@ module _ (g : Lent) (state : List ℕ) (rising : Rising (g .start) (g .list)) (i
         go : Dec (1 ≤ count k (entriesOf g v)) → count k (entriesOf g v) ≤ pick (eqb (getD (g .aId) k 0) v) 1 0 + pick (eqb (getD (g .bId) k 0) v) 1 0
         go (no n) = omega arith
         go (yes m) =
-            let p = place-of (entriesOf g v) (counted-in k (entriesOf g v) m) in
+            let p = place-of 0 (entriesOf g v) (counted-in k (entriesOf g v) m) in
             let e = subst (EndAt (g .aId) (g .bId) v) (p .here) (fine v l .ends (p .place) (p .within)) in
             ⊎-elim
             (λ (q : getD (g .aId) k 0 ≡ v). omega (arith, once, one (getD (g .aId) k 0) q))

@@ -15,7 +15,8 @@ use Rattle.laws.specs.Test.{pick, pick-true, pick-false, or-false, false-or, tr
 use Rattle.laws.specs.Fails.{some-fails, or-fails, ne-fails}
 use Rattle.laws.specs.Lowest.{some}
 use Rattle.graph.specs.Graph.{part}
-use Rattle.graph.specs.Count.{count, counted-in, place-of, sum, sum-same, sum-add, sum-const, sum-swap, sum-once, counted}
+use Rattle.laws.specs.Count.{count, counted-in, sum, sum-same, sum-add, sum-const, sum-swap, sum-once, counted}
+use Rattle.laws.specs.Lists.{place-of}
 use Rattle.graph.specs.Checks.{badStarts, strayAt, missed, badNodes}
 use Rattle.graph.specs.Passes.{Rising, EndAt}
 use Rattle.graph.specs.Known.{Ids}
@@ -60,7 +61,7 @@ module _ (aId bId start list : List ℕ) (rise : Rising start list) (ids : Ids a
 
       none : (getD aId k 0 ≡ v → ⊥) → (getD bId k 0 ≡ v → ⊥) → 1 ≤ count k (part start list v) → ⊥
       none p q c =
-          let s = place-of (part start list v) (counted-in k (part start list v) c) in
+          let s = place-of 0 (part start list v) (counted-in k (part start list v) c) in
           ⊎-elim p q (subst (EndAt aId bId v) (s .here) (ends v (s .place) m (s .within)) .end)
 
       go : Dec (getD aId k 0 ≡ v) → Dec (getD bId k 0 ≡ v) → count k (part start list v) ≡ pick (eqb (getD aId k 0) v) 1 0 + pick (eqb (getD bId k 0) v) 1 0

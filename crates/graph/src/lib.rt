@@ -7,7 +7,7 @@ ghost use Rattle.laws.specs.Lowest.{lowest, some};
 ghost use Rattle.turn.specs.Limits.{maxLinks};
 ghost use Rattle.turn.specs.Points.{Short, fromTo};
 ghost use Rattle.graph.specs.Graph.{lent, pointAt, part};
-ghost use Rattle.graph.specs.Count.{count};
+ghost use Rattle.laws.specs.Count.{count};
 ghost use Rattle.graph.specs.Checks.{room, unlike, fewPoints, unlikeBand, fewContours, misplaced, misnamed, linkWrong, misflagged, outOfOrder, short, badStarts, stray, strayIn, strayAt, notOnce, missed, badNodes, nodeAt, endAt, away, apart, apartIn, apartAt, alike, alikeAt, checkedNodes, checkedLinks, checked};
 ghost use Rattle.graph.specs.Quick.{standsBefore, alikeBefore, clashAt, bridgeWrong, nodeWrong};
 ghost use Rattle.graph.specs.Passes.{Even, Rising};

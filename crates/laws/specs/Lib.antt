@@ -9,3 +9,4 @@ pub mod Order
 pub mod Bounds
 pub mod Unique
 pub mod Lists
+pub mod Count

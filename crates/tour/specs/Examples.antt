@@ -9,7 +9,7 @@ use Rattle.laws.specs.Test.{true≢false}
 use Rattle.laws.specs.Lowest.{lowest, some}
 use Rattle.turn.specs.declared.Checked.the-variants.{Fine}
 use Rattle.graph.specs.Graph.{Lent, lent, Graph, graphOf}
-use Rattle.graph.specs.Count.{count}
+use Rattle.laws.specs.Count.{count}
 use Rattle.graph.specs.Checks.{room, checkedNodes, checkedLinks, checked}
 use Rattle.next.specs.Next.{opens, nextLink, firstLink}
 use Rattle.walk.specs.Walk.{Step, stopped, walks, walkOn, walkFrom, scanOn, scan}

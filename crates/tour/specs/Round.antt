@@ -12,7 +12,7 @@ use borrow.Author.Tests.{eq-eqb}
 use Rattle.laws.specs.Test.{pick, pick-true, pick-ind, true≢false, true-is}
 use Rattle.turn.specs.Angular.{own-last}
 use Rattle.graph.specs.Graph.{Graph}
-use Rattle.graph.specs.Count.{count, counted-in}
+use Rattle.laws.specs.Count.{count, counted-in}
 use Rattle.next.specs.Next.{isOpen, opens, runs, metFirst}
 use Rattle.next.specs.Choice.{Mem, opens-in, opens-of}
 use Rattle.tour.specs.Statement.{leaves, InOrder, Clockwise, ByTurns, howMany, TurnsAt, ComesByTurns}

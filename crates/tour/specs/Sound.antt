@@ -5,7 +5,7 @@ use mathlib.Core.Bool.{true, not}
 use mathlib.Core.List.{List}
 use lib.ListN.{length}
 use Rattle.graph.specs.Graph.{Graph}
-use Rattle.graph.specs.Count.{count}
+use Rattle.laws.specs.Count.{count}
 use Rattle.graph.specs.Fine.{OnePoint}
 use Rattle.next.specs.Next.{metFirst}
 use Rattle.next.specs.Choice.{Mem}

@@ -11,7 +11,7 @@ use Rattle.turn.specs.declared.Point.{Point}
 use Rattle.turn.specs.Area.{wedge}
 use Rattle.turn.specs.declared.Checked.the-variants.{Fine}
 use Rattle.graph.specs.Graph.{Lent, Graph, graphOf}
-use Rattle.graph.specs.Count.{count}
+use Rattle.laws.specs.Count.{count}
 use Rattle.graph.specs.Checks.{Room, checked}
 use Rattle.next.specs.Next.{isOpen, opens, metFirst}
 use Rattle.walk.specs.Walk.{Step, Walk, walks, scan}

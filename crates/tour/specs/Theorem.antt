@@ -9,7 +9,7 @@ use lib.Dec.{eqb}
 use borrow.Author.Tests.{eq-eqb, ne-eqb}
 use Rattle.laws.specs.Test.{pick}
 use Rattle.graph.specs.Graph.{Graph}
-use Rattle.graph.specs.Count.{count}
+use Rattle.laws.specs.Count.{count}
 use Rattle.next.specs.Next.{isOpen, metFirst}
 use Rattle.next.specs.Choice.{Mem}
 use Rattle.walk.specs.Walk.{Step, Walk, walks, scan}

@@ -7,7 +7,7 @@ use mathlib.Core.List.{List, [], _∷_}
 use lib.ListN.{replicate}
 use lib.IntN.{ℤ, pos, negℤ}
 use Rattle.laws.specs.Lowest.{lowest}
-use Rattle.graph.specs.Count.{count}
+use Rattle.laws.specs.Count.{count}
 use Rattle.graph.specs.Checks.{checkedNodes, checkedLinks, checked}
 use Rattle.graph.specs.Graph.{Lent, lent, graphOf}
 use Rattle.graph.specs.Examples.{square, tops, unvisited}

@@ -11,7 +11,7 @@ use mathlib.Core.Bool.{Bool}
 use mathlib.Core.Logic.{⊎-elim}
 use borrow.Author.Tests.{eq-eqb, ne-eqb}
 use Rattle.laws.specs.Test.{pick}
-use Rattle.graph.specs.Count.{count, count-more}
+use Rattle.laws.specs.Count.{count, count-more}
 
 abbrev Inv-loop : tie.InvT-loop
 Inv-loop list x n₀ i₀ n i = (i ≤ length list) × (n ≤ i) × (n ≡ count x (take i list))

@@ -1,4 +1,4 @@
--- How often a number stands in a list; members and places; sums over the numbers below n.
+-- How often a number stands in a list, as check 5 and binding's order count it; sums over the numbers below n.
 use Prim.Native.Nat.{ℕ, zero, suc, _+_, _*_, _≤_, _<_, zero-le, suc-le-suc}
 use native.Mathlib.Nat.{not-suc-le-zero, le-of-suc-le-suc, eq-or-lt-of-le, zero-add, add-zero, add-assoc}
 use native.Mathlib.Numerals.{add-one}
@@ -7,19 +7,20 @@ use native.Mathlib.Decide.{decLe}
 use mathlib.Core.Path.{_≡_, refl, sym, ap₂, _∙_}
 use mathlib.Core.Logic.{⊎-elim}
 use mathlib.Core.Bool.{Bool, true, false}
-use mathlib.Core.List.{List, [], _∷_, _++_, List·Memᴰ, List·Memᴰ·head, List·Memᴰ·tail, List·Memᴰ·not-nil, List·Memᴰ·cases-cons}
+use mathlib.Core.List.{List, [], _∷_, _++_, List·Memᴰ, List·Memᴰ·head, List·Memᴰ·tail}
 use lib.Dec.{eqb}
 use lib.ListN.{length, getD, take}
 use lib.Seq.{take-suc}
 use borrow.Author.Tests.{eq-eqb, ne-eqb, eqb-true}
 use Rattle.laws.specs.Test.{pick}
+use Rattle.laws.specs.Lists.{Place, place-of}
 
 unfoldable pub count : ℕ → List ℕ → ℕ
 count x [] = 0
 count x (y ∷ ys) = pick (eqb y x) 1 0 + count x ys
 
 -- ---- one more element
-count-append : (x : ℕ) (s t : List ℕ) → count x (s ++ t) ≡ count x s + count x t
+pub count-append : (x : ℕ) (s t : List ℕ) → count x (s ++ t) ≡ count x s + count x t
 unfolding count
 count-append x [] t = sym (zero-add _)
 count-append x (y ∷ s) t = simp (count-append x s t, add-assoc)
@@ -28,25 +29,7 @@ pub count-more : (x : ℕ) (l : List ℕ) (k : ℕ) → k < length l → count x
 unfolding count
 count-more x l k h = simp (add-one, take-suc l k 0 h, count-append, add-zero)
 
--- ---- a member stands at a place, and is counted
-pub record Place (x : ℕ) (l : List ℕ) : Type 0 where
-  pub place : ℕ
-  pub within : place < length l
-  pub here : getD l place 0 ≡ x
-
-next : {x y : ℕ} {l : List ℕ} → Place x l → Place x (y ∷ l)
-next p = record { place = suc (p .place); within = suc-le-suc (p .within); here = p .here }
-
-pub place-of : {x : ℕ} (l : List ℕ) → List·Memᴰ x l → Place x l
-place-of [] m = absurd (List·Memᴰ·not-nil m)
-place-of {x} (y ∷ l) m =
-    ⊎-elim (λ (e : x ≡ y). record { place = 0; within = suc-le-suc zero-le; here = sym e }) (λ (m : List·Memᴰ x l). next (place-of l m)) (List·Memᴰ·cases-cons m)
-
-pub member : (l : List ℕ) (i : ℕ) → i < length l → List·Memᴰ (getD l i 0) l
-member [] i h = absurd (not-suc-le-zero h)
-member (y ∷ l) zero h = List·Memᴰ·head refl
-member (y ∷ l) (suc i) h = List·Memᴰ·tail (member l i (le-of-suc-le-suc h))
-
+-- ---- what is counted is a member, and stands at a place
 pub counted-in : (x : ℕ) (l : List ℕ) → 1 ≤ count x l → List·Memᴰ x l
 unfolding count
 counted-in x [] h = absurd (not-suc-le-zero h)
@@ -76,11 +59,11 @@ unfolding count
 count-single x [] h = zero-le
 count-single x (y ∷ l) h = at (count-single x l (λ i j m k e. h (suc i) (suc j) (suc-le-suc m) (suc-le-suc k) e)) (eqb y x) refl (decLe 1 (count x l))
   where
-    again : eqb y x ≡ true → Place x l → ⊥
+    again : eqb y x ≡ true → Place 0 x l → ⊥
     again e p = h 0 (suc (p .place)) (suc-le-suc zero-le) (suc-le-suc (p .within)) (eqb-true y x e ∙ sym (p .here))
 
     at : count x l ≤ 1 → (b : Bool) → eqb y x ≡ b → Dec (1 ≤ count x l) → pick b 1 0 + count x l ≤ 1
-    at r true e (yes m) = absurd (again e (place-of l (counted-in x l m)))
+    at r true e (yes m) = absurd (again e (place-of 0 l (counted-in x l m)))
     at r true e (no m) = omega arith
     at r false e d = omega arith
 
