@@ -10,7 +10,8 @@ use Rattle.laws.specs.Test.{pick, pick-ind}
 use Rattle.turn.specs.declared.Checked.{Checked}
 use Rattle.turn.specs.declared.Checked.the-variants.{Fine, Refused as AtFault}
 use Rattle.table.specs.Table.{Table, contourCount, pointCount, hulls, hullCount}
-use Rattle.table.specs.TableChecks.{tableChecked, anchorsChecked, bothChecked}
+use Rattle.table.specs.TableChecks.{tableChecked}
+use Rattle.anchor.specs.AnchorChecks.{anchorsChecked, bothChecked}
 use Rattle.turn.specs.Refusals.{first-fine}
 use Rattle.table.specs.Sound.{Sound}
 use Rattle.table.specs.Passing.{passes-sound, ranges-within}

@@ -10,7 +10,7 @@ use lib.Seq.{paste, paste-zero, paste-suc, take-all, ext-getD}
 use borrow.Author.Tests.{eq-eqb, ne-eqb}
 use Rattle.table.specs.Table.{hulls, droppedOwner}
 use Rattle.table.specs.TableLaws.{hulls-more, no-hulls}
-use Rattle.nearest.proofs.Put.{put-below}
+use Rattle.laws.specs.Lists.{put-below}
 use Rattle.bind.specs.Owners.{firstOwner, listOf, written}
 use Rattle.bind.specs.OwnerLaws.{list-length, list-at}
 

@@ -14,29 +14,33 @@ use Rattle.laws.specs.Test.{or-false}
 use Rattle.turn.specs.declared.Point.{Point}
 use Rattle.turn.specs.Limits.{maxLinks}
 use Rattle.turn.specs.Points.{before, OnGrid}
-use Rattle.table.specs.declared.Anchor.{Anchor}
+use Rattle.anchor.specs.declared.Anchor.{Anchor}
 use Rattle.turn.specs.declared.Checked.{Checked}
 use Rattle.turn.specs.declared.Checked.the-variants.{Fine, Refused as AtFault}
 use Rattle.table.specs.Table.{Table, contourCount, hulls, hullCount, droppedOwner}
-use Rattle.table.specs.TableChecks.{tableChecked, anchorsChecked, bothChecked}
+use Rattle.table.specs.TableChecks.{tableChecked}
+use Rattle.anchor.specs.AnchorChecks.{anchorsChecked, bothChecked}
 use Rattle.turn.specs.Refusals.{followedBy}
-use Rattle.table.specs.Anchor.{anchorEdge}
-use Rattle.table.specs.Sound.{Sound, Anchored}
-use Rattle.table.specs.Passing.{passes-sound}
-use Rattle.table.specs.Anchoring.{passes-anchored}
+use Rattle.anchor.specs.Anchor.{anchorEdge}
+use Rattle.table.specs.Sound.{Sound}
+use Rattle.anchor.specs.Anchored.{Anchored}
+use Rattle.table.specs.Passing.{passes-sound, contours-few}
+use Rattle.anchor.specs.Anchoring.{passes-anchored}
 use Rattle.nearest.specs.Search.{rightward, searchUnder}
-use Rattle.nearest.specs.Lists.{Anchors, anchorAt, giving, Placed}
-use Rattle.nearest.specs.Compare.{lt-no}
-use Rattle.nearest.proofs.Same.{contours-few, under-few}
+use Rattle.anchor.specs.Anchors.{Anchors, listedAnchor}
+use Rattle.nearest.specs.Lists.{giving, Placed}
+use Rattle.laws.specs.Compare.{lt-no}
+use Rattle.nearest.specs.Least.{under-few}
 use Rattle.bind.specs.declared.Binding.the-variants.{Bound, Refused}
 use Rattle.bind.specs.declared.Given.{Given}
 use Rattle.bind.specs.declared.Given.the-variants.{All, Stuck}
-use Rattle.bind.specs.HoleOrder.{goesBefore, precedes, sorted, holes, hole, bindingOrder}
-use Rattle.bind.specs.HoleLaws.{Rising, holes-rising, holes-are}
+use Rattle.order.specs.HoleOrder.{goesBefore, precedes, sorted, holes, hole, bindingOrder}
+use Rattle.order.specs.HoleLaws.{Rising, holes-rising, holes-are}
 use Rattle.bind.specs.Owners.{everyContour, contourBelow, firstOwner, listOf, Owned, owned, giveEach, searchedOwners, ownersOf, droppedOf, Outcome, outcome, written, handed, boundAfter, bound}
-use Rattle.bind.specs.Steps.{Room, Gathered, Bounded, byAnchor, Ordered, giveListed, Listed, delivered}
-use Rattle.bind.specs.Insertion.{sorted-length, sorted-image, entries}
-use Rattle.bind.proofs.Gathers.{anchor-on-grid, end-on-grid, room-for}
+use Rattle.order.specs.HoleLists.{Room, Gathered, Bounded, byAnchor, Ordered, room-for}
+use Rattle.bind.specs.Steps.{giveListed, Listed, delivered}
+use Rattle.order.specs.Insertion.{sorted-length, sorted-image, entries}
+use Rattle.anchor.specs.AnchorPositions.{anchor-on-grid, end-on-grid}
 use Rattle.bind.proofs.Gives.{give-same}
 
 -- ---- the ways out of `check`
@@ -113,10 +117,10 @@ module _ (t : Table) (s : Sound t) (cw : Bool) (a : Anchored t cw) (m : ℕ) (wh
       sorted = in-order;
     }
 
-  module _ (under ord own : List ℕ) (u : (j : ℕ) → j < m → getD under j 0 ≡ searchUnder t true cw (giving (replicate maxLinks 0)) (anchorAt h j)) (o : Ordered h who m ord) where
+  module _ (under ord own : List ℕ) (u : (j : ℕ) → j < m → getD under j 0 ≡ searchUnder t true cw (giving (replicate maxLinks 0)) (listedAnchor h j)) (o : Ordered h who m ord) where
     under-is : (j : ℕ) → j < m → getD under j 0 ≡ contourBelow t cw (hole t j)
     under-is j l =
-        u j l ∙ ap (λ (e : ℕ → Bool). searchUnder t true cw e (anchorAt h j)) (every-gives maxLinks)
+        u j l ∙ ap (λ (e : ℕ → Bool). searchUnder t true cw e (listedAnchor h j)) (every-gives maxLinks)
         ∙ ap (searchUnder t true cw everyContour) (g .at j l)
 
     low : (i : ℕ) → i < m → getD ord i 0 < m

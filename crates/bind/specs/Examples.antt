@@ -4,13 +4,14 @@ use mathlib.Core.Bool.{true, false}
 use mathlib.Core.List.{[], _∷_, _++_}
 use lib.IntN.{pos}
 use Rattle.laws.specs.Lowest.{lowest}
-use Rattle.table.specs.Table.{Table, table, hulls, holeBefore}
-use Rattle.table.specs.TableChecks.{tableChecked, anchorsChecked}
+use Rattle.table.specs.Table.{Table, table, hulls}
+use Rattle.anchor.specs.AnchorChecks.{holeBefore, anchorsChecked}
+use Rattle.table.specs.TableChecks.{tableChecked}
 use Rattle.table.specs.Examples.{e9, e10, e10One, noHull}
-use Rattle.nearest.specs.Edges.{liesUnder, winsTie, nearer}
+use Rattle.edges.specs.Edges.{liesUnder, winsTie, nearer}
 use Rattle.nearest.specs.Search.{edge, kept, offered, keep, nearest, contourUnder}
 use Rattle.bind.specs.declared.Binding.the-variants.{Bound, Refused}
-use Rattle.bind.specs.HoleOrder.{place, inserted, sorted, holesBelow}
+use Rattle.order.specs.HoleOrder.{place, inserted, sorted, holesBelow}
 use Rattle.bind.specs.Owners.{listOf, giveEach, ownersOf, outcome, bound}
 
 -- "both holes get shape 1, the second through the first"; the buffer's tail is kept

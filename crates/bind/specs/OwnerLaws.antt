@@ -17,9 +17,10 @@ use Rattle.table.specs.TableLaws.{hulls-more}
 use Rattle.table.specs.Sound.{Sound}
 use Rattle.bind.specs.declared.Given.{Given}
 use Rattle.bind.specs.declared.Given.the-variants.{All, Stuck}
-use Rattle.bind.specs.HoleOrder.{bindingOrder}
-use Rattle.bind.specs.Insertion.{times, Stands, stands}
-use Rattle.bind.specs.OrderLaws.{each-once}
+use Rattle.order.specs.HoleOrder.{bindingOrder}
+use Rattle.laws.specs.Count.{count, counted-in}
+use Rattle.laws.specs.Lists.{Place, place-of}
+use Rattle.order.specs.OrderLaws.{each-once}
 use Rattle.bind.specs.Owners.{Owned, owned, given, firstOwner, listOf, giveEach, contourBelow, searchedOwners, ownersOf}
 
 -- ---- a list of a rule's values
@@ -143,15 +144,15 @@ module _ (t : Table) (s : Sound t) (some : 0 < hullCount t) where
       r : Below (contourBelow t cw) (hullCount t) some (bindingOrder t cw) (listOf (firstOwner (t .kind)) (contourCount t)) l
       r = all-given (contourBelow t cw) (hullCount t) some (bindingOrder t cw) (listOf (firstOwner (t .kind)) (contourCount t)) l first-held e
 
-      hole-at : Stands (bindingOrder t cw) c → getD l c 0 < hullCount t
-      hole-at m = subst (λ (d : ℕ). getD l d 0 < hullCount t) (m .is) (r .gone (m .place-of) (m .inside))
+      hole-at : Place 0 c (bindingOrder t cw) → getD l c 0 < hullCount t
+      hole-at m = subst (λ (d : ℕ). getD l d 0 < hullCount t) (m .here) (r .gone (m .place) (m .within))
 
       go : Dec (kindOf t c ≡ 0) → getD l c 0 < hullCount t
       go (yes k) = r .kept c (rw (list-at (firstOwner (t .kind)) (contourCount t) c h) (hull-below (t .kind) c (omega (arith, s .kind-long)) k))
       go (no k) =
           let i : kindOf t c ≡ 1 = omega (arith, s .kinds c h) in
-          let o : times c (bindingOrder t cw) ≡ 1 = each-once t cw c ∙ rw (lt-ltb c (contourCount t) h, eq-eqb _ _ i) in
-          hole-at (stands c (bindingOrder t cw) (omega arith))
+          let o : count c (bindingOrder t cw) ≡ 1 = each-once t cw c ∙ rw (lt-ltb c (contourCount t) h, eq-eqb _ _ i) in
+          hole-at (place-of 0 (bindingOrder t cw) (counted-in c (bindingOrder t cw) (omega arith)))
 
   -- where binding succeeds and there is a hull
   pub owners-below : (cw : Bool) (l : List ℕ) → ownersOf t cw ≡ owned All l → (c : ℕ) → c < contourCount t → getD l c 0 < hullCount t

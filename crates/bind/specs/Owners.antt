@@ -8,14 +8,14 @@ use Rattle.laws.specs.Test.{pick}
 use Rattle.turn.specs.declared.Checked.{Checked}
 use Rattle.turn.specs.declared.Checked.the-variants.{Fine, Refused as AtFault}
 use Rattle.table.specs.Table.{Table, contourCount, hulls, hullCount, droppedOwner}
-use Rattle.table.specs.Anchor.{anchorEdge}
-use Rattle.table.specs.TableChecks.{bothChecked}
+use Rattle.anchor.specs.Anchor.{anchorEdge}
+use Rattle.anchor.specs.AnchorChecks.{bothChecked}
 use Rattle.nearest.specs.Search.{searchUnder}
 use Rattle.bind.specs.declared.Binding.{Binding}
 use Rattle.bind.specs.declared.Binding.the-variants.{Bound, Refused}
 use Rattle.bind.specs.declared.Given.{Given}
 use Rattle.bind.specs.declared.Given.the-variants.{All, Stuck}
-use Rattle.bind.specs.HoleOrder.{bindingOrder}
+use Rattle.order.specs.HoleOrder.{bindingOrder}
 
 -- every contour gives edges, with fill above
 abbrev pub everyContour : ℕ → Bool

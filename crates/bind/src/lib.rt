@@ -1,19 +1,16 @@
-// Binding: checks 10 to 12, the holes in binding's order, and the owner of every contour.
-use table::Anchor;
+// Binding: checks 10 to 12, and the owner of every contour.
 use turn::Checked;
 ghost use mathlib.Core.Path.{_≡_};
-ghost use Prim.Native.Nat.{ℕ, suc, _<_, _≤_};
-ghost use lib.ListN.{length, getD, take, replicate};
+ghost use Prim.Native.Nat.{ℕ, _<_, _≤_};
+ghost use lib.ListN.{length, take, replicate};
 ghost use Rattle.turn.specs.Limits.{maxLinks};
-ghost use Rattle.turn.specs.Points.{OnGrid};
 ghost use Rattle.table.specs.Table.{table};
-ghost use Rattle.table.specs.TableChecks.{bothChecked};
-ghost use Rattle.table.specs.Sound.{Sound, Anchored};
-ghost use Rattle.nearest.specs.Lists.{anchors};
-ghost use Rattle.bind.specs.HoleOrder.{goesBefore, bindingOrder};
+ghost use Rattle.table.specs.Sound.{Sound};
+ghost use Rattle.anchor.specs.AnchorChecks.{bothChecked};
+ghost use Rattle.anchor.specs.Anchored.{Anchored};
+ghost use Rattle.order.specs.HoleOrder.{bindingOrder};
 ghost use Rattle.bind.specs.Owners.{owned, firstOwner, listOf, given, giveEach, contourBelow, searchedOwners, outcome, written, handed, ownersOf, bound};
-ghost use Rattle.bind.specs.Insertion.{Inserted};
-ghost use Rattle.bind.specs.Steps.{withAnchor, Room, Gathered, Bounded, placeOf, Ordered, giveListed, Listed, delivered};
+ghost use Rattle.bind.specs.Steps.{giveListed, Listed, delivered};
 
 // What binding answers: how many shapes there are and how many holes were dropped, or the number and the place of a refusal.
 pub enum Binding {
@@ -25,119 +22,6 @@ pub enum Binding {
 pub enum Given {
     All,
     Stuck(u32),
-}
-
-// Anchor j is a.
-fn put_anchor(a: Anchor, j: usize, x: &mut [i32], y: &mut [i32], to_x: &mut [i32], to_y: &mut [i32])
-    requires { ⌜ (OnGrid (a .at)) × (OnGrid (a .to)) ⌝ }
-    requires { ⌜ (j < length (now x)) × (j < length (now y)) × (j < length (now «to_x»)) × (j < length (now «to_y»)) ⌝ }
-    ensures { λ _. ⌜ anchors (now (x .exit)) (now (y .exit)) (now («to_x» .exit)) (now («to_y» .exit)) ≡ withAnchor (anchors (now (x .entry)) (now (y .entry)) (now («to_x» .entry)) (now («to_y» .entry))) j a ⌝ }
-{
-    let at_x = a.at.x;
-    let at_y = a.at.y;
-    let end_x = a.to.x;
-    let end_y = a.to.y;
-    x[j] = at_x;
-    y[j] = at_y;
-    to_x[j] = end_x;
-    to_y[j] = end_y;
-}
-
-// The holes in contour order: hole j's contour and its anchor. Answers how many there are.
-fn gather_holes(
-    points: &[i32],
-    first: &[u32],
-    len: &[u32],
-    kind: &[u8],
-    clockwise: bool,
-    who: &mut [u32],
-    x: &mut [i32],
-    y: &mut [i32],
-    to_x: &mut [i32],
-    to_y: &mut [i32],
-) -> usize
-    requires { ⌜ Sound (table (now points) (now first) (now len) (now kind)) ⌝ }
-    requires { ⌜ Room (now who) (anchors (now x) (now y) (now «to_x») (now «to_y»)) maxLinks ⌝ }
-    ensures { λ m. ⌜ Gathered (table (now (points .entry)) (now (first .entry)) (now (len .entry)) (now (kind .entry))) clockwise (length (now (first .entry))) m (now (who .exit)) (anchors (now (x .exit)) (now (y .exit)) (now («to_x» .exit)) (now («to_y» .exit))) ⌝ }
-{
-    let mut m = 0;
-    let mut c = 0;
-    while c < first.len() {
-        if kind[c] != 1 {
-            c += 1;
-            continue;
-        }
-        let a = table::left_bottom_segment_from(
-            points,
-            first[c] as usize,
-            len[c] as usize,
-            clockwise,
-        );
-        who[m] = c as u32;
-        put_anchor(a, m, x, y, to_x, to_y);
-        m += 1;
-        c += 1;
-    }
-    m
-}
-
-// Hole c, with the anchor a, goes before hole d, with the anchor b.
-fn goes_before(a: Anchor, b: Anchor, c: u32, d: u32) -> bool
-    requires { ⌜ (OnGrid (a .at)) × (OnGrid (a .to)) × (OnGrid (b .at)) × (OnGrid (b .to)) ⌝ }
-    ensures { λ r. ⌜ r ≡ goesBefore a b c d ⌝ }
-{
-    if turn::before(a.at, b.at) {
-        return true;
-    }
-    if turn::before(b.at, a.at) {
-        return false;
-    }
-    let angle = turn::cross_product(turn::between(a.at, a.to), turn::between(b.at, b.to));
-    (0 < angle) | (!(angle < 0) & (c < d))
-}
-
-// Hole j goes among the first j of `ord`, in front of those at the end that it goes before.
-fn insert(who: &[u32], x: &[i32], y: &[i32], to_x: &[i32], to_y: &[i32], ord: &mut [u32], j: usize)
-    requires { ⌜ (Bounded (now who) (anchors (now x) (now y) (now «to_x») (now «to_y»)) (suc j)) × (j < maxLinks) ⌝ }
-    requires { ⌜ (j < length (now ord)) × ((i : ℕ) → i < j → getD (now ord) i 0 < j) ⌝ }
-    ensures { λ _. ⌜ Inserted (now (ord .entry)) (now (ord .exit)) j (placeOf (anchors (now (x .entry)) (now (y .entry)) (now («to_x» .entry)) (now («to_y» .entry))) (now (who .entry)) (now (ord .entry)) j) j ⌝ }
-{
-    let a = nearest::anchor_at(x, y, to_x, to_y, j);
-    let c = who[j];
-    let mut p = j;
-    while 0 < p {
-        let d = ord[p - 1];
-        let i = d as usize;
-        let b = nearest::anchor_at(x, y, to_x, to_y, i);
-        if goes_before(a, b, c, who[i]) {
-            ord[p] = d;
-            p -= 1;
-        } else {
-            ord[p] = j as u32;
-            return;
-        }
-    }
-    ord[p] = j as u32;
-}
-
-// The m holes in binding's order, by their places among the holes.
-fn order_holes(
-    who: &[u32],
-    x: &[i32],
-    y: &[i32],
-    to_x: &[i32],
-    to_y: &[i32],
-    m: usize,
-    ord: &mut [u32],
-)
-    requires { ⌜ (Bounded (now who) (anchors (now x) (now y) (now «to_x») (now «to_y»)) m) × (m ≤ maxLinks) × (m ≤ length (now ord)) ⌝ }
-    ensures { λ _. ⌜ Ordered (anchors (now (x .entry)) (now (y .entry)) (now («to_x» .entry)) (now («to_y» .entry))) (now (who .entry)) m (now (ord .exit)) ⌝ }
-{
-    let mut j = 0;
-    while j < m {
-        insert(who, x, y, to_x, to_y, ord, j);
-        j += 1;
-    }
 }
 
 // The first owners: a hull's is its own number, a hole has none yet.
@@ -206,7 +90,7 @@ fn search_owners(
     let mut y = [0i32; turn::MAX_LINKS];
     let mut to_x = [0i32; turn::MAX_LINKS];
     let mut to_y = [0i32; turn::MAX_LINKS];
-    let m = gather_holes(
+    let m = order::gather_holes(
         points,
         first,
         len,
@@ -236,7 +120,7 @@ fn search_owners(
         &mut under,
     );
     let mut ord = [0u32; turn::MAX_LINKS];
-    order_holes(&who, &x, &y, &to_x, &to_y, m, &mut ord);
+    order::order_holes(&who, &x, &y, &to_x, &to_y, m, &mut ord);
     give_owners(&ord, &who, &under, m, own)
 }
 
@@ -357,7 +241,7 @@ fn check(
     ensures { λ r. ⌜ r ≡ bothChecked (table (now (points .entry)) (now (first .entry)) (now (len .entry)) (now (kind .entry))) owners clockwise ⌝ }
 {
     match table::check_table(points, first, len, kind, owners) {
-        Checked::Fine => table::check_anchors(points, first, len, kind, clockwise),
+        Checked::Fine => anchor::check_anchors(points, first, len, kind, clockwise),
         Checked::Refused { number, place } => Checked::Refused {
             number: number,
             place: place,

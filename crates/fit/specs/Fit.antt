@@ -25,12 +25,13 @@ use Rattle.walk.specs.Extract.{Buffers, Extracted, extractedAs, afterScan, afte
 use Rattle.walk.specs.Visits.{scanned}
 use Rattle.tour.specs.ThreePoints.{finished}
 use Rattle.table.specs.Table.{Table, table, firstOf, endOf, contourCount, point, isHole}
-use Rattle.table.specs.Anchor.{anchorPoint}
-use Rattle.table.specs.TableChecks.{tableChecked, anchorsChecked}
+use Rattle.anchor.specs.Anchor.{anchorPoint}
+use Rattle.table.specs.TableChecks.{tableChecked}
+use Rattle.anchor.specs.AnchorChecks.{anchorsChecked}
 use Rattle.turn.specs.declared.Checked.the-variants as table
-use Rattle.table.specs.Sound.{Anchored}
+use Rattle.anchor.specs.Anchored.{Anchored}
 use Rattle.table.specs.Passing.{passes-sound}
-use Rattle.table.specs.Anchoring.{passes-anchored}
+use Rattle.anchor.specs.Anchoring.{passes-anchored}
 use Rattle.fit.specs.Places.{tableOf, walkAt, noWalk, origin, firsts-length, lens-length, lens-at, kinds-at, point-at}
 use Rattle.fit.specs.Sizes.{table-sound, at-walks, three, links-in}
 use Rattle.fit.specs.Anchors.{AllBegin, Led, scan-begins}

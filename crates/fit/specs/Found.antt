@@ -11,23 +11,24 @@ use borrow.Author.Tests.{eq-eqb, eqb-true, eqb-false, lt-ltb}
 use Rattle.laws.specs.Test.{pick}
 use Rattle.table.specs.Table.{Table, contourCount, kindOf, hullCount, shapeOf, hulls, droppedOwner}
 use Rattle.table.specs.TableLaws.{hulls-more}
-use Rattle.table.specs.TableChecks.{tableChecked, anchorsChecked, bothChecked}
+use Rattle.table.specs.TableChecks.{tableChecked}
+use Rattle.anchor.specs.AnchorChecks.{anchorsChecked, bothChecked}
 use Rattle.turn.specs.Refusals.{first-fine}
 use Rattle.turn.specs.declared.Checked.{Checked}
 use Rattle.turn.specs.declared.Checked.the-variants.{Fine, Refused}
 use Rattle.table.specs.Sound.{Sound}
 use Rattle.table.specs.Passing.{passes-sound}
-use Rattle.table.specs.Lookups.{ownerRight, recordOf, lookedUp}
-use Rattle.table.specs.LookupLaws.{found-record}
-use Rattle.table.specs.declared.records.Lookup.the-variants.{Found}
+use Rattle.lookup.specs.Lookups.{ownerRight, recordOf, lookedUp}
+use Rattle.lookup.specs.LookupLaws.{found-record}
+use Rattle.lookup.specs.declared.records.Lookup.the-variants.{Found}
 use Rattle.bind.specs.declared.Binding.the-variants as binding
 use Rattle.bind.specs.declared.Given.{Given}
 use Rattle.bind.specs.declared.Given.the-variants.{All, Stuck}
 use Rattle.bind.specs.Owners.{Owned, owned, given, giveEach, firstOwner, listOf, searchedOwners, ownersOf, contourBelow, Outcome, outcome, written, handed, handedBy, boundAfter, bound}
-use Rattle.bind.specs.HoleOrder.{bindingOrder}
-use Rattle.bind.specs.OrderLaws.{each-once}
+use Rattle.order.specs.HoleOrder.{bindingOrder}
+use Rattle.order.specs.OrderLaws.{each-once}
 use Rattle.bind.specs.OwnerLaws.{list-length, list-at, hulls-most, owners-below}
-use Rattle.bind.specs.Insertion.{times}
+use Rattle.laws.specs.Count.{count}
 
 -- ---- giving leaves the owners of contours that are not gone through
 split : {x y : List ℕ} {r q : Given} → owned r x ≡ owned q y → (r ≡ q) × (x ≡ y)
@@ -38,10 +39,10 @@ zero-one x = omega arith
 
 pub record Left (l old new : List ℕ) : Type 0 where
   pub long : length new ≡ length old
-  pub same : (c : ℕ) → times c l ≡ 0 → getD new c 0 ≡ getD old c 0
+  pub same : (c : ℕ) → count c l ≡ 0 → getD new c 0 ≡ getD old c 0
 
 left : (under : ℕ → ℕ) (l old new : List ℕ) → giveEach under l old ≡ owned All new → Left l old new
-unfolding giveEach times
+unfolding giveEach count
 left under [] old new e = let q = split e in record { long = ap length (sym (q .1)); same = λ c h. ap (λ (x : List ℕ). getD x c 0) (sym (q .1)) }
 left under (d ∷ l) old new e = go (eqb (given (under d) old) droppedOwner) e (left under l (set old d (given (under d) old)) new)
   where
@@ -87,7 +88,7 @@ module _ (t : Table) (s : Sound t) (cw : Bool) (l : List ℕ) where
   searched : searchedOwners t cw ≡ owned All l → Left (bindingOrder t cw) (listOf (firstOwner (t .kind)) (contourCount t)) l
   searched e = left (contourBelow t cw) (bindingOrder t cw) (listOf (firstOwner (t .kind)) (contourCount t)) l e
 
-  not-hole : (c : ℕ) → kindOf t c ≡ 0 → times c (bindingOrder t cw) ≡ 0
+  not-hole : (c : ℕ) → kindOf t c ≡ 0 → count c (bindingOrder t cw) ≡ 0
   not-hole c k = each-once t cw c ∙ rw (k) (off (ltb c (contourCount t)))
     where
       off : (b : Bool) → _≡_ {A = ℕ} (pick (b && false) 1 0) 0

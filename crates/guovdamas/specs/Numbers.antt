@@ -5,12 +5,12 @@ use lib.IntN.{ℤ, pos}
 use Rattle.walk.specs.declared.Extraction.{Extraction}
 use Rattle.walk.specs.declared.Extraction.the-variants.{Done, Refused}
 use Rattle.walk.specs.Extract.{Buffers, Extracted}
-use Rattle.table.specs.Lookups.{roleOwner}
-use Rattle.table.specs.declared.records.Role.{Role}
-use Rattle.table.specs.declared.records.Role.the-variants.{Hull, Hole, Dropped}
-use Rattle.table.specs.declared.records.ContourRecord.{ContourRecord}
-use Rattle.table.specs.declared.records.Lookup.{Lookup}
-use Rattle.table.specs.declared.records.Lookup.the-variants.{Found, Missing}
+use Rattle.lookup.specs.Lookups.{roleOwner}
+use Rattle.lookup.specs.declared.records.Role.{Role}
+use Rattle.lookup.specs.declared.records.Role.the-variants.{Hull, Hole, Dropped}
+use Rattle.lookup.specs.declared.records.ContourRecord.{ContourRecord}
+use Rattle.lookup.specs.declared.records.Lookup.{Lookup}
+use Rattle.lookup.specs.declared.records.Lookup.the-variants.{Found, Missing}
 use Rattle.bind.specs.declared.Binding.{Binding}
 use Rattle.bind.specs.declared.Binding.the-variants.{Bound, Refused as Unbound}
 use Rattle.bind.specs.Owners.{Outcome}

@@ -25,6 +25,10 @@ unfolding count
 count-append x [] t = sym (zero-add _)
 count-append x (y ∷ s) t = simp (count-append x s t, add-assoc)
 
+pub count-snoc : (x y : ℕ) (l : List ℕ) → count x (l ++ (y ∷ [])) ≡ count x l + pick (eqb y x) 1 0
+unfolding count
+count-snoc x y l = count-append x l (y ∷ []) ∙ simp add-zero
+
 pub count-more : (x : ℕ) (l : List ℕ) (k : ℕ) → k < length l → count x (take (k + 1) l) ≡ count x (take k l) + pick (eqb (getD l k 0) x) 1 0
 unfolding count
 count-more x l k h = simp (add-one, take-suc l k 0 h, count-append, add-zero)

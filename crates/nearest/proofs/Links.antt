@@ -12,7 +12,7 @@ use Rattle.laws.specs.Test.{pick}
 use Rattle.table.specs.Table.{Table, firstOf, endOf, contourOf, nextIn, next}
 use Rattle.table.specs.Passing.{apart, contour-is}
 use Rattle.nearest.specs.Lists.{Ranges, ranges, Linked, Round}
-use Rattle.nearest.proofs.Put.{put-below}
+use Rattle.laws.specs.Lists.{put-below}
 
 -- ---- the loop of `link_contour`: the old list below `from`, a rule from there on
 abbrev mixed : ℕ → List ℕ → (ℕ → ℕ) → ℕ → ℕ

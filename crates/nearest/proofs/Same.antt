@@ -6,17 +6,18 @@ use mathlib.Core.List.{List}
 use native.Mathlib.Omega.{arith}
 use lib.ListN.{length, getD}
 use lib.Dec.{eqb}
-use borrow.Author.Tests.{ne-eqb}
 use Rattle.laws.specs.Test.{pick}
 use Rattle.turn.specs.Limits.{maxLinks}
-use Rattle.table.specs.declared.Anchor.{Anchor}
+use Rattle.anchor.specs.declared.Anchor.{Anchor}
 use Rattle.table.specs.Table.{Table, pointCount, contourCount, firstOf, endOf, contourOf, next}
-use Rattle.table.specs.Passing.{located, sound-follows, few-contours, next-within}
+use Rattle.table.specs.Passing.{located, sound-follows, contours-few, next-within}
 use Rattle.table.specs.Sound.{Sound}
-use Rattle.nearest.specs.declared.Edge.{Edge}
+use Rattle.edges.specs.declared.Edge.{Edge}
 use Rattle.nearest.specs.Search.{kept, offered, keep, nearest, contourUnder, edge}
-use Rattle.nearest.specs.Lists.{Lists, lists, listedEdge, Anchors, anchorAt, giving, named, Fit, Flags, Numbers, Ranges, ranges, Round, Nearests}
-use Rattle.nearest.proofs.Offers.{nearest-le, contour-is}
+use Rattle.nearest.specs.Lists.{Lists, lists, listedEdge, giving, named, Fit, Flags, Numbers, Ranges, ranges, Round, Nearests}
+use Rattle.anchor.specs.Anchors.{Anchors, listedAnchor}
+use Rattle.nearest.specs.Least.{nearest-le}
+use Rattle.nearest.proofs.Offers.{contour-is}
 
 -- ---- edges that are the same below n give the same answer
 module _ (e f : ℕ → Edge) (gives : ℕ → Bool) (a : Anchor) (n : ℕ) (same : (k : ℕ) → k < n → e k ≡ f k) where
@@ -44,13 +45,10 @@ module _ (e f : ℕ → Edge) (gives : ℕ → Bool) (a : Anchor) (n : ℕ) (sam
 
 -- ---- the ranges of a sound table
 module _ (t : Table) (s : Sound t) where
-  pub contours-few : contourCount t ≤ maxLinks
-  contours-few = omega (arith, few-contours t s (contourCount t) (omega arith), s .ends, s .few)
-
   pub ranges-of : Ranges (t .first) (t .len)
   ranges-of = record {
     same = s .len-long;
-    few = contours-few;
+    few = contours-few t s;
     follow = sound-follows t s;
     within = λ c h. omega (arith, s .within c h, s .few);
   }
@@ -94,7 +92,7 @@ module _ (t : Table) (s : Sound t) (next′ of : List ℕ) (r : Round (ranges (t
 
     module _ (mute : List ℕ) (h : Anchors) (m : ℕ) (best : List ℕ) (n : Nearests g mute (pointCount t) h m best) where
       pub best-numbers : Numbers best m (pointCount t)
-      best-numbers j l = rw (n j l) (nearest-le (listedEdge g) (giving mute) (anchorAt h j) (pointCount t))
+      best-numbers j l = rw (n j l) (nearest-le (listedEdge g) (giving mute) (listedAnchor h j) (pointCount t))
 
       listed : (a : Anchor) (b : ℕ) → b ≡ nearest (listedEdge g) (giving mute) a (pointCount t) → named of b ≡ contourUnder (listedEdge g) (giving mute) a (pointCount t)
       unfolding contourUnder
@@ -102,16 +100,7 @@ module _ (t : Table) (s : Sound t) (next′ of : List ℕ) (r : Round (ranges (t
 
       -- what the search answers
       pub searched : (under : List ℕ) → ((j : ℕ) → j < m → getD under j 0 ≡ named of (getD best j 0))
-          → (j : ℕ) → j < m → getD under j 0 ≡ contourUnder (edge t right) (giving mute) (anchorAt h j) (pointCount t)
+          → (j : ℕ) → j < m → getD under j 0 ≡ contourUnder (edge t right) (giving mute) (listedAnchor h j) (pointCount t)
       searched under u j l =
-          u j l ∙ listed (anchorAt h j) (getD best j 0) (n j l)
-          ∙ answer-same (listedEdge g) (edge t right) (giving mute) (anchorAt h j) (pointCount t) edges-same
-
--- ---- the search answers a contour of the table, and 1, or 0
-pub under-few : (t : Table) → Sound t → (right : Bool) (gives : ℕ → Bool) (a : Anchor) → contourUnder (edge t right) gives a (pointCount t) ≤ contourCount t
-unfolding contourUnder edge
-under-few t s right gives a = go (nearest (edge t right) gives a (pointCount t)) (nearest-le (edge t right) gives a (pointCount t))
-  where
-    go : (b : ℕ) → b ≤ pointCount t → pick (eqb b 0) 0 (contourOf t (b - 1) + 1) ≤ contourCount t
-    go zero l = omega arith
-    go (suc b) l = let q : suc b - 1 ≡ b = omega arith in rw (ne-eqb (suc b) 0 (λ z. omega arith), q) (omega (arith, located t s b l .below))
+          u j l ∙ listed (listedAnchor h j) (getD best j 0) (n j l)
+          ∙ answer-same (listedEdge g) (edge t right) (giving mute) (listedAnchor h j) (pointCount t) edges-same

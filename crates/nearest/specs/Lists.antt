@@ -10,11 +10,11 @@ use lib.Signed.{_≤ℤ_, _<ℤ_}
 use Rattle.laws.specs.Test.{pick}
 use Rattle.turn.specs.Limits.{maxLinks}
 use Rattle.turn.specs.Points.{OnGrid, Grid}
-use Rattle.table.specs.declared.Anchor.{Anchor}
 use Rattle.table.specs.TableChecks.{startIn}
 use Rattle.table.specs.Table.{Table, table, pointAt, firstOf, endOf, contourOf, nextIn, next}
-use Rattle.nearest.specs.declared.Edge.{Edge}
+use Rattle.edges.specs.declared.Edge.{Edge}
 use Rattle.nearest.specs.Search.{edgeOf, offered, nearest}
+use Rattle.anchor.specs.Anchors.{Anchors, listedAnchor}
 
 -- Edge k begins at point k. `next` is the point after it round its contour, `of` its contour, `kind` a contour's kind; `right` says which way candidates are walked.
 pub record Lists : Type 0 where
@@ -35,22 +35,6 @@ listedEdge g k =
 -- the contours that give edges: those that a list of flags does not mute
 abbrev pub giving : List ℕ → ℕ → Bool
 giving mute c = eqb (getD mute c 0) 0
-
--- the anchors, and the other ends of the anchor edges, by their coordinates
-pub record Anchors : Type 0 where
-  pub x : List ℤ
-  pub y : List ℤ
-  pub to-x : List ℤ
-  pub to-y : List ℤ
-
-abbrev pub anchors : List ℤ → List ℤ → List ℤ → List ℤ → Anchors
-anchors x y u v = record { x = x; y = y; to-x = u; to-y = v }
-
-abbrev pub anchorAt : Anchors → ℕ → Anchor
-anchorAt h j = record {
-  at = record { x = getD (h .x) j (pos 0); y = getD (h .y) j (pos 0) };
-  to = record { x = getD (h .to-x) j (pos 0); y = getD (h .to-y) j (pos 0) };
-}
 
 -- the contour of an edge, and 1, by the edge's number and 1; 0 where there is none
 abbrev pub named : List ℕ → ℕ → ℕ
@@ -79,8 +63,8 @@ pub record Placed (h : Anchors) (m : ℕ) : Type 0 where
   pub y-room : m ≤ length (h .y)
   pub to-x-room : m ≤ length (h .to-x)
   pub to-y-room : m ≤ length (h .to-y)
-  pub at : (j : ℕ) → j < m → OnGrid (anchorAt h j .at)
-  pub to : (j : ℕ) → j < m → OnGrid (anchorAt h j .to)
+  pub at : (j : ℕ) → j < m → OnGrid (listedAnchor h j .at)
+  pub to : (j : ℕ) → j < m → OnGrid (listedAnchor h j .to)
   pub sorted : Sorted (h .x) m
 
 -- ranges that follow each other from 0
@@ -106,11 +90,11 @@ Numbers l m n = (j : ℕ) → j < m → getD l j 0 ≤ n
 
 -- edge k has been offered to m anchors
 abbrev pub Offered : Lists → Anchors → ℕ → ℕ → List ℕ → List ℕ → Type 0
-Offered g h m k old new = (j : ℕ) → j < m → getD new j 0 ≡ offered (listedEdge g) (anchorAt h j) k (getD old j 0)
+Offered g h m k old new = (j : ℕ) → j < m → getD new j 0 ≡ offered (listedEdge g) (listedAnchor h j) k (getD old j 0)
 
 -- the nearest of n edges under each of m anchors
 abbrev pub Nearests : Lists → List ℕ → ℕ → Anchors → ℕ → List ℕ → Type 0
-Nearests g mute n h m best = (j : ℕ) → j < m → getD best j 0 ≡ nearest (listedEdge g) (giving mute) (anchorAt h j) n
+Nearests g mute n h m best = (j : ℕ) → j < m → getD best j 0 ≡ nearest (listedEdge g) (giving mute) (listedAnchor h j) n
 
 -- the points from a position up to another have been made contour c's
 pub record Linked (c from to : ℕ) (next of next′ of′ : List ℕ) : Type 0 where

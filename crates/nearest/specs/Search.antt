@@ -5,9 +5,9 @@ use lib.Dec.{eqb}
 use Rattle.laws.specs.Test.{pick}
 use Rattle.turn.specs.declared.Point.{Point}
 use Rattle.table.specs.Table.{Table, point, pointCount, kindOf, contourOf, next}
-use Rattle.nearest.specs.declared.Edge.{Edge}
-use Rattle.table.specs.declared.Anchor.{Anchor}
-use Rattle.nearest.specs.Edges.{spans, liesUnder, nearer}
+use Rattle.edges.specs.declared.Edge.{Edge}
+use Rattle.anchor.specs.declared.Anchor.{Anchor}
+use Rattle.edges.specs.Edges.{spans, liesUnder, nearer}
 
 -- "Candidate edges are those with fill above: walked rightward for counterclockwise output, leftward for clockwise." With fill below it is the other way round.
 abbrev pub rightward : Bool → Bool → Bool

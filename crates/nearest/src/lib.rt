@@ -1,94 +1,20 @@
-// The nearest edge under a point: candidate edges, what lies under an anchor, and the search, driven by edges.
-use table::Anchor;
-use turn::Point;
-use turn::Vector;
+// The search for the nearest edge under each of many anchors, driven by edges.
+use anchor::Anchor;
+use edges::Edge;
 ghost use mathlib.Core.Path.{_≡_};
 ghost use Prim.Native.Nat.{ℕ, _<_, _≤_};
 ghost use lib.ListN.{length, getD};
-ghost use lib.IntN.{natAbs, _*ℤ_};
 ghost use Rattle.turn.specs.Limits.{maxLinks};
-ghost use Rattle.turn.specs.Points.{OnGrid, Short, productBound, span};
+ghost use Rattle.turn.specs.Points.{OnGrid};
 ghost use Rattle.table.specs.Table.{table, nextIn};
 ghost use Rattle.table.specs.Sound.{Sound};
-ghost use Rattle.nearest.specs.Edges.{height, liesUnder, winsTie, nearer, On, gapBound};
+ghost use Rattle.anchor.specs.Anchors.{anchors, listedAnchor};
+ghost use Rattle.edges.specs.Edges.{On};
 ghost use Rattle.nearest.specs.Search.{kept as kept-of, searchUnder};
-ghost use Rattle.nearest.specs.Lists.{lists, listedEdge, anchors, anchorAt, giving, Fit, Flags, Placed, Sorted, Parted, Numbers, Offered, Nearests, named, Linked, Ranges, ranges, Round};
-
-// An edge from its left end to its right end, with its contour's kind (0 hull, 1 hole) and number.
-pub struct Edge {
-    pub left: Point,
-    pub right: Point,
-    pub kind: u8,
-    pub contour: u32,
-}
-
-// The vertical gap from the edge up to the anchor, times the edge's run.
-fn height_over(a: Anchor, e: Edge) -> i64
-    requires { ⌜ On a e ⌝ }
-    ensures { λ r. ⌜ (r ≡ height a e) × (natAbs r ≤ productBound) ⌝ }
-{
-    turn::turn_of(e.left, e.right, a.at)
-}
-
-// The anchor is strictly above the edge, or on it with its anchor edge strictly counterclockwise of it.
-fn lies_under(a: Anchor, e: Edge) -> bool
-    requires { ⌜ On a e ⌝ }
-    ensures { λ r. ⌜ r ≡ liesUnder a e ⌝ }
-{
-    let h = height_over(a, e);
-    if 0 < h {
-        return true;
-    }
-    if h < 0 {
-        return false;
-    }
-    0 < turn::cross_product(turn::between(e.left, e.right), turn::between(a.at, a.to))
-}
-
-// A height, or a rise, times a run: below 2^61.
-fn scaled(h: i64, run: i64) -> i64
-    requires { ⌜ (natAbs h ≤ productBound) × (natAbs run ≤ span) ⌝ }
-    ensures { λ r. ⌜ (r ≡ h *ℤ run) × (natAbs r ≤ gapBound) ⌝ }
-{
-    h * run
-}
-
-// Of two edges with one gap: the greatest slope, then hulls before holes, then the lower number.
-fn wins_tie(u: Vector, v: Vector, kind: u8, other_kind: u8, contour: u32, other: u32) -> bool
-    requires { ⌜ (Short u) × (Short v) ⌝ }
-    ensures { λ r. ⌜ r ≡ winsTie u v kind «other_kind» contour other ⌝ }
-{
-    let slope = scaled(u.y, v.x);
-    let other_slope = scaled(v.y, u.x);
-    if other_slope < slope {
-        return true;
-    }
-    if slope < other_slope {
-        return false;
-    }
-    (kind < other_kind) | (!(other_kind < kind) & (contour < other))
-}
-
-// e is nearer to the anchor than f: by the gaps as fractions, then as `wins_tie` says.
-fn is_nearer(a: Anchor, e: Edge, f: Edge) -> bool
-    requires { ⌜ (On a e) × (On a f) ⌝ }
-    ensures { λ r. ⌜ r ≡ nearer a e f ⌝ }
-{
-    let u = turn::between(e.left, e.right);
-    let v = turn::between(f.left, f.right);
-    let gap = scaled(height_over(a, e), v.x);
-    let other_gap = scaled(height_over(a, f), u.x);
-    if gap < other_gap {
-        return true;
-    }
-    if other_gap < gap {
-        return false;
-    }
-    wins_tie(u, v, e.kind, f.kind, e.contour, f.contour)
-}
+ghost use Rattle.nearest.specs.Lists.{lists, listedEdge, giving, Fit, Flags, Placed, Sorted, Parted, Numbers, Offered, Nearests, named, Linked, Ranges, ranges, Round};
 
 // Edge k, which begins at point k, with its ends the way round that makes a candidate run from left to right.
-fn edge_at(
+fn listed_edge(
     points: &[i32],
     next: &[u32],
     of: &[u32],
@@ -119,20 +45,6 @@ fn edge_at(
             kind: t,
             contour: c,
         }
-    }
-}
-
-// Anchor j.
-pub fn anchor_at(x: &[i32], y: &[i32], to_x: &[i32], to_y: &[i32], j: usize) -> Anchor
-    requires { ⌜ (j < length (now x)) × (j < length (now y)) × (j < length (now «to_x»)) × (j < length (now «to_y»)) ⌝ }
-    ensures { λ r. ⌜ r ≡ anchorAt (anchors (now (x .entry)) (now (y .entry)) (now («to_x» .entry)) (now («to_y» .entry))) j ⌝ }
-{
-    Anchor {
-        at: Point { x: x[j], y: y[j] },
-        to: Point {
-            x: to_x[j],
-            y: to_y[j],
-        },
     }
 }
 
@@ -171,14 +83,18 @@ fn kept(
     requires { ⌜ (k < n) × (b ≤ n) × (e ≡ listedEdge (lists (now points) (now next) (now of) (now kind) right) k) × (On a e) ⌝ }
     ensures { λ r. ⌜ r ≡ kept-of (listedEdge (lists (now (points .entry)) (now (next .entry)) (now (of .entry)) (now (kind .entry)) right)) a k b ⌝ }
 {
-    if !lies_under(a, e) {
+    if !edges::lies_under(a, e) {
         return b;
     }
     if b == 0 {
         return k as u32 + 1;
     }
-    let f = edge_at(points, next, of, kind, right, n, (b - 1) as usize);
-    if is_nearer(a, e, f) { k as u32 + 1 } else { b }
+    let f = listed_edge(points, next, of, kind, right, n, (b - 1) as usize);
+    if edges::is_nearer(a, e, f) {
+        k as u32 + 1
+    } else {
+        b
+    }
 }
 
 // Edge k is offered to every anchor that it spans. They stand together: the anchors are in order by x.
@@ -202,7 +118,7 @@ fn offer(
     requires { ⌜ (m ≤ length (now best)) × (Numbers (now best) m n) ⌝ }
     ensures { λ _. ⌜ Offered (lists (now (points .entry)) (now (next .entry)) (now (of .entry)) (now (kind .entry)) right) (anchors (now (x .entry)) (now (y .entry)) (now («to_x» .entry)) (now («to_y» .entry))) m k (now (best .entry)) (now (best .exit)) ⌝ }
 {
-    let e = edge_at(points, next, of, kind, right, n, k);
+    let e = listed_edge(points, next, of, kind, right, n, k);
     let start = e.left.x;
     let end = e.right.x;
     if end <= start {
@@ -213,7 +129,7 @@ fn offer(
         if end <= x[j] {
             return;
         }
-        let a = anchor_at(x, y, to_x, to_y, j);
+        let a = anchor::listed_anchor(x, y, to_x, to_y, j);
         let b = best[j];
         best[j] = kept(points, next, of, kind, right, n, a, e, k, b);
         j += 1;
@@ -348,7 +264,7 @@ pub fn contours_under(
     requires { ⌜ Sound (table (now points) (now first) (now len) (now kind)) ⌝ }
     requires { ⌜ (length (now first) ≤ length (now mute)) × (m ≤ maxLinks) × (m ≤ length (now under)) ⌝ }
     requires { ⌜ Placed (anchors (now x) (now y) (now «to_x») (now «to_y»)) m ⌝ }
-    ensures { λ _. ⌜ ((j : ℕ) → j < m → getD (now (under .exit)) j 0 ≡ searchUnder (table (now (points .entry)) (now (first .entry)) (now (len .entry)) (now (kind .entry))) above clockwise (giving (now (mute .entry))) (anchorAt (anchors (now (x .entry)) (now (y .entry)) (now («to_x» .entry)) (now («to_y» .entry))) j)) ⌝ }
+    ensures { λ _. ⌜ ((j : ℕ) → j < m → getD (now (under .exit)) j 0 ≡ searchUnder (table (now (points .entry)) (now (first .entry)) (now (len .entry)) (now (kind .entry))) above clockwise (giving (now (mute .entry))) (listedAnchor (anchors (now (x .entry)) (now (y .entry)) (now («to_x» .entry)) (now («to_y» .entry))) j)) ⌝ }
 {
     let n = points.len() / 2;
     let right = (above & !clockwise) | (!above & clockwise);

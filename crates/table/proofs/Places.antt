@@ -1,7 +1,7 @@
 -- Which position comes before another round a contour, as the loops go.
 use Prim.Native.Nat.{ℕ, _+_, _-_}
 use mathlib.Core.Path.{_≡_, ap, ap₂, _∙_}
-use mathlib.Core.Bool.{Bool, true, false, not, _||_, _&&_}
+use mathlib.Core.Bool.{Bool, true, false, not, _||_}
 use mathlib.Core.List.{List}
 use native.Mathlib.Omega.{arith}
 use native.Mathlib.Nat.{add-zero}
@@ -27,9 +27,6 @@ module _ (points : List ℤ) (from to k : ℕ) (last here : Point) (p : last ≡
 -- a chain of tests, whose first is known
 pub true-or : (a b : Bool) → a ≡ true → a || b ≡ true
 true-or a b e = rw e
-
-pub and-rest : (a b : Bool) → a ≡ true → a && b ≡ b
-and-rest a b e = rw e
 
 pub or-rest : (a b : Bool) → a ≡ false → a || b ≡ b
 or-rest a b e = rw e

@@ -20,7 +20,7 @@ use Rattle.table.specs.TableLaws.{start-next, next-inside, next-last, pr
 use Rattle.laws.specs.Fails.{Iff, then, both, ne-fails, or-fails, some-fails}
 use Rattle.table.specs.Tests.{fitting, Ranged, Placed, contour-right}
 use Rattle.turn.specs.Refusals.{refuses}
-use Rattle.table.specs.Sound.{Sound, Paired}
+use Rattle.table.specs.Sound.{Sound}
 
 -- ---- where points stand
 -- the point at position p is contour c's
@@ -203,9 +203,9 @@ pub few-contours : (t : Table) → Sound t → (n : ℕ) → n ≤ contourCount 
 few-contours t s zero h = omega arith
 few-contours t s (suc n) h = omega (arith, few-contours t s n (omega arith), s .long n h, sound-follows t s n h)
 
+pub contours-few : (t : Table) → Sound t → contourCount t ≤ maxLinks
+contours-few t s = omega (arith, few-contours t s (contourCount t) (omega arith), s .ends, s .few)
+
 -- a contour's points are within the list
 pub ranges-within : (t : Table) → Sound t → (c : ℕ) → c < contourCount t → endOf t c * 2 ≤ length (t .points)
 ranges-within t s c l = omega (arith, s .within c l, s .whole)
-
-pub paired : (t : Table) → Sound t → Paired (t .points) (t .first)
-paired t s c l = omega (arith, ranges-within t s c l, s .long c l)

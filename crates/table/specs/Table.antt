@@ -1,5 +1,5 @@
 -- The contour table as it is lent, and what its lists say of a point, of a contour and of the way round it.
-use Prim.Native.Nat.{ℕ, zero, suc, _+_, _*_, _-_, _/_}
+use Prim.Native.Nat.{ℕ, _+_, _*_, _-_, _/_}
 use mathlib.Core.Bool.{Bool}
 use mathlib.Core.List.{List, [], _∷_}
 use lib.Dec.{eqb, ltb}
@@ -85,11 +85,6 @@ hullCount t = hulls (t .kind)
 -- "its own shape number (hulls counted from 0)": how many hulls stand before contour c
 abbrev pub shapeOf : Table → ℕ → ℕ
 shapeOf t c = hulls (take c (t .kind))
-
--- the last hole before contour c, as its number and 1; 0 where there is none
-unfoldable pub holeBefore : Table → ℕ → ℕ
-holeBefore t zero = 0
-holeBefore t (suc c) = let earlier = holeBefore t c in pick (isHole t c) (suc c) earlier
 
 -- "a dropped hole's [owner is] 65,535"
 abbrev pub droppedOwner : ℕ

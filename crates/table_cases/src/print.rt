@@ -1,7 +1,7 @@
 // One line for each case.
 use turn::Checked;
-use table::records::Lookup;
-use table::records::Role;
+use lookup::records::Lookup;
+use lookup::records::Role;
 
 fn word(text: &[u8]) {
     io::write_all(1, text);
@@ -37,7 +37,7 @@ pub fn both(name: &[u8], points: &[i32], first: &[u32], len: &[u32], kind: &[u8]
     word(name);
     match table::check_table(points, first, len, kind, first.len()) {
         Checked::Fine => {
-            answer(table::check_anchors(points, first, len, kind, clockwise));
+            answer(anchor::check_anchors(points, first, len, kind, clockwise));
         }
         Checked::Refused { number, place } => {
             answer(Checked::Refused {
@@ -75,7 +75,7 @@ pub fn found(
     contour: usize,
 ) {
     word(name);
-    match table::lookup(points, first, len, kind, owner, contour) {
+    match lookup::lookup(points, first, len, kind, owner, contour) {
         Lookup::Found(r) => {
             number(r.first as usize);
             word(b" ");

@@ -6,7 +6,7 @@ use lib.ListN.{length}
 use lib.ListN.{take, replicate, length-replicate}
 use lib.Seq.{length-take-le}
 use Rattle.table.specs.Table.{Table, table}
-use Rattle.nearest.proofs.Same.{contours-few}
+use Rattle.table.specs.Passing.{contours-few}
 use borrow.Author.Needs.{needs}
 use Rattle.bind.proofs.bind_holes.Statement.{statement}
 use Rattle.bind.proofs.bind_holes.Tie as tie

@@ -5,9 +5,9 @@ use Prim.Native.Nat.{ℕ}
 use mathlib.Core.List.{List}
 use Rattle.turn.specs.Limits.{maxLinks}
 use Rattle.table.specs.Table.{Table, table}
-use Rattle.nearest.specs.Lists.{Anchors, anchors}
-use Rattle.nearest.proofs.Same.{contours-few}
-use Rattle.bind.specs.Steps.{Room}
+use Rattle.anchor.specs.Anchors.{Anchors, anchors}
+use Rattle.table.specs.Passing.{contours-few}
+use Rattle.order.specs.HoleLists.{Room}
 use Rattle.bind.proofs.Whole.{few-holes, bounded, placed, listed, gave}
 use borrow.Author.Needs.{needs}
 use Rattle.bind.proofs.search_owners.Statement.{statement}

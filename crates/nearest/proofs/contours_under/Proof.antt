@@ -5,7 +5,7 @@ use lib.ListN.{getD-replicate}
 use mathlib.Core.Bool.{Bool}
 use Rattle.table.specs.Table.{Table, table}
 use Rattle.nearest.specs.Search.{rightward}
-use Rattle.nearest.specs.Lists.{Anchors, anchors}
+use Rattle.anchor.specs.Anchors.{Anchors, anchors}
 use Rattle.nearest.proofs.Same.{ranges-of, fit, flags, of-few, best-numbers, searched}
 use borrow.Author.Needs.{needs}
 use Rattle.nearest.proofs.contours_under.Statement.{statement}

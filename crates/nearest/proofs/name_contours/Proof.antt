@@ -6,7 +6,7 @@ use lib.ListN.{length, getD}
 use lib.ListN.{length-set}
 use borrow.Author.Count.{below-none}
 use Rattle.nearest.specs.Lists.{named}
-use Rattle.nearest.proofs.Put.{put-below}
+use Rattle.laws.specs.Lists.{put-below}
 use Rattle.nearest.proofs.name_contours.Statement.{statement}
 use Rattle.nearest.proofs.name_contours.Tie as tie
 
