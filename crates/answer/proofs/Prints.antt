@@ -17,9 +17,10 @@ use Rattle.table.specs.Sound.{Sound}
 use Rattle.table.specs.Passing.{passes-sound, ranges-within}
 use Rattle.bind.specs.declared.Binding.{Binding}
 use Rattle.bind.specs.declared.Binding.the-variants.{Bound, Refused}
-use Rattle.bind.specs.declared.Given.{Given}
-use Rattle.bind.specs.declared.Given.the-variants.{All, Stuck}
-use Rattle.bind.specs.Owners.{Owned, Outcome, outcome, written, droppedOf, handedBy, handed, ownersOf, boundAfter, bound}
+use Rattle.owners.specs.declared.Given.{Given}
+use Rattle.owners.specs.declared.Given.the-variants.{All, Stuck}
+use Rattle.owners.specs.Owners.{Owned, ownersOf}
+use Rattle.bind.specs.Outcome.{Outcome, outcome, written, droppedOf, handedBy, handed, boundAfter, bound}
 use Rattle.print.specs.Room.{maxContours, Ranges, Printable}
 use Rattle.print.specs.Write.{Wrote}
 use Rattle.print.specs.Answer as print

@@ -1,5 +1,4 @@
 -- What the proofs cite beside the laws of specs/.
 mod Copies
-mod Gives
 mod Places
 mod Whole

@@ -9,10 +9,12 @@ use Rattle.anchor.specs.AnchorChecks.{holeBefore, anchorsChecked}
 use Rattle.table.specs.TableChecks.{tableChecked}
 use Rattle.table.specs.Examples.{e9, e10, e10One, noHull}
 use Rattle.edges.specs.Edges.{liesUnder, winsTie, nearer}
-use Rattle.nearest.specs.Search.{edge, kept, offered, keep, nearest, contourUnder}
+use Rattle.candidates.specs.Candidates.{edge}
+use Rattle.nearest.specs.Search.{kept, offered, keep, nearest, contourUnder}
 use Rattle.bind.specs.declared.Binding.the-variants.{Bound, Refused}
 use Rattle.order.specs.HoleOrder.{place, inserted, sorted, holesBelow}
-use Rattle.bind.specs.Owners.{listOf, giveEach, ownersOf, outcome, bound}
+use Rattle.owners.specs.Owners.{listOf, giveEach, ownersOf}
+use Rattle.bind.specs.Outcome.{outcome, bound}
 
 -- "both holes get shape 1, the second through the first"; the buffer's tail is kept
 pub e9-bound : bound e9 false (7 ∷ 7 ∷ 7 ∷ 7 ∷ 7 ∷ []) ≡ outcome (Bound 2 0) (0 ∷ 1 ∷ 1 ∷ 1 ∷ 7 ∷ [])

@@ -22,12 +22,13 @@ use Rattle.lookup.specs.Lookups.{ownerRight, recordOf, lookedUp}
 use Rattle.lookup.specs.LookupLaws.{found-record}
 use Rattle.lookup.specs.declared.records.Lookup.the-variants.{Found}
 use Rattle.bind.specs.declared.Binding.the-variants as binding
-use Rattle.bind.specs.declared.Given.{Given}
-use Rattle.bind.specs.declared.Given.the-variants.{All, Stuck}
-use Rattle.bind.specs.Owners.{Owned, owned, given, giveEach, firstOwner, listOf, searchedOwners, ownersOf, contourBelow, Outcome, outcome, written, handed, handedBy, boundAfter, bound}
+use Rattle.owners.specs.declared.Given.{Given}
+use Rattle.owners.specs.declared.Given.the-variants.{All, Stuck}
+use Rattle.owners.specs.Owners.{Owned, owned, given, giveEach, firstOwner, listOf, searchedOwners, ownersOf, contourBelow}
+use Rattle.bind.specs.Outcome.{Outcome, outcome, written, handed, handedBy, boundAfter, bound}
 use Rattle.order.specs.HoleOrder.{bindingOrder}
 use Rattle.order.specs.OrderLaws.{each-once}
-use Rattle.bind.specs.OwnerLaws.{list-length, list-at, hulls-most, owners-below}
+use Rattle.owners.specs.OwnerLaws.{list-length, list-at, hulls-most, owners-below}
 use Rattle.laws.specs.Count.{count}
 
 -- ---- giving leaves the owners of contours that are not gone through

@@ -5,7 +5,7 @@ use mathlib.Core.List.{List}
 use Rattle.walk.specs.declared.Extraction.{Extraction}
 use Rattle.walk.specs.Extract.{Buffers, Extracted, extractedAs}
 use Rattle.bind.specs.declared.Binding.{Binding}
-use Rattle.bind.specs.Owners.{Outcome, outcome}
+use Rattle.bind.specs.Outcome.{Outcome, outcome}
 use Rattle.guovdamas.specs.declared.GuovdamasBinding.{GuovdamasBinding}
 use Rattle.guovdamas.specs.declared.GuovdamasExtraction.{GuovdamasExtraction}
 use Rattle.guovdamas.specs.Numbers.{extractionOf, extracting, numberedExtracted, bindingOf, binding, numberedBound}

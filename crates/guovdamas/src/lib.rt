@@ -9,7 +9,7 @@ ghost use Rattle.graph.specs.Graph.{lent};
 ghost use Rattle.walk.specs.Extract.{buffers, extracted};
 ghost use Rattle.table.specs.Table.{table};
 ghost use Rattle.lookup.specs.Lookups.{roleOwner, lookedUp};
-ghost use Rattle.bind.specs.Owners.{bound};
+ghost use Rattle.bind.specs.Outcome.{bound};
 ghost use Rattle.guovdamas.specs.Numbers.{extractionOf, bindingOf, foundRecord, recordOf, roleNumber, extracting, numberedExtracted, binding, numberedBound};
 
 // What extraction answers: document 01's number and place, 0 and 0 when done; the counts and the signed doubled totals, all 0 after a refusal.

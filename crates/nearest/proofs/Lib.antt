@@ -1,5 +1,4 @@
 -- What the proofs cite beside the laws of specs/.
 mod Parts
 mod Offers
-mod Links
 mod Same

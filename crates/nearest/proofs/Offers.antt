@@ -14,32 +14,19 @@ use lib.Signed.{mag, leZ, _<ℤ_, _≤ℤ_}
 use mir.Syntax.{w32}
 use mir.Val.{toZ, ofZ}
 use Rattle.laws.specs.Order.{≤-trans}
-use Rattle.turn.specs.declared.Point.{Point}
 use Rattle.turn.specs.Points.{Coord, OnGrid}
 use Rattle.anchor.specs.declared.Anchor.{Anchor}
-use Rattle.table.specs.Table.{pointAt}
 use Rattle.edges.specs.declared.Edge.{Edge}
 use Rattle.edges.specs.Edges.{liesUnder, nearer}
 use Rattle.nearest.specs.Search.{kept, offered, keep, nearest}
-use Rattle.nearest.specs.Lists.{Lists, listedEdge, giving, Placed, Parted, Numbers, Offered, Nearests}
+use Rattle.candidates.specs.EdgeLists.{Lists, listedEdge}
+use Rattle.nearest.specs.Lists.{giving, Placed, Parted, Numbers, Offered, Nearests}
 use Rattle.anchor.specs.Anchors.{Anchors, listedAnchor}
 use Rattle.laws.specs.Compare.{yes-lt, no-lt, yes-le, no-le, le-yes, le-no}
 use Rattle.nearest.proofs.Parts.{coord32, num}
 use Rattle.laws.specs.Lists.{put-below, put-above}
 use Rattle.nearest.specs.Least.{nearest-le}
-
--- ---- the ways out of `edge_at`
-module _ (g : Lists) (k : ℕ) (p q : Point) (ep : p ≡ pointAt (g .points) k) (eq : q ≡ pointAt (g .points) (getD (g .next) k 0)) where
-  abbrev contour : ℕ
-  contour = getD (g .of) k 0
-
-  pub edge-right : g .right ≡ true → record { left = p; right = q; kind = getD (g .kind) contour 0; contour = contour } ≡ listedEdge g k
-  unfolding listedEdge
-  edge-right r = rw (r, ep, eq)
-
-  pub edge-left : g .right ≡ false → record { left = q; right = p; kind = getD (g .kind) contour 0; contour = contour } ≡ listedEdge g k
-  unfolding listedEdge
-  edge-left r = rw (r, ep, eq)
+use Rattle.candidates.specs.EdgeListLaws.{contour-is}
 
 -- ---- the ways out of `kept`
 module _ (edge : ℕ → Edge) (a : Anchor) (k b : ℕ) (e : Edge) (d : e ≡ edge k) where
@@ -171,10 +158,6 @@ pub record Rounds (g : Lists) (mute : List ℕ) (n : ℕ) (h : Anchors) (m : ℕ
   pub len : length new ≡ length old
   pub on : k ≤ n
   pub best : Nearests g mute k h m new
-
-pub contour-is : (g : Lists) (k : ℕ) → listedEdge g k .contour ≡ getD (g .of) k 0
-unfolding listedEdge
-contour-is g k = refl
 
 module _ (g : Lists) (mute : List ℕ) (n : ℕ) (h : Anchors) (m : ℕ) (old : List ℕ) where
   pub rounds-start : ((j : ℕ) → j < m → getD old j 0 ≡ 0) → Rounds g mute n h m old old 0

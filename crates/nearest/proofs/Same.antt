@@ -7,17 +7,18 @@ use native.Mathlib.Omega.{arith}
 use lib.ListN.{length, getD}
 use lib.Dec.{eqb}
 use Rattle.laws.specs.Test.{pick}
-use Rattle.turn.specs.Limits.{maxLinks}
 use Rattle.anchor.specs.declared.Anchor.{Anchor}
-use Rattle.table.specs.Table.{Table, pointCount, contourCount, firstOf, endOf, contourOf, next}
-use Rattle.table.specs.Passing.{located, sound-follows, contours-few, next-within}
+use Rattle.table.specs.Table.{Table, pointCount, contourCount}
+use Rattle.table.specs.Passing.{located}
 use Rattle.table.specs.Sound.{Sound}
 use Rattle.edges.specs.declared.Edge.{Edge}
-use Rattle.nearest.specs.Search.{kept, offered, keep, nearest, contourUnder, edge}
-use Rattle.nearest.specs.Lists.{Lists, lists, listedEdge, giving, named, Fit, Flags, Numbers, Ranges, ranges, Round, Nearests}
+use Rattle.nearest.specs.Search.{kept, offered, keep, nearest, contourUnder}
+use Rattle.candidates.specs.Candidates.{edge}
+use Rattle.candidates.specs.EdgeLists.{Lists, lists, listedEdge, ranges, Round}
+use Rattle.nearest.specs.Lists.{giving, named, Flags, Numbers, Nearests}
 use Rattle.anchor.specs.Anchors.{Anchors, listedAnchor}
 use Rattle.nearest.specs.Least.{nearest-le}
-use Rattle.nearest.proofs.Offers.{contour-is}
+use Rattle.candidates.specs.EdgeListLaws.{contour-is, of-is, edges-same}
 
 -- ---- edges that are the same below n give the same answer
 module _ (e f : ℕ → Edge) (gives : ℕ → Bool) (a : Anchor) (n : ℕ) (same : (k : ℕ) → k < n → e k ≡ f k) where
@@ -43,52 +44,14 @@ module _ (e f : ℕ → Edge) (gives : ℕ → Bool) (a : Anchor) (n : ℕ) (sam
       named-same (nearest e gives a n) (nearest-le e gives a n)
       ∙ ap (λ (b : ℕ). pick (eqb b 0) 0 (f (b - 1) .contour + 1)) (up-to n (omega arith))
 
--- ---- the ranges of a sound table
-module _ (t : Table) (s : Sound t) where
-  pub ranges-of : Ranges (t .first) (t .len)
-  ranges-of = record {
-    same = s .len-long;
-    few = contours-few t s;
-    follow = sound-follows t s;
-    within = λ c h. omega (arith, s .within c h, s .few);
-  }
-
 -- ---- the lists that the code has made
 module _ (t : Table) (s : Sound t) (next′ of : List ℕ) (r : Round (ranges (t .first) (t .len)) (contourCount t) next′ of) where
-  of-is : (k : ℕ) → k < pointCount t → getD of k 0 ≡ contourOf t k
-  of-is k l = let h = located t s k l in r .of-is (contourOf t k) k (h .below) (h .from) (h .to)
-
-  next-is : (k : ℕ) → k < pointCount t → getD next′ k 0 ≡ next t (contourOf t k) k
-  next-is k l = let h = located t s k l in r .next-is (contourOf t k) k (h .below) (h .from) (h .to)
-
   pub flags : (mute : List ℕ) → contourCount t ≤ length mute → Flags of mute (pointCount t)
-  flags mute h k l = rw (of-is k l) (omega (arith, located t s k l .below))
-
-  pub of-few : (k : ℕ) → k < pointCount t → getD of k 0 < maxLinks
-  of-few k l = rw (of-is k l) (omega (arith, located t s k l .below, contours-few t s))
-
-  next-below : (k : ℕ) → k < pointCount t → next t (contourOf t k) k < pointCount t
-  next-below k l =
-      let h = located t s k l in
-      omega (arith, next-within (firstOf t (contourOf t k)) (endOf t (contourOf t k)) k (h .from) (h .to) .1, s .within (contourOf t k) (h .below))
+  flags mute h k l = rw (of-is t s next′ of r k l) (omega (arith, located t s k l .below))
 
   module _ (right : Bool) where
     abbrev g : Lists
     g = lists (t .points) next′ of (t .kind) right
-
-    edges-same : (k : ℕ) → k < pointCount t → listedEdge g k ≡ edge t right k
-    unfolding listedEdge edge
-    edges-same k l = rw (of-is k l, next-is k l)
-
-    pub fit : maxLinks ≤ length next′ → maxLinks ≤ length of → Fit g (pointCount t)
-    fit n o = record {
-      room = omega (arith, s .whole);
-      grid = s .grid;
-      next-room = omega (arith, s .few);
-      of-room = omega (arith, s .few);
-      next = λ k l. rw (next-is k l) (next-below k l);
-      kind = λ k l. rw (of-is k l) (omega (arith, located t s k l .below, s .kind-long));
-    }
 
     module _ (mute : List ℕ) (h : Anchors) (m : ℕ) (best : List ℕ) (n : Nearests g mute (pointCount t) h m best) where
       pub best-numbers : Numbers best m (pointCount t)
@@ -103,4 +66,4 @@ module _ (t : Table) (s : Sound t) (next′ of : List ℕ) (r : Round (ranges (t
           → (j : ℕ) → j < m → getD under j 0 ≡ contourUnder (edge t right) (giving mute) (listedAnchor h j) (pointCount t)
       searched under u j l =
           u j l ∙ listed (listedAnchor h j) (getD best j 0) (n j l)
-          ∙ answer-same (listedEdge g) (edge t right) (giving mute) (listedAnchor h j) (pointCount t) edges-same
+          ∙ answer-same (listedEdge g) (edge t right) (giving mute) (listedAnchor h j) (pointCount t) (edges-same t s next′ of r right)

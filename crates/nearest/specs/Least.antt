@@ -13,7 +13,8 @@ use Rattle.laws.specs.Test.{pick, is-true, true-is, true≢false, not-true, and
 use Rattle.anchor.specs.declared.Anchor.{Anchor}
 use Rattle.edges.specs.declared.Edge.{Edge}
 use Rattle.edges.specs.Edges.{run, spans, liesUnder, nearer}
-use Rattle.nearest.specs.Search.{kept, offered, keep, nearest, contourUnder, edge}
+use Rattle.nearest.specs.Search.{kept, offered, keep, nearest, contourUnder}
+use Rattle.candidates.specs.Candidates.{edge}
 use Rattle.edges.specs.Nearer.{nearer-trans, nearer-same, nearer-neither, spans-runs}
 use Rattle.table.specs.Table.{Table, pointCount, contourCount, contourOf, next}
 use Rattle.table.specs.Passing.{located}

@@ -5,48 +5,13 @@ ghost use mathlib.Core.Path.{_≡_};
 ghost use Prim.Native.Nat.{ℕ, _<_, _≤_};
 ghost use lib.ListN.{length, getD};
 ghost use Rattle.turn.specs.Limits.{maxLinks};
-ghost use Rattle.turn.specs.Points.{OnGrid};
-ghost use Rattle.table.specs.Table.{table, nextIn};
+ghost use Rattle.table.specs.Table.{table};
 ghost use Rattle.table.specs.Sound.{Sound};
 ghost use Rattle.anchor.specs.Anchors.{anchors, listedAnchor};
 ghost use Rattle.edges.specs.Edges.{On};
+ghost use Rattle.candidates.specs.EdgeLists.{lists, listedEdge, Fit};
 ghost use Rattle.nearest.specs.Search.{kept as kept-of, searchUnder};
-ghost use Rattle.nearest.specs.Lists.{lists, listedEdge, giving, Fit, Flags, Placed, Sorted, Parted, Numbers, Offered, Nearests, named, Linked, Ranges, ranges, Round};
-
-// Edge k, which begins at point k, with its ends the way round that makes a candidate run from left to right.
-fn listed_edge(
-    points: &[i32],
-    next: &[u32],
-    of: &[u32],
-    kind: &[u8],
-    right: bool,
-    n: usize,
-    k: usize,
-) -> Edge
-    requires { ⌜ (Fit (lists (now points) (now next) (now of) (now kind) right) n) × (k < n) ⌝ }
-    ensures { λ r. ⌜ (r ≡ listedEdge (lists (now (points .entry)) (now (next .entry)) (now (of .entry)) (now (kind .entry)) right) k) × (OnGrid (r .left)) × (OnGrid (r .right)) ⌝ }
-{
-    let c = of[k];
-    let t = kind[c as usize];
-    let j = next[k] as usize;
-    let p = table::point_at(points, k);
-    let q = table::point_at(points, j);
-    if right {
-        Edge {
-            left: p,
-            right: q,
-            kind: t,
-            contour: c,
-        }
-    } else {
-        Edge {
-            left: q,
-            right: p,
-            kind: t,
-            contour: c,
-        }
-    }
-}
+ghost use Rattle.nearest.specs.Lists.{giving, Flags, Placed, Sorted, Parted, Numbers, Offered, Nearests, named};
 
 // The first of m numbers in order that is not below x.
 fn first_from(l: &[i32], m: usize, x: i32) -> usize
@@ -89,7 +54,7 @@ fn kept(
     if b == 0 {
         return k as u32 + 1;
     }
-    let f = listed_edge(points, next, of, kind, right, n, (b - 1) as usize);
+    let f = candidates::listed_edge(points, next, of, kind, right, n, (b - 1) as usize);
     if edges::is_nearer(a, e, f) {
         k as u32 + 1
     } else {
@@ -118,7 +83,7 @@ fn offer(
     requires { ⌜ (m ≤ length (now best)) × (Numbers (now best) m n) ⌝ }
     ensures { λ _. ⌜ Offered (lists (now (points .entry)) (now (next .entry)) (now (of .entry)) (now (kind .entry)) right) (anchors (now (x .entry)) (now (y .entry)) (now («to_x» .entry)) (now («to_y» .entry))) m k (now (best .entry)) (now (best .exit)) ⌝ }
 {
-    let e = listed_edge(points, next, of, kind, right, n, k);
+    let e = candidates::listed_edge(points, next, of, kind, right, n, k);
     let start = e.left.x;
     let end = e.right.x;
     if end <= start {
@@ -206,45 +171,6 @@ fn name_contours(of: &[u32], n: usize, best: &[u32], m: usize, under: &mut [u32]
     }
 }
 
-// The point after point k, round a contour that stands from a position up to another.
-fn follows(k: usize, from: usize, to: usize) -> u32
-    requires { ⌜ (from ≤ k) × (k < to) × (to ≤ maxLinks) ⌝ }
-    ensures { λ r. ⌜ r ≡ nextIn from to k ⌝ }
-{
-    if k + 1 == to {
-        from as u32
-    } else {
-        k as u32 + 1
-    }
-}
-
-// The points from..to are contour c's.
-fn link_contour(next: &mut [u32], of: &mut [u32], c: u32, from: usize, to: usize)
-    requires { ⌜ (from ≤ to) × (to ≤ maxLinks) × (to ≤ length (now next)) × (to ≤ length (now of)) ⌝ }
-    ensures { λ _. ⌜ Linked c from to (now (next .entry)) (now (of .entry)) (now (next .exit)) (now (of .exit)) ⌝ }
-{
-    let mut k = from;
-    while k < to {
-        of[k] = c;
-        next[k] = follows(k, from, to);
-        k += 1;
-    }
-}
-
-// For every point the one after it round its contour, and its contour.
-fn link(first: &[u32], len: &[u32], next: &mut [u32], of: &mut [u32])
-    requires { ⌜ (Ranges (now first) (now len)) × (maxLinks ≤ length (now next)) × (maxLinks ≤ length (now of)) ⌝ }
-    ensures { λ _. ⌜ Round (ranges (now (first .entry)) (now (len .entry))) (length (now (first .entry))) (now (next .exit)) (now (of .exit)) ⌝ }
-{
-    let mut c = 0;
-    while c < first.len() {
-        let from = first[c] as usize;
-        let to = from + len[c] as usize;
-        link_contour(next, of, c as u32, from, to);
-        c += 1;
-    }
-}
-
 // The search: for each of m anchors the contour, and 1, of the nearest edge under it, 0 where there is none. Candidate edges have fill above, or below; the contours that give edges are giving.
 pub fn contours_under(
     points: &[i32],
@@ -271,7 +197,7 @@ pub fn contours_under(
     let mut next = [0u32; turn::MAX_LINKS];
     let mut of = [0u32; turn::MAX_LINKS];
     let mut best = [0u32; turn::MAX_LINKS];
-    link(first, len, &mut next, &mut of);
+    candidates::list_edges(first, len, &mut next, &mut of);
     nearest_edges(
         points,
         &next,

@@ -15,13 +15,13 @@ use Rattle.laws.specs.Test.{pick, true≢false}
 use Rattle.table.specs.Table.{Table, contourCount, kindOf, hulls, hullCount, droppedOwner}
 use Rattle.table.specs.TableLaws.{hulls-more}
 use Rattle.table.specs.Sound.{Sound}
-use Rattle.bind.specs.declared.Given.{Given}
-use Rattle.bind.specs.declared.Given.the-variants.{All, Stuck}
+use Rattle.owners.specs.declared.Given.{Given}
+use Rattle.owners.specs.declared.Given.the-variants.{All, Stuck}
 use Rattle.order.specs.HoleOrder.{bindingOrder}
 use Rattle.laws.specs.Count.{count, counted-in}
 use Rattle.laws.specs.Lists.{Place, place-of}
 use Rattle.order.specs.OrderLaws.{each-once}
-use Rattle.bind.specs.Owners.{Owned, owned, given, firstOwner, listOf, giveEach, contourBelow, searchedOwners, ownersOf}
+use Rattle.owners.specs.Owners.{Owned, owned, given, firstOwner, listOf, giveEach, contourBelow, searchedOwners, ownersOf}
 
 -- ---- a list of a rule's values
 pub list-length : (f : ℕ → ℕ) (n : ℕ) → length (listOf f n) ≡ n

@@ -1,12 +1,12 @@
--- `link`: contour by contour, as `Round` says.
+-- `list_edges`: contour by contour, as `Round` says.
 use native.Mathlib.Omega.{arith}
 use mathlib.Core.Path.{_≡_, refl, _∙_}
 use Prim.Native.Nat.{_-_, _≤_}
 use lib.ListN.{length}
-use Rattle.nearest.specs.Lists.{Round, ranges}
-use Rattle.nearest.proofs.Links.{round-start, round-more}
-use Rattle.nearest.proofs.link.Statement.{statement}
-use Rattle.nearest.proofs.link.Tie as tie
+use Rattle.candidates.specs.EdgeLists.{Round, ranges}
+use Rattle.candidates.proofs.Listing.{round-start, round-more}
+use Rattle.candidates.proofs.list_edges.Statement.{statement}
+use Rattle.candidates.proofs.list_edges.Tie as tie
 
 abbrev Inv-loop : tie.InvT-loop
 Inv-loop first len next₀ of₀ c₀ next of c = (c ≤ length first) × (length next ≡ length next₀) × (length of ≡ length of₀) × (Round (ranges first len) c next of)
@@ -38,11 +38,11 @@ cast-to c = omega (arith, c .shared-slice-known4 .given (c .before .before .befo
 add-to : tie.Need-add-to Inv-loop μ-loop
 add-to c = let s = c .before .before .before .before .before .before .before .before in omega (arith, s .pre .0 .within (c .before .before .before .loop .c) (c .before .before .loop-test .taken))
 
-cast-link-contour : tie.Need-cast-link-contour Inv-loop μ-loop
-cast-link-contour c = let s = c .before .before .before .before .before .before .before .before .before .before in omega (arith, s .pre .0 .few)
+cast-list-contour : tie.Need-cast-list-contour Inv-loop μ-loop
+cast-list-contour c = let s = c .before .before .before .before .before .before .before .before .before .before in omega (arith, s .pre .0 .few)
 
-link-contour-requires : tie.Need-link-contour-requires Inv-loop μ-loop
-link-contour-requires c κs = let s = c .before .before .before .before .before .before .before .before .before .before in let l = c .before .before .before .before .before .loop in let w = s .pre .0 .within (l .c) (c .before .before .before .before .loop-test .taken) in (omega arith, w, omega (arith, s .pre .1, l .inv .1), omega (arith, s .pre .2, l .inv .2))
+list-contour-requires : tie.Need-list-contour-requires Inv-loop μ-loop
+list-contour-requires c κs = let s = c .before .before .before .before .before .before .before .before .before .before in let l = c .before .before .before .before .before .loop in let w = s .pre .0 .within (l .c) (c .before .before .before .before .loop-test .taken) in (omega arith, w, omega (arith, s .pre .1, l .inv .1), omega (arith, s .pre .2, l .inv .2))
 
 add-c : tie.Need-add-c Inv-loop μ-loop
 add-c c = let s = c .before .before .before .before .before .before .before .before .before .before .before .before .before .before .before in omega (arith, s .pre .0 .few)
@@ -51,7 +51,7 @@ loop-less : tie.Need-loop-less Inv-loop μ-loop
 loop-less c = omega arith
 
 loop-again : tie.Need-loop-again Inv-loop μ-loop
-loop-again c = let s = c .before .before .before .before .before .before .before .before .before .before .before .before .before .before .before in let l = c .before .before .before .before .before .before .before .before .before .before .loop in let k = c .before .before .before .before .link-contour in (omega arith, k .kept .0 ∙ l .inv .1, k .kept .1 .0 ∙ l .inv .2, round-more _ _ (s .pre .0) (l .c) (l .next) (l .of) _ _ (c .before .before .before .before .before .before .before .before .before .loop-test .taken) (l .inv .3) (k .ensures))
+loop-again c = let s = c .before .before .before .before .before .before .before .before .before .before .before .before .before .before .before in let l = c .before .before .before .before .before .before .before .before .before .before .loop in let k = c .before .before .before .before .list-contour in (omega arith, k .kept .0 ∙ l .inv .1, k .kept .1 .0 ∙ l .inv .2, round-more _ _ (s .pre .0) (l .c) (l .next) (l .of) _ _ (c .before .before .before .before .before .before .before .before .before .loop-test .taken) (l .inv .3) (k .ensures))
 
 same-length : tie.Need-same-length Inv-loop μ-loop
 same-length c = c .before .loop .inv .1
@@ -62,8 +62,8 @@ same-length-2 c = c .before .loop .inv .2
 returns : tie.Need-returns Inv-loop μ-loop
 returns c = let l = c .before .loop in let e : l .c ≡ length (c .before .before .before .before .before .before .args .first .now) = omega arith in rw e at (l .inv .3)
 
-pub link-spec : {M : Type 1} → statement M
-link-spec =
+pub list-edges-spec : {M : Type 1} → statement M
+list-edges-spec =
     tie.close
     (tie.spec
     Inv-loop
@@ -76,8 +76,8 @@ link-spec =
     shared-slice-read-to
     cast-to
     add-to
-    cast-link-contour
-    link-contour-requires
+    cast-list-contour
+    list-contour-requires
     add-c
     loop-less
     loop-again

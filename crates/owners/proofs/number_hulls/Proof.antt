@@ -2,9 +2,9 @@
 use native.Mathlib.Omega.{arith}
 use Prim.Native.Nat.{_-_}
 use lib.ListN.{length}
-use Rattle.bind.proofs.Copies.{Numbering, numbering-start, numbering-hull, numbering-hole, numbering-end}
-use Rattle.bind.proofs.number_hulls.Statement.{statement}
-use Rattle.bind.proofs.number_hulls.Tie as tie
+use Rattle.owners.proofs.Numbering.{Numbering, numbering-start, numbering-hull, numbering-hole, numbering-end}
+use Rattle.owners.proofs.number_hulls.Statement.{statement}
+use Rattle.owners.proofs.number_hulls.Tie as tie
 
 abbrev Inv-loop : tie.InvT-loop
 Inv-loop kind own₀ shape₀ c₀ own shape c = Numbering kind own₀ own shape c

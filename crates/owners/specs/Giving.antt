@@ -1,13 +1,12 @@
--- What the parts of the code find, in parallel lists over the holes.
+-- Owners given hole by hole, over the lists that the code has.
 use Prim.Native.Nat.{ℕ, _≤_, _<_}
 use mathlib.Core.List.{List, [], _∷_}
 use lib.ListN.{length, getD, set}
 use lib.Dec.{eqb}
 use Rattle.laws.specs.Test.{pick}
 use Rattle.table.specs.Table.{droppedOwner}
-use Rattle.bind.specs.declared.Given.{Given}
-use Rattle.bind.specs.declared.Given.the-variants.{All, Stuck}
-use Rattle.bind.specs.Owners.{Owned, owned, given, written}
+use Rattle.owners.specs.declared.Given.the-variants.{All, Stuck}
+use Rattle.owners.specs.Owners.{Owned, owned, given}
 
 -- hole by hole: as `giveEach`, with the holes' contours and what lies under them in lists
 unfoldable pub giveListed : List ℕ → List ℕ → List ℕ → List ℕ → Owned
@@ -25,11 +24,3 @@ pub record Listed (ord who under : List ℕ) (m n : ℕ) : Type 0 where
   pub who-below : (j : ℕ) → j < m → getD who j 0 < n
   pub under-room : m ≤ length under
   pub under-below : (j : ℕ) → j < m → getD under j 0 ≤ n
-
--- on success the owners stand in front of the old tail; after a refusal nothing has changed
-abbrev pub deliveredBy : Given → List ℕ → List ℕ → Owned
-deliveredBy All owners old = owned All (written owners old)
-deliveredBy (Stuck c) owners old = owned (Stuck c) old
-
-abbrev pub delivered : Owned → List ℕ → Owned
-delivered w old = deliveredBy (w .answer) (w .owners) old

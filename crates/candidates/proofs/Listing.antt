@@ -1,24 +1,39 @@
--- The loops that link every point to its contour and to the next point round it.
+-- The loops that list every point's contour and the next point round it, and the edge that they give.
 use Prim.Native.Nat.{ℕ, _+_, _≤_, _<_}
-use mathlib.Core.Path.{_≡_, refl, sym, _∙_}
+use mathlib.Core.Path.{_≡_, refl, _∙_, sym}
+use mathlib.Core.Bool.{true, false}
 use mathlib.Core.List.{List}
 use native.Mathlib.Omega.{arith}
+use lib.ListN.{length, getD, set, length-set}
+use Rattle.turn.specs.declared.Point.{Point}
+use Rattle.table.specs.Table.{pointAt, Table, firstOf, endOf, contourOf, nextIn, next}
+use Rattle.candidates.specs.EdgeLists.{Lists, listedEdge, Ranges, ranges, ContourListed, Round}
+use Rattle.laws.specs.Lists.{put-below}
 use native.Mathlib.Nat.{not-suc-le-zero}
 use native.Mathlib.Decide.{ℕ-discrete}
-use lib.ListN.{length, getD, set, length-set}
 use lib.Dec.{ltb}
 use borrow.Author.Tests.{lt-ltb, le-ltb}
 use Rattle.laws.specs.Test.{pick}
-use Rattle.table.specs.Table.{Table, firstOf, endOf, contourOf, nextIn, next}
 use Rattle.table.specs.Passing.{apart, contour-is}
-use Rattle.nearest.specs.Lists.{Ranges, ranges, Linked, Round}
-use Rattle.laws.specs.Lists.{put-below}
 
--- ---- the loop of `link_contour`: the old list below `from`, a rule from there on
+-- ---- the ways out of `listed_edge`
+module _ (g : Lists) (k : ℕ) (p q : Point) (ep : p ≡ pointAt (g .points) k) (eq : q ≡ pointAt (g .points) (getD (g .next) k 0)) where
+  abbrev contour : ℕ
+  contour = getD (g .of) k 0
+
+  pub edge-right : g .right ≡ true → record { left = p; right = q; kind = getD (g .kind) contour 0; contour = contour } ≡ listedEdge g k
+  unfolding listedEdge
+  edge-right r = rw (r, ep, eq)
+
+  pub edge-left : g .right ≡ false → record { left = q; right = p; kind = getD (g .kind) contour 0; contour = contour } ≡ listedEdge g k
+  unfolding listedEdge
+  edge-left r = rw (r, ep, eq)
+
+-- ---- the loop of `list_contour`: the old list below `from`, a rule from there on
 abbrev mixed : ℕ → List ℕ → (ℕ → ℕ) → ℕ → ℕ
 mixed from old f i = pick (ltb i from) (getD old i 0) (f i)
 
-pub record Linking (c from to : ℕ) (next₀ of₀ next of : List ℕ) (k : ℕ) : Type 0 where
+pub record Listing (c from to : ℕ) (next₀ of₀ next of : List ℕ) (k : ℕ) : Type 0 where
   pub low : from ≤ k
   pub high : k ≤ to
   pub len-next : length next ≡ length next₀
@@ -26,8 +41,8 @@ pub record Linking (c from to : ℕ) (next₀ of₀ next of : List ℕ) (k : ℕ
   pub of-is : (i : ℕ) → i < k → getD of i 0 ≡ mixed from of₀ (λ _. c) i
   pub next-is : (i : ℕ) → i < k → getD next i 0 ≡ mixed from next₀ (nextIn from to) i
 
-pub linking-start : (c from to : ℕ) (next of : List ℕ) → from ≤ to → Linking c from to next of next of from
-linking-start c from to next of h = record {
+pub listing-start : (c from to : ℕ) (next of : List ℕ) → from ≤ to → Listing c from to next of next of from
+listing-start c from to next of h = record {
   low = omega arith;
   high = h;
   len-next = refl;
@@ -36,9 +51,9 @@ linking-start c from to next of h = record {
   next-is = λ i l. rw (lt-ltb i from l);
 }
 
-module _ (c from to : ℕ) (next₀ of₀ next of : List ℕ) (k : ℕ) (l : Linking c from to next₀ of₀ next of k) where
-  pub linking-more : (r : ℕ) → k < to → to ≤ length next₀ → to ≤ length of₀ → r ≡ nextIn from to k → Linking c from to next₀ of₀ (set next k r) (set of k c) (k + 1)
-  linking-more r h n o e = record {
+module _ (c from to : ℕ) (next₀ of₀ next of : List ℕ) (k : ℕ) (l : Listing c from to next₀ of₀ next of k) where
+  pub listing-more : (r : ℕ) → k < to → to ≤ length next₀ → to ≤ length of₀ → r ≡ nextIn from to k → Listing c from to next₀ of₀ (set next k r) (set of k c) (k + 1)
+  listing-more r h n o e = record {
     low = omega (arith, l .low);
     high = omega arith;
     len-next = length-set next k r ∙ l .len-next;
@@ -47,15 +62,15 @@ module _ (c from to : ℕ) (next₀ of₀ next of : List ℕ) (k : ℕ) (l : Lin
     next-is = put-below 0 (mixed from next₀ (nextIn from to)) next k r (omega (arith, l .len-next)) (e ∙ rw (le-ltb k from (l .low))) (l .next-is);
   }
 
-  pub linking-end : to ≤ k → Linked c from to next₀ of₀ next of
-  linking-end h = record {
+  pub listing-end : to ≤ k → ContourListed c from to next₀ of₀ next of
+  listing-end h = record {
     of-below = λ i j. l .of-is i (omega (arith, l .low)) ∙ rw (lt-ltb i from j);
     next-below = λ i j. l .next-is i (omega (arith, l .low)) ∙ rw (lt-ltb i from j);
     of-in = λ i j m. l .of-is i (omega arith) ∙ rw (le-ltb i from j);
     next-in = λ i j m. l .next-is i (omega arith) ∙ rw (le-ltb i from j);
   }
 
--- ---- the loop of `link`
+-- ---- the loop of `list_edges`
 module _ (first len : List ℕ) (r : Ranges first len) where
   abbrev t : Table
   t = ranges first len
@@ -66,7 +81,7 @@ module _ (first len : List ℕ) (r : Ranges first len) where
   pub round-start : (next of : List ℕ) → Round t 0 next of
   round-start next of = record { of-is = λ b k l. absurd (not-suc-le-zero l); next-is = λ b k l. absurd (not-suc-le-zero l) }
 
-  pub round-more : (c : ℕ) (next₀ of₀ next₁ of₁ : List ℕ) → c < length first → Round t c next₀ of₀ → Linked c (firstOf t c) (endOf t c) next₀ of₀ next₁ of₁ → Round t (c + 1) next₁ of₁
+  pub round-more : (c : ℕ) (next₀ of₀ next₁ of₁ : List ℕ) → c < length first → Round t c next₀ of₀ → ContourListed c (firstOf t c) (endOf t c) next₀ of₀ next₁ of₁ → Round t (c + 1) next₁ of₁
   round-more c next₀ of₀ next₁ of₁ h o n = record {
     of-is = λ b k l f e. at-of b k l f e (ℕ-discrete b c);
     next-is = λ b k l f e. at-next b k l f e (ℕ-discrete b c);

@@ -8,10 +8,10 @@ use Rattle.table.specs.Table.{Table, table}
 use Rattle.anchor.specs.Anchors.{Anchors, anchors}
 use Rattle.table.specs.Passing.{contours-few}
 use Rattle.order.specs.HoleLists.{Room}
-use Rattle.bind.proofs.Whole.{few-holes, bounded, placed, listed, gave}
+use Rattle.owners.proofs.Searched.{few-holes, bounded, placed, listed, gave}
 use borrow.Author.Needs.{needs}
-use Rattle.bind.proofs.search_owners.Statement.{statement}
-use Rattle.bind.proofs.search_owners.Tie as tie
+use Rattle.owners.proofs.search_owners.Statement.{statement}
+use Rattle.owners.proofs.search_owners.Tie as tie
 
 abbrev t : tie.Start → Table
 t s = table (s .args .points .now) (s .args .first .now) (s .args .len .now) (s .args .kind .now)

@@ -8,9 +8,9 @@ use lib.ListN.{length, getD, set, take, drop, drop-of-length-le}
 use lib.Seq.{drop-cons, getD-take, length-take-le}
 use borrow.Author.Tests.{eq-eqb, ne-eqb}
 use Rattle.table.specs.Table.{droppedOwner}
-use Rattle.bind.specs.declared.Given.the-variants.{All, Stuck}
-use Rattle.bind.specs.Owners.{Owned, owned, given, giveEach}
-use Rattle.bind.specs.Steps.{giveListed}
+use Rattle.owners.specs.declared.Given.the-variants.{All, Stuck}
+use Rattle.owners.specs.Owners.{Owned, owned, given, giveEach}
+use Rattle.owners.specs.Giving.{giveListed}
 
 -- ---- the loop of `give_owners`
 module _ (who under ord own : List ℕ) (m i : ℕ) (r : m ≤ length ord) where

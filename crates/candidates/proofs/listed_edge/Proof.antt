@@ -6,11 +6,11 @@ use Rattle.turn.specs.declared.Point.{Point}
 use Rattle.turn.specs.Points.{OnGrid}
 use Rattle.table.specs.Table.{pointAt}
 use Rattle.table.specs.TableLaws.{grid-read}
-use Rattle.nearest.specs.Lists.{Lists, lists}
-use Rattle.nearest.proofs.Offers.{edge-right, edge-left}
+use Rattle.candidates.specs.EdgeLists.{Lists, lists}
+use Rattle.candidates.proofs.Listing.{edge-right, edge-left}
 use borrow.Author.Needs.{needs}
-use Rattle.nearest.proofs.listed_edge.Statement.{statement}
-use Rattle.nearest.proofs.listed_edge.Tie as tie
+use Rattle.candidates.proofs.listed_edge.Statement.{statement}
+use Rattle.candidates.proofs.listed_edge.Tie as tie
 
 abbrev g : tie.Start → Lists
 g s = lists (s .args .points .now) (s .args .next .now) (s .args .of .now) (s .args .kind .now) (s .args .right)

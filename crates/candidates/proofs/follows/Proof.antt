@@ -1,8 +1,8 @@
 -- `follows`: by its two ways out.
 use borrow.Author.Tests.{eq-eqb, ne-eqb}
 use borrow.Author.Needs.{needs}
-use Rattle.nearest.proofs.follows.Statement.{statement}
-use Rattle.nearest.proofs.follows.Tie as tie
+use Rattle.candidates.proofs.follows.Statement.{statement}
+use Rattle.candidates.proofs.follows.Tie as tie
 
 add-if1 : tie.Need-add-if1
 add-if1 c = search needs

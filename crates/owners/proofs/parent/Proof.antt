@@ -1,8 +1,8 @@
 -- `parent`: by its two ways out.
 use borrow.Author.Tests.{eq-eqb, ne-eqb}
 use borrow.Author.Needs.{needs}
-use Rattle.bind.proofs.parent.Statement.{statement}
-use Rattle.bind.proofs.parent.Tie as tie
+use Rattle.owners.proofs.parent.Statement.{statement}
+use Rattle.owners.proofs.parent.Tie as tie
 
 returns : tie.Need-returns
 returns c = rw (eq-eqb _ _ (c .if1 .taken))

@@ -4,10 +4,10 @@ use mathlib.Core.Path.{_≡_, refl, _∙_}
 use Prim.Native.Nat.{_-_}
 use lib.ListN.{length, getD}
 use lib.ListN.{drop, take, length-set}
-use Rattle.bind.specs.Steps.{giveListed}
-use Rattle.bind.proofs.Gives.{give-end, give-stuck, give-more}
-use Rattle.bind.proofs.give_owners.Statement.{statement}
-use Rattle.bind.proofs.give_owners.Tie as tie
+use Rattle.owners.specs.Giving.{giveListed}
+use Rattle.owners.proofs.Gives.{give-end, give-stuck, give-more}
+use Rattle.owners.proofs.give_owners.Statement.{statement}
+use Rattle.owners.proofs.give_owners.Tie as tie
 
 abbrev Inv-loop : tie.InvT-loop
 Inv-loop ord who under m own₀ i₀ own i = (length own ≡ length own₀) × (giveListed who under (drop i (take m ord)) own ≡ giveListed who under (take m ord) own₀)
