@@ -6,9 +6,9 @@ use lib.IntN.{ℤ}
 use Rattle.laws.specs.Test.{pick}
 use Rattle.turn.specs.declared.Point.{Point}
 use Rattle.turn.specs.Points.{clockwise, fromTo}
-use Rattle.anchor.specs.declared.Anchor.{Anchor}
-use Rattle.table.specs.Table.{Table, pointAt, firstOf, endOf, nextIn, previousIn}
 use Rattle.turn.specs.declared.Vector.{Vector}
+use Rattle.table.specs.Table.{Table, pointAt, firstOf, endOf, nextIn, previousIn}
+use Rattle.anchor.specs.declared.Anchor.{Anchor}
 
 -- "contour point 1 for clockwise output, else point 0", of a contour whose first point stands at a position
 abbrev pub anchorPositionIn : ℕ → Bool → ℕ

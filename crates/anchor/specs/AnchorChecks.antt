@@ -6,15 +6,15 @@ use lib.Dec.{ltb}
 use lib.IntN.{ℤ}
 use lib.ListN.{getD}
 use Rattle.laws.specs.Test.{pick}
-use Rattle.turn.specs.declared.Point.{Point}
-use Rattle.table.specs.Table.{Table, isHole, pointAt, contourCount, firstOf, lenOf}
 use Rattle.laws.specs.Lowest.{some}
+use Rattle.turn.specs.declared.Point.{Point}
 use Rattle.turn.specs.Points.{before}
 use Rattle.turn.specs.Refusals.{refuseAt, followedBy}
 use Rattle.turn.specs.declared.Checked.{Checked}
 use Rattle.turn.specs.declared.Checked.the-variants.{Fine}
-use Rattle.anchor.specs.Anchor.{anchorPointIn, anchorPoint}
+use Rattle.table.specs.Table.{Table, isHole, pointAt, contourCount, firstOf, lenOf}
 use Rattle.table.specs.TableChecks.{tableChecked}
+use Rattle.anchor.specs.Anchor.{anchorPointIn, anchorPoint}
 
 -- the last hole before contour c, as its number and 1; 0 where there is none
 unfoldable pub holeBefore : Table → ℕ → ℕ

@@ -2,16 +2,16 @@
 use Prim.Native.Nat.{ℕ, _≤_, _<_}
 use native.Mathlib.Omega.{arith}
 use mathlib.Core.Path.{_≡_, refl, sym, ap, _∙_, subst}
-use mathlib.Core.Logic.{_⊎_, ⊎-elim}
+use mathlib.Core.Logic.{_⊎_, inl, inr, ⊎-elim}
 use mathlib.Core.Bool.{Bool, true, false, not, _&&_}
 use mathlib.Core.List.{[], _∷_}
 use lib.IntN.{ℤ, pos, negℤ, _-ℤ_, _*ℤ_}
-use lib.Signed.{ltZ}
-use Rattle.laws.specs.Test.{Is, yes!, true-is, not-is, true≢false, pick-ind, _⇒_, mp, or-true, and-true}
-use Rattle.laws.specs.Int.{same}
+use lib.Signed.{ltZ, _<ℤ_}
+use Rattle.laws.specs.Test.{Is, yes!, not-is, true≢false, pick-ind, _⇒_, mp, or-true, and-true}
 use Rattle.laws.specs.Ring.{ring, var, con, _:-_}
 use Rattle.laws.specs.Sign.{Sgn, mns, zer, pls, sgn, flip, _⊗_, is-mns, eqS, plusOk, all6, sgn-neg, sgn-mul, sgn-add, ltZ-sgn}
-use Rattle.laws.specs.Order.{ltZ-false, sub-pos, <-sgn}
+use Rattle.laws.specs.Order.{sub-pos, <-sgn, antisym}
+use Rattle.laws.specs.Compare.{lt-yes, lt-no}
 use Rattle.turn.specs.declared.Point.{Point}
 use Rattle.turn.specs.declared.Vector.{Vector}
 use Rattle.turn.specs.Points.{before, differ, fromTo, cross, dot, clockwise}
@@ -19,11 +19,11 @@ use Rattle.turn.specs.Angle.{sameDirection}
 use Rattle.turn.specs.Directions.{cross-anti, cross-self}
 use Rattle.turn.specs.PointOrder.{differ-sym}
 use Rattle.table.specs.Table.{Table, point, contourCount, firstOf, endOf, isHole, next, previous}
+use Rattle.table.specs.Sound.{Sound}
+use Rattle.table.specs.Passing.{next-within, previous-within, next-previous}
 use Rattle.anchor.specs.Anchor.{anchorPosition, anchorPoint, lowerEnd, anchorEdge}
 use Rattle.anchor.specs.AnchorPositions.{anchor-low, anchor-high}
-use Rattle.table.specs.Sound.{Sound}
 use Rattle.anchor.specs.Anchored.{Anchored}
-use Rattle.table.specs.Passing.{next-within, previous-within, next-previous}
 
 -- ---- clockwise, seen from a point
 not-self : (at p : Point) → clockwise at p p ≡ false
@@ -57,34 +57,33 @@ lower-end at p q = pick-ind (clockwise at p q) q p (Lower at p q)
 pub one-of : (P : Point → Type 0) (at p q : Point) → P p → P q → P (lowerEnd at p q)
 one-of P at p q h k = pick-ind (clockwise at p q) q p P (λ e. k) (λ e. h)
 
--- ---- from the least point every edge runs rightward, or straight up
+-- ---- from the least point every edge runs onward: rightward, or straight up
+abbrev pub Onward : Vector → Type 0
+Onward v = (pos 0 <ℤ v .x) ⊎ ((v .x ≡ pos 0) × (pos 0 <ℤ v .y))
+
+pub onward : (p q : Point) → before p q ≡ true → Onward (fromTo p q)
+onward p q e = go (ltZ (p .x) (q .x)) refl
+  where
+    nothing : (x y : ℤ) → x ≡ y → y -ℤ x ≡ pos 0
+    nothing x y h = rw h (ring (y ∷ []) (var 0 :- var 0) (con (pos 0)) tt)
+
+    go : (b : Bool) → ltZ (p .x) (q .x) ≡ b → Onward (fromTo p q)
+    go true h = inl (sub-pos (p .x) (q .x) (lt-yes (p .x) (q .x) h))
+    go false h =
+        let k = and-true (not (ltZ (q .x) (p .x))) (ltZ (p .y) (q .y)) (rw h at e) in
+        inr (
+          nothing (p .x) (q .x) (antisym (lt-no (q .x) (p .x) (not-is (ltZ (q .x) (p .x)) (k .0))) (lt-no (p .x) (q .x) h)),
+          sub-pos (p .y) (q .y) (lt-yes (p .y) (q .y) (k .1)),
+        )
+
 abbrev ahead : Sgn → Sgn → Bool
 ahead mns b = false
 ahead zer b = eqS b pls
 ahead pls b = true
 
-sgn-below : (a b : ℤ) → ltZ a b ≡ true → sgn (b -ℤ a) ≡ pls
-sgn-below a b e = <-sgn (b -ℤ a) (sub-pos a b (record { lt = true-is e .is }))
-
-sgn-same : (a b : ℤ) → ltZ a b ≡ false → ltZ b a ≡ false → sgn (b -ℤ a) ≡ zer
-sgn-same a b e f =
-    ap (λ (c : ℤ). sgn (b -ℤ c)) (same a b (omega (arith, ltZ-false a b e, ltZ-false b a f)))
-    ∙ ap sgn (ring (b ∷ []) (var 0 :- var 0) (con (pos 0)) tt)
-
-runs-ahead : (at p : Point) → before at p ≡ true → Is (ahead (sgn (p .x -ℤ at .x)) (sgn (p .y -ℤ at .y)))
-runs-ahead at p e = go (ltZ (at .x) (p .x)) refl
-  where
-    right : (s t : Sgn) → s ≡ pls → Is (ahead s t)
-    right s t h = rw h (yes! tt)
-
-    upward : (s t : Sgn) → s ≡ zer → t ≡ pls → Is (ahead s t)
-    upward s t h k = rw (h, k) (yes! tt)
-
-    go : (b : Bool) → ltZ (at .x) (p .x) ≡ b → Is (ahead (sgn (p .x -ℤ at .x)) (sgn (p .y -ℤ at .y)))
-    go true h = right _ _ (sgn-below (at .x) (p .x) h)
-    go false h =
-        let k = and-true (not (ltZ (p .x) (at .x))) (ltZ (at .y) (p .y)) (rw h at e) in
-        upward _ _ (sgn-same (at .x) (p .x) h (not-is (ltZ (p .x) (at .x)) (k .0))) (sgn-below (at .y) (p .y) (k .1))
+runs-ahead : (v : Vector) → Onward v → Is (ahead (sgn (v .x)) (sgn (v .y)))
+runs-ahead v (inl h) = rw (<-sgn (v .x) h) (yes! tt)
+runs-ahead v (inr (e, h)) = rw (e, <-sgn (v .y) h) (yes! tt)
 
 -- two such vectors of which neither is clockwise of the other: by all signs of their coordinates, of the cross and of the dot product
 abbrev alike : Sgn → Sgn → Sgn → Sgn → Sgn → Sgn → Bool
@@ -97,7 +96,7 @@ pub one-direction : (at p q : Point) → before at p ≡ true → before at q �
 one-direction at p q hp hq e f =
     mp (mp (mp (mp (mp (mp
     (all6 alike tt (sgn (u .x)) (sgn (u .y)) (sgn (v .x)) (sgn (v .y)) (sgn (cross u v)) (sgn (dot u v)))
-    (runs-ahead at p hp)) (runs-ahead at q hq)) (no _ (sym (ltZ-sgn (cross u v)) ∙ e))) (no _ back)) crossed) dotted
+    (runs-ahead u (onward at p hp))) (runs-ahead v (onward at q hq))) (no _ (sym (ltZ-sgn (cross u v)) ∙ e))) (no _ back)) crossed) dotted
   where
     u : Vector
     u = fromTo at p

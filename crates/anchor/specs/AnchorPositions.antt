@@ -9,13 +9,13 @@ use lib.IntN.{ℤ}
 use Rattle.laws.specs.Test.{pick}
 use Rattle.turn.specs.declared.Point.{Point}
 use Rattle.turn.specs.Points.{OnGrid, clockwise}
-use Rattle.anchor.specs.declared.Anchor.{Anchor}
 use Rattle.table.specs.Table.{pointAt, nextIn, previousIn, Table, contourCount, firstOf, endOf}
-use Rattle.anchor.specs.Anchor.{anchorPositionIn, anchorPointIn, lowerEnd, anchorEdgeIn, anchorEdge}
 use Rattle.table.specs.TableLaws.{next-inside, previous-first, previous-inside, grid-point}
 use Rattle.table.specs.Sound.{Sound}
-use Rattle.anchor.specs.Anchored.{Paired}
 use Rattle.table.specs.Passing.{ranges-within, next-within, previous-within}
+use Rattle.anchor.specs.declared.Anchor.{Anchor}
+use Rattle.anchor.specs.Anchor.{anchorPositionIn, anchorPointIn, lowerEnd, anchorEdgeIn, anchorEdge}
+use Rattle.anchor.specs.Anchored.{Paired}
 
 -- ---- anchors
 pub anchor-low : (from : ℕ) (cw : Bool) → from ≤ anchorPositionIn from cw

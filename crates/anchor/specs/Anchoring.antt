@@ -9,14 +9,14 @@ use lib.Dec.{ltb}
 use borrow.Author.Tests.{lt-ltb, ltb-true}
 use Rattle.laws.specs.Test.{pick, true≢false}
 use Rattle.laws.specs.Lowest.{lowest, some}
+use Rattle.laws.specs.Fails.{Iff, Fails, then, or-fails, some-fails}
 use Rattle.turn.specs.Points.{before}
 use Rattle.turn.specs.PointOrder.{before-irreflexive, not-before-transitive}
 use Rattle.turn.specs.declared.Checked.the-variants.{Fine}
+use Rattle.turn.specs.Refusals.{refuses}
 use Rattle.table.specs.Table.{Table, point, contourCount, firstOf, lenOf, isHole}
 use Rattle.anchor.specs.AnchorChecks.{holeBefore, outOfOrder, badAnchor, anchorsChecked}
 use Rattle.anchor.specs.Anchor.{anchorPoint}
-use Rattle.laws.specs.Fails.{Iff, Fails, then, or-fails, some-fails}
-use Rattle.turn.specs.Refusals.{refuses}
 use Rattle.anchor.specs.Anchored.{Anchored}
 
 -- a test that is joined to another fails exactly where it fails wherever the other passes

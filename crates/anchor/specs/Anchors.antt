@@ -4,8 +4,8 @@ use mathlib.Core.Path.{_≡_}
 use mathlib.Core.List.{List}
 use lib.ListN.{length, getD, set}
 use lib.IntN.{ℤ, pos}
-use Rattle.anchor.specs.declared.Anchor.{Anchor}
 use lib.Seq.{getD-set-same, getD-set-other}
+use Rattle.anchor.specs.declared.Anchor.{Anchor}
 
 -- the anchors, and the other ends of the anchor edges, by their coordinates
 pub record Anchors : Type 0 where

@@ -6,10 +6,10 @@ use lib.IntN.{pos}
 use Rattle.laws.specs.Lowest.{lowest}
 use Rattle.turn.specs.declared.Checked.the-variants.{Fine, Refused}
 use Rattle.table.specs.Table.{table}
-use Rattle.anchor.specs.AnchorChecks.{holeBefore, anchorsChecked, bothChecked}
-use Rattle.anchor.specs.Anchor.{anchorEdge}
 use Rattle.table.specs.TableChecks.{tableChecked}
 use Rattle.table.specs.Examples.{firstHole, farHole, e9, e10}
+use Rattle.anchor.specs.AnchorChecks.{holeBefore, anchorsChecked, bothChecked}
+use Rattle.anchor.specs.Anchor.{anchorEdge}
 
 -- ---- checks 10 and 11
 e9-fine : bothChecked e9 4 false ≡ Fine

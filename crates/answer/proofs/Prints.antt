@@ -7,6 +7,7 @@ use mathlib.Core.List.{List, [], _∷_, _++_}
 use lib.Dec.{eqb}
 use lib.ListN.{length, drop, replicate, length-append, length-drop, length-replicate}
 use Rattle.laws.specs.Test.{pick, pick-ind}
+use Rattle.laws.specs.Count.{count}
 use Rattle.turn.specs.declared.Checked.{Checked}
 use Rattle.turn.specs.declared.Checked.the-variants.{Fine, Refused as AtFault}
 use Rattle.table.specs.Table.{Table, contourCount, pointCount, hulls, hullCount}
@@ -30,7 +31,7 @@ abbrev printTable : Table → List ℕ → print.Table
 printTable t owner = print.table (t .points) (t .first) (t .len) (t .kind) owner
 
 hulls-few : (l : List ℕ) → hulls l ≤ length l
-unfolding hulls
+unfolding count
 hulls-few [] = omega arith
 hulls-few (k ∷ l) = pick-ind (eqb k 0) 1 0 (λ (n : ℕ). n + hulls l ≤ suc (length l)) (λ _. omega (arith, hulls-few l)) (λ _. omega (arith, hulls-few l))
 

@@ -9,19 +9,19 @@ use lib.Seq.{take-all}
 use borrow.Author.Tests.{ne-eqb}
 use Rattle.turn.specs.declared.Checked.{Checked}
 use Rattle.turn.specs.declared.Checked.the-variants.{Fine, Refused as AtFault}
+use Rattle.turn.specs.Refusals.{followedBy}
 use Rattle.table.specs.Table.{Table, contourCount, hulls, hullCount, droppedOwner}
 use Rattle.table.specs.TableChecks.{tableChecked}
-use Rattle.anchor.specs.AnchorChecks.{anchorsChecked, bothChecked}
-use Rattle.turn.specs.Refusals.{followedBy}
 use Rattle.table.specs.Sound.{Sound}
-use Rattle.anchor.specs.Anchored.{Anchored}
 use Rattle.table.specs.Passing.{passes-sound}
+use Rattle.anchor.specs.AnchorChecks.{anchorsChecked, bothChecked}
+use Rattle.anchor.specs.Anchored.{Anchored}
 use Rattle.anchor.specs.Anchoring.{passes-anchored}
-use Rattle.bind.specs.declared.Binding.the-variants.{Bound, Refused}
+use Rattle.order.specs.HoleOrder.{bindingOrder}
 use Rattle.owners.specs.declared.Given.{Given}
 use Rattle.owners.specs.declared.Given.the-variants.{All, Stuck}
-use Rattle.order.specs.HoleOrder.{bindingOrder}
 use Rattle.owners.specs.Owners.{contourBelow, firstOwner, listOf, Owned, owned, giveEach, searchedOwners, ownersOf}
+use Rattle.bind.specs.declared.Binding.the-variants.{Bound, Refused}
 use Rattle.bind.specs.Outcome.{droppedOf, Outcome, outcome, written, handed, boundAfter, bound, delivered}
 
 -- ---- the ways out of `check`

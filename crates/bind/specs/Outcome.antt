@@ -9,11 +9,11 @@ use Rattle.turn.specs.declared.Checked.{Checked}
 use Rattle.turn.specs.declared.Checked.the-variants.{Fine, Refused as AtFault}
 use Rattle.table.specs.Table.{Table, contourCount, hullCount}
 use Rattle.anchor.specs.AnchorChecks.{bothChecked}
-use Rattle.bind.specs.declared.Binding.{Binding}
-use Rattle.bind.specs.declared.Binding.the-variants.{Bound, Refused}
 use Rattle.owners.specs.declared.Given.{Given}
 use Rattle.owners.specs.declared.Given.the-variants.{All, Stuck}
 use Rattle.owners.specs.Owners.{Owned, owned, ownersOf}
+use Rattle.bind.specs.declared.Binding.{Binding}
+use Rattle.bind.specs.declared.Binding.the-variants.{Bound, Refused}
 
 -- holes dropped: with no hulls every contour is one
 abbrev pub droppedOf : Table → ℕ

@@ -5,16 +5,16 @@ use mathlib.Core.Bool.{true, false}
 use mathlib.Core.List.{List}
 use native.Mathlib.Omega.{arith}
 use lib.ListN.{length, getD, set, length-set}
-use Rattle.turn.specs.declared.Point.{Point}
-use Rattle.table.specs.Table.{pointAt, Table, firstOf, endOf, contourOf, nextIn, next}
-use Rattle.candidates.specs.EdgeLists.{Lists, listedEdge, Ranges, ranges, ContourListed, Round}
-use Rattle.laws.specs.Lists.{put-below}
 use native.Mathlib.Nat.{not-suc-le-zero}
 use native.Mathlib.Decide.{ℕ-discrete}
 use lib.Dec.{ltb}
 use borrow.Author.Tests.{lt-ltb, le-ltb}
+use Rattle.laws.specs.Lists.{put-below}
 use Rattle.laws.specs.Test.{pick}
+use Rattle.turn.specs.declared.Point.{Point}
+use Rattle.table.specs.Table.{pointAt, Table, firstOf, endOf, contourOf, nextIn, next}
 use Rattle.table.specs.Passing.{apart, contour-is}
+use Rattle.candidates.specs.EdgeLists.{Lists, listedEdge, Ranges, ranges, ContourListed, Round}
 
 -- ---- the ways out of `listed_edge`
 module _ (g : Lists) (k : ℕ) (p q : Point) (ep : p ≡ pointAt (g .points) k) (eq : q ≡ pointAt (g .points) (getD (g .next) k 0)) where

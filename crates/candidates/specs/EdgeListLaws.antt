@@ -5,11 +5,11 @@ use mathlib.Core.Bool.{Bool}
 use mathlib.Core.List.{List}
 use native.Mathlib.Omega.{arith}
 use lib.ListN.{length, getD}
-use Rattle.candidates.specs.EdgeLists.{Lists, listedEdge, lists, Fit, Ranges, ranges, Round}
 use Rattle.turn.specs.Limits.{maxLinks}
 use Rattle.table.specs.Table.{Table, pointCount, contourCount, firstOf, endOf, contourOf, next}
 use Rattle.table.specs.Passing.{located, sound-follows, contours-few, next-within}
 use Rattle.table.specs.Sound.{Sound}
+use Rattle.candidates.specs.EdgeLists.{Lists, listedEdge, lists, Fit, Ranges, ranges, Round}
 use Rattle.candidates.specs.Candidates.{edge}
 
 pub contour-is : (g : Lists) (k : ℕ) → listedEdge g k .contour ≡ getD (g .of) k 0

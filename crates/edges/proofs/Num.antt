@@ -7,13 +7,13 @@ use lib.IntN.{ℤ, pos, natAbs, _*ℤ_}
 use lib.Signed.{ltZ}
 use lib.Dec.{ltb}
 use Rattle.laws.specs.Bounds.{Z, same64}
+use Rattle.laws.specs.Compare.{lower, lowerN}
 use Rattle.turn.specs.declared.Vector.{Vector}
 use Rattle.turn.specs.Points.{Short, cross, productBound, span}
 use Rattle.anchor.specs.declared.Anchor.{Anchor}
+use Rattle.anchor.specs.Anchor.{anchorWay}
 use Rattle.edges.specs.declared.Edge.{Edge}
 use Rattle.edges.specs.Edges.{along, run, height, liesUnder, winsTie, nearer, gapBound}
-use Rattle.anchor.specs.Anchor.{anchorWay}
-use Rattle.laws.specs.Compare.{lower, lowerN}
 
 -- a number within a bound, as a call hands it on
 pub within64 : (z : ℤ) (n : ℕ) → natAbs z ≤ n → n < 9223372036854775808 → natAbs (Z z) ≤ n

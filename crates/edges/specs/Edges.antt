@@ -4,12 +4,12 @@ use mathlib.Core.Bool.{Bool, _&&_}
 use lib.Dec.{ltb}
 use lib.IntN.{ℤ, pos, _*ℤ_}
 use lib.Signed.{ltZ, leZ}
+use Rattle.laws.specs.Compare.{lower, lowerN}
 use Rattle.turn.specs.declared.Vector.{Vector}
 use Rattle.turn.specs.Points.{OnGrid, fromTo, cross, turn, productBound, span}
-use Rattle.edges.specs.declared.Edge.{Edge}
 use Rattle.anchor.specs.declared.Anchor.{Anchor}
 use Rattle.anchor.specs.Anchor.{anchorWay}
-use Rattle.laws.specs.Compare.{lower, lowerN}
+use Rattle.edges.specs.declared.Edge.{Edge}
 
 -- from its left end to its right end
 abbrev pub along : Edge → Vector

@@ -11,11 +11,11 @@ use Rattle.laws.specs.Ring.{ring, var, _:+_, _:-_, _:*_}
 use Rattle.laws.specs.Sign.{sgn, plusOk, three, sgn-mul}
 use Rattle.laws.specs.Order.{<-sgn, mul-pos}
 use Rattle.laws.specs.Bounds.{mul-below}
+use Rattle.laws.specs.Compare.{lower, bySign, lower-sign}
 use Rattle.turn.specs.Points.{productBound, span}
 use Rattle.anchor.specs.declared.Anchor.{Anchor}
 use Rattle.edges.specs.declared.Edge.{Edge}
 use Rattle.edges.specs.Edges.{run, rise, height, gapBound}
-use Rattle.laws.specs.Compare.{lower, bySign, lower-sign}
 
 -- ---- what a height is: run times the distance from the edge's line, at the anchor's x, up to the anchor. At that x the line has the height left y + rise · (x - left x) / run.
 pub height-is : (a : Anchor) (e : Edge) → height a e ≡ run e *ℤ a .at .y -ℤ (run e *ℤ e .left .y +ℤ rise e *ℤ (a .at .x -ℤ e .left .x))

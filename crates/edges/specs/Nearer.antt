@@ -10,10 +10,10 @@ use lib.IntN.{ℤ, pos, _*ℤ_}
 use lib.Signed.{ltZ, leZ, _<ℤ_, _≤ℤ_}
 use Rattle.laws.specs.Test.{and-true}
 use Rattle.laws.specs.Order.{lin, sub-pos}
+use Rattle.laws.specs.Compare.{lt-yes, le-yes, lower-trans, lowerN-trans, lower-same, lowerN-same, lower-neither, lowerN-neither}
 use Rattle.anchor.specs.declared.Anchor.{Anchor}
 use Rattle.edges.specs.declared.Edge.{Edge}
 use Rattle.edges.specs.Edges.{run, rise, spans, height, winsTie, nearer}
-use Rattle.laws.specs.Compare.{lt-yes, le-yes, lower-trans, lowerN-trans, lower-same, lowerN-same, lower-neither, lowerN-neither}
 use Rattle.edges.specs.Gaps.{rising, falling}
 
 -- ---- a strict order of the edges that run to the right

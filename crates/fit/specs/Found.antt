@@ -10,7 +10,6 @@ use lib.Dec.{eqb, ltb}
 use borrow.Author.Tests.{eq-eqb, eqb-true, eqb-false, lt-ltb}
 use Rattle.laws.specs.Test.{pick}
 use Rattle.table.specs.Table.{Table, contourCount, kindOf, hullCount, shapeOf, hulls, droppedOwner}
-use Rattle.table.specs.TableLaws.{hulls-more}
 use Rattle.table.specs.TableChecks.{tableChecked}
 use Rattle.anchor.specs.AnchorChecks.{anchorsChecked, bothChecked}
 use Rattle.turn.specs.Refusals.{first-fine}
@@ -28,8 +27,8 @@ use Rattle.owners.specs.Owners.{Owned, owned, given, giveEach, firstOwner, list
 use Rattle.bind.specs.Outcome.{Outcome, outcome, written, handed, handedBy, boundAfter, bound}
 use Rattle.order.specs.HoleOrder.{bindingOrder}
 use Rattle.order.specs.OrderLaws.{each-once}
-use Rattle.owners.specs.OwnerLaws.{list-length, list-at, hulls-most, owners-below}
-use Rattle.laws.specs.Count.{count}
+use Rattle.owners.specs.OwnerLaws.{list-length, list-at, owners-below}
+use Rattle.laws.specs.Count.{count, count-more, count-most}
 
 -- ---- giving leaves the owners of contours that are not gone through
 split : {x y : List ℕ} {r q : Given} → owned r x ≡ owned q y → (r ≡ q) × (x ≡ y)
@@ -73,8 +72,8 @@ module _ (t : Table) (s : Sound t) (cw : Bool) (l : List ℕ) where
   -- up to a hull, itself among them, there is one hull more than before it
   counted : (c : ℕ) → c < contourCount t → kindOf t c ≡ 0 → shapeOf t c + 1 ≤ hullCount t
   counted c h k =
-      let m : hulls (take (c + 1) (t .kind)) ≡ hulls (take c (t .kind)) + 1 = hulls-more (t .kind) c (rw (s .kind-long) h) ∙ rw (eq-eqb (kindOf t c) 0 k) in
-      omega (arith, m, hulls-most (c + 1) (t .kind))
+      let m : hulls (take (c + 1) (t .kind)) ≡ hulls (take c (t .kind)) + 1 = count-more 0 (t .kind) c (rw (s .kind-long) h) ∙ rw (eq-eqb (kindOf t c) 0 k) in
+      omega (arith, m, count-most 0 (c + 1) (t .kind))
 
   -- a hull's owner is its own number; a hole's is below the hull count, or 65,535 with no hulls
   right-of : (c o : ℕ) → (kindOf t c ≡ 0 → o ≡ shapeOf t c) → ((kindOf t c ≡ 0 → ⊥) → hullCount t ≡ 0 → o ≡ droppedOwner) → ((kindOf t c ≡ 0 → ⊥) → (hullCount t ≡ 0 → ⊥) → o < hullCount t)

@@ -33,6 +33,19 @@ pub count-more : (x : ℕ) (l : List ℕ) (k : ℕ) → k < length l → count x
 unfolding count
 count-more x l k h = simp (add-one, take-suc l k 0 h, count-append, add-zero)
 
+-- ---- of a part and of the whole
+pub count-none : (x : ℕ) (l : List ℕ) → count x (take 0 l) ≡ 0
+unfolding count
+count-none x [] = refl
+count-none x (y ∷ l) = refl
+
+pub count-most : (x k : ℕ) (l : List ℕ) → count x (take k l) ≤ count x l
+unfolding count
+count-most x zero [] = omega arith
+count-most x zero (y ∷ l) = omega arith
+count-most x (suc k) [] = omega arith
+count-most x (suc k) (y ∷ l) = omega (arith, count-most x k l)
+
 -- ---- what is counted is a member, and stands at a place
 pub counted-in : (x : ℕ) (l : List ℕ) → 1 ≤ count x l → List·Memᴰ x l
 unfolding count

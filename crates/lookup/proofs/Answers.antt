@@ -9,12 +9,12 @@ use lib.Seq.{take-length}
 use borrow.Author.Tests.{lt-ltb, le-ltb}
 use Rattle.laws.specs.Test.{pick}
 use Rattle.turn.specs.declared.Checked.the-variants.{Fine, Refused}
+use Rattle.turn.specs.Refusals.{isFine}
+use Rattle.table.specs.Table.{Table, contourCount, firstOf, lenOf, kindOf, hulls}
+use Rattle.table.specs.TableChecks.{tableChecked}
 use Rattle.lookup.specs.declared.records.Role.{Role}
 use Rattle.lookup.specs.declared.records.Lookup.{Lookup}
 use Rattle.lookup.specs.declared.records.Lookup.the-variants.{Found, Missing}
-use Rattle.table.specs.Table.{Table, contourCount, firstOf, lenOf, kindOf, hulls}
-use Rattle.table.specs.TableChecks.{tableChecked}
-use Rattle.turn.specs.Refusals.{isFine}
 use Rattle.lookup.specs.Lookups.{ownerRight, roleOf, recordIfRight, lookedUp}
 
 module _ (t : Table) (owner : List ℕ) (c h s : ℕ) (eh : h ≡ hulls (take (length (t .kind)) (t .kind))) (es : s ≡ hulls (take c (t .kind))) where

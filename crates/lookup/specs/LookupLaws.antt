@@ -9,15 +9,15 @@ use lib.Dec.{eqb, ltb}
 use lib.ListN.{length, getD}
 use borrow.Author.Tests.{eq-eqb, ne-eqb, eqb-true, ltb-true, lt-ltb}
 use Rattle.laws.specs.Test.{pick}
+use Rattle.laws.specs.Fails.{Iff}
 use Rattle.turn.specs.declared.Checked.the-variants.{Fine}
+use Rattle.turn.specs.Refusals.{isFine, fine-is}
+use Rattle.table.specs.Table.{Table, contourCount, kindOf, hullCount, shapeOf, droppedOwner}
+use Rattle.table.specs.TableChecks.{tableChecked}
 use Rattle.lookup.specs.declared.records.ContourRecord.{ContourRecord}
 use Rattle.lookup.specs.declared.records.Lookup.{Lookup}
 use Rattle.lookup.specs.declared.records.Lookup.the-variants.{Found, Missing}
-use Rattle.table.specs.Table.{Table, contourCount, kindOf, hullCount, shapeOf, droppedOwner}
-use Rattle.table.specs.TableChecks.{tableChecked}
-use Rattle.turn.specs.Refusals.{isFine, fine-is}
 use Rattle.lookup.specs.Lookups.{ownerRight, roleOf, recordOf, lookedUp, roleKind, roleOwner}
-use Rattle.laws.specs.Fails.{Iff}
 
 abbrev right : Table → List ℕ → ℕ → Bool
 right t owner c = ownerRight (kindOf t c) (getD owner c 0) (shapeOf t c) (hullCount t)

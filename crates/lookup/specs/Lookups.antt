@@ -5,14 +5,14 @@ use mathlib.Core.List.{List}
 use lib.Dec.{eqb, ltb}
 use lib.ListN.{length, getD}
 use Rattle.laws.specs.Test.{pick}
+use Rattle.turn.specs.Refusals.{isFine}
+use Rattle.table.specs.Table.{Table, contourCount, firstOf, lenOf, kindOf, hullCount, shapeOf, droppedOwner}
+use Rattle.table.specs.TableChecks.{tableChecked}
 use Rattle.lookup.specs.declared.records.Role.{Role}
 use Rattle.lookup.specs.declared.records.Role.the-variants.{Hull, Hole, Dropped}
 use Rattle.lookup.specs.declared.records.ContourRecord.{ContourRecord}
 use Rattle.lookup.specs.declared.records.Lookup.{Lookup}
 use Rattle.lookup.specs.declared.records.Lookup.the-variants.{Found, Missing}
-use Rattle.table.specs.Table.{Table, contourCount, firstOf, lenOf, kindOf, hullCount, shapeOf, droppedOwner}
-use Rattle.table.specs.TableChecks.{tableChecked}
-use Rattle.turn.specs.Refusals.{isFine}
 
 -- "the owner is not right: for a hull its own number, for a hole one below the hull count, or 65,535 with no hulls"
 abbrev pub ownerRight : (kind owner shape hulls : ℕ) → Bool

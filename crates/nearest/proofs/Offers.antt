@@ -14,19 +14,19 @@ use lib.Signed.{mag, leZ, _<ℤ_, _≤ℤ_}
 use mir.Syntax.{w32}
 use mir.Val.{toZ, ofZ}
 use Rattle.laws.specs.Order.{≤-trans}
+use Rattle.laws.specs.Compare.{yes-lt, no-lt, yes-le, no-le, le-yes, le-no}
+use Rattle.laws.specs.Lists.{put-below, put-above}
 use Rattle.turn.specs.Points.{Coord, OnGrid}
 use Rattle.anchor.specs.declared.Anchor.{Anchor}
+use Rattle.anchor.specs.Anchors.{Anchors, listedAnchor}
 use Rattle.edges.specs.declared.Edge.{Edge}
 use Rattle.edges.specs.Edges.{liesUnder, nearer}
-use Rattle.nearest.specs.Search.{kept, offered, keep, nearest}
 use Rattle.candidates.specs.EdgeLists.{Lists, listedEdge}
-use Rattle.nearest.specs.Lists.{giving, Placed, Parted, Numbers, Offered, Nearests}
-use Rattle.anchor.specs.Anchors.{Anchors, listedAnchor}
-use Rattle.laws.specs.Compare.{yes-lt, no-lt, yes-le, no-le, le-yes, le-no}
-use Rattle.nearest.proofs.Parts.{coord32, num}
-use Rattle.laws.specs.Lists.{put-below, put-above}
-use Rattle.nearest.specs.Least.{nearest-le}
 use Rattle.candidates.specs.EdgeListLaws.{contour-is}
+use Rattle.nearest.specs.Search.{kept, offered, keep, nearest}
+use Rattle.nearest.specs.Lists.{giving, Placed, Parted, Numbers, Offered, Nearests}
+use Rattle.nearest.specs.Least.{nearest-le}
+use Rattle.nearest.proofs.Parts.{coord32, num}
 
 -- ---- the ways out of `kept`
 module _ (edge : ℕ → Edge) (a : Anchor) (k b : ℕ) (e : Edge) (d : e ≡ edge k) where

@@ -11,10 +11,10 @@ use mir.Syntax.{w32}
 use mir.Val.{toZ, ofZ}
 use mir.ValLaws.{toZ-ofZ}
 use Rattle.laws.specs.Order.{lin}
-use Rattle.nearest.specs.Lists.{Sorted, Parted}
 use Rattle.laws.specs.Compare.{lt-yes, lt-no}
 use Rattle.laws.specs.Bounds.{same32}
 use Rattle.turn.specs.Points.{Coord}
+use Rattle.nearest.specs.Lists.{Sorted, Parted}
 
 pub record Bracket (l : List ℤ) (m : ℕ) (x : ℤ) (low high : ℕ) : Type 0 where
   pub low-le : low ≤ high

@@ -7,18 +7,18 @@ use native.Mathlib.Omega.{arith}
 use lib.ListN.{length, getD}
 use lib.Dec.{eqb}
 use Rattle.laws.specs.Test.{pick}
-use Rattle.anchor.specs.declared.Anchor.{Anchor}
 use Rattle.table.specs.Table.{Table, pointCount, contourCount}
 use Rattle.table.specs.Passing.{located}
 use Rattle.table.specs.Sound.{Sound}
+use Rattle.anchor.specs.declared.Anchor.{Anchor}
+use Rattle.anchor.specs.Anchors.{Anchors, listedAnchor}
 use Rattle.edges.specs.declared.Edge.{Edge}
-use Rattle.nearest.specs.Search.{kept, offered, keep, nearest, contourUnder}
 use Rattle.candidates.specs.Candidates.{edge}
 use Rattle.candidates.specs.EdgeLists.{Lists, lists, listedEdge, ranges, Round}
-use Rattle.nearest.specs.Lists.{giving, named, Flags, Numbers, Nearests}
-use Rattle.anchor.specs.Anchors.{Anchors, listedAnchor}
-use Rattle.nearest.specs.Least.{nearest-le}
 use Rattle.candidates.specs.EdgeListLaws.{contour-is, of-is, edges-same}
+use Rattle.nearest.specs.Search.{kept, offered, keep, nearest, contourUnder}
+use Rattle.nearest.specs.Lists.{giving, named, Flags, Numbers, Nearests}
+use Rattle.nearest.specs.Least.{nearest-le}
 
 -- ---- edges that are the same below n give the same answer
 module _ (e f : ℕ → Edge) (gives : ℕ → Bool) (a : Anchor) (n : ℕ) (same : (k : ℕ) → k < n → e k ≡ f k) where

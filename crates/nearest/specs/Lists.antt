@@ -9,9 +9,9 @@ use lib.IntN.{ℤ, pos}
 use lib.Signed.{_≤ℤ_, _<ℤ_}
 use Rattle.laws.specs.Test.{pick}
 use Rattle.turn.specs.Points.{OnGrid}
-use Rattle.nearest.specs.Search.{offered, nearest}
 use Rattle.anchor.specs.Anchors.{Anchors, listedAnchor}
 use Rattle.candidates.specs.EdgeLists.{Lists, listedEdge}
+use Rattle.nearest.specs.Search.{offered, nearest}
 
 -- the contours that give edges: those that a list of flags does not mute
 abbrev pub giving : List ℕ → ℕ → Bool

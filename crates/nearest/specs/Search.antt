@@ -4,8 +4,8 @@ use mathlib.Core.Bool.{Bool, _&&_, _||_}
 use lib.Dec.{eqb}
 use Rattle.laws.specs.Test.{pick}
 use Rattle.table.specs.Table.{Table, pointCount}
-use Rattle.edges.specs.declared.Edge.{Edge}
 use Rattle.anchor.specs.declared.Anchor.{Anchor}
+use Rattle.edges.specs.declared.Edge.{Edge}
 use Rattle.edges.specs.Edges.{spans, liesUnder, nearer}
 use Rattle.candidates.specs.Candidates.{rightward, edge}
 

@@ -10,8 +10,8 @@ use native.Mathlib.Decide.{ℕ-discrete}
 use lib.ListN.{length, getD, set, length-set, length-append, List·getD-append}
 use lib.Seq.{getD-set-same, getD-set-other, getD-at}
 use borrow.Author.Tests.{eq-eqb, ne-eqb}
-use Rattle.anchor.specs.declared.Anchor.{Anchor}
 use Rattle.table.specs.Table.{Table, contourCount, kindOf, isHole}
+use Rattle.anchor.specs.declared.Anchor.{Anchor}
 use Rattle.anchor.specs.Anchor.{anchorEdge}
 use Rattle.anchor.specs.Anchors.{Anchors, listedAnchor, withAnchor, anchor-here, anchor-other}
 use Rattle.order.specs.HoleOrder.{holesBelow}

@@ -12,9 +12,9 @@ use lib.IntN.{ℤ, pos, natAbs}
 use lib.ListN.{length, getD, set, length-set}
 use lib.Seq.{getD-set-same, getD-set-other}
 use Rattle.laws.specs.Bounds.{Z, same64}
+use Rattle.laws.specs.Compare.{lower}
 use Rattle.turn.specs.Points.{before, cross, productBound}
 use Rattle.anchor.specs.declared.Anchor.{Anchor}
-use Rattle.laws.specs.Compare.{lower}
 use Rattle.anchor.specs.Anchor.{anchorWay}
 use Rattle.anchor.specs.Anchors.{Anchors, listedAnchor}
 use Rattle.order.specs.HoleOrder.{goesBefore, place, sorted}

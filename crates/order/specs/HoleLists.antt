@@ -4,12 +4,12 @@ use mathlib.Core.Path.{_≡_}
 use mathlib.Core.Bool.{Bool}
 use mathlib.Core.List.{List}
 use lib.ListN.{length, getD}
+use native.Mathlib.Omega.{arith}
 use Rattle.turn.specs.Points.{OnGrid}
 use Rattle.table.specs.Table.{Table}
 use Rattle.anchor.specs.Anchor.{anchorEdge}
 use Rattle.anchor.specs.Anchors.{Anchors, listedAnchor}
 use Rattle.order.specs.HoleOrder.{goesBefore, place, sorted, holesBelow}
-use native.Mathlib.Omega.{arith}
 
 -- room for n holes
 pub record Room (who : List ℕ) (h : Anchors) (n : ℕ) : Type 0 where

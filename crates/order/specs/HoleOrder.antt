@@ -6,11 +6,11 @@ use lib.ListN.{length, getD, take, drop}
 use lib.Dec.{ltb}
 use lib.IntN.{pos}
 use Rattle.laws.specs.Test.{pick}
-use Rattle.turn.specs.Points.{before, cross}
-use Rattle.anchor.specs.declared.Anchor.{Anchor}
-use Rattle.table.specs.Table.{Table, contourCount, isHole}
-use Rattle.anchor.specs.Anchor.{anchorEdge, anchorWay}
 use Rattle.laws.specs.Compare.{lower}
+use Rattle.turn.specs.Points.{before, cross}
+use Rattle.table.specs.Table.{Table, contourCount, isHole}
+use Rattle.anchor.specs.declared.Anchor.{Anchor}
+use Rattle.anchor.specs.Anchor.{anchorEdge, anchorWay}
 
 -- "holes go by anchor, then by the anchor edge's angle, lowest first, then by number": whether hole c, with the anchor a, goes before hole d, with the anchor b
 abbrev pub goesBefore : Anchor → Anchor → ℕ → ℕ → Bool

@@ -5,51 +5,34 @@ use mathlib.Core.Logic.{_⊎_, inl, inr}
 use mathlib.Core.Bool.{Bool, true, false, not, _&&_}
 use mathlib.Core.List.{[], _∷_, _++_}
 use native.Mathlib.Omega.{arith}
+use native.Mathlib.Nat.{add-zero}
 use native.Mathlib.Decide.{decLe, ℕ-discrete}
 use lib.Dec.{T, ltb, ltb→lt, lt→ltb}
 use borrow.Author.Tests.{eq-eqb, ne-eqb, lt-ltb, le-ltb, ltb-false}
 use lib.ListN.{length}
 use lib.IntN.{ℤ, pos, _-ℤ_, _*ℤ_}
-use lib.Signed.{ltZ, _<ℤ_}
+use lib.Signed.{_<ℤ_}
 use Rattle.laws.specs.Test.{pick, Is, yes!, is-true, true-is, not-is, or-false, and-true}
 use Rattle.laws.specs.Ring.{ring, var, con, _:+_, _:-_, _:*_, neg}
 use Rattle.laws.specs.Sign.{Sgn, mns, zer, pls, sgn, flip, _⊗_, plusOk, three, sgn-mul, sgn-neg}
-use Rattle.laws.specs.Order.{sub-pos, <-sgn, antisym}
+use Rattle.laws.specs.Order.{<-sgn}
+use Rattle.laws.specs.Compare.{lower, lower-sign, bySign, lower-trans, lower-neither}
+use Rattle.laws.specs.Count.{count, count-snoc}
 use Rattle.turn.specs.declared.Point.{Point}
 use Rattle.turn.specs.declared.Vector.{Vector}
-use Rattle.turn.specs.Points.{before, fromTo, cross}
+use Rattle.turn.specs.Points.{before, cross}
 use Rattle.turn.specs.PointOrder.{before-irreflexive, before-transitive, before-total}
-use Rattle.anchor.specs.declared.Anchor.{Anchor}
 use Rattle.table.specs.Table.{Table, contourCount, isHole}
-use Rattle.anchor.specs.Anchor.{anchorEdge, anchorWay}
 use Rattle.table.specs.Sound.{Sound}
+use Rattle.anchor.specs.declared.Anchor.{Anchor}
+use Rattle.anchor.specs.Anchor.{anchorEdge, anchorWay}
 use Rattle.anchor.specs.Anchored.{Anchored}
-use Rattle.anchor.specs.AnchorLaws.{edge-ahead}
-use Rattle.laws.specs.Compare.{lower, lt-yes, lt-no, lower-sign, bySign, lower-trans, lower-neither}
+use Rattle.anchor.specs.AnchorLaws.{Onward, onward, edge-ahead}
 use Rattle.order.specs.HoleOrder.{goesBefore, precedes, holesBelow, holes, hole, bindingOrder}
 use Rattle.order.specs.HoleLaws.{Rising, holes-rising, holes-are}
-use Rattle.laws.specs.Count.{count, count-snoc}
 use Rattle.order.specs.Insertion.{Strict, InOrder, sorted-in-order, count-all}
 
--- ---- vectors that run rightward, or straight up: turning from one to another never passes straight down
-abbrev Onward : Vector → Type 0
-Onward v = (pos 0 <ℤ v .x) ⊎ ((v .x ≡ pos 0) × (pos 0 <ℤ v .y))
-
-onward : (p q : Point) → before p q ≡ true → Onward (fromTo p q)
-onward p q e = go (ltZ (p .x) (q .x)) refl
-  where
-    nothing : (x y : ℤ) → x ≡ y → y -ℤ x ≡ pos 0
-    nothing x y h = rw h (ring (y ∷ []) (var 0 :- var 0) (con (pos 0)) tt)
-
-    go : (b : Bool) → ltZ (p .x) (q .x) ≡ b → Onward (fromTo p q)
-    go true h = inl (sub-pos (p .x) (q .x) (lt-yes (p .x) (q .x) h))
-    go false h =
-        let k = and-true (not (ltZ (q .x) (p .x))) (ltZ (p .y) (q .y)) (rw h at e) in
-        inr (
-          nothing (p .x) (q .x) (antisym (lt-no (q .x) (p .x) (not-is (ltZ (q .x) (p .x)) (k .0))) (lt-no (p .x) (q .x) h)),
-          sub-pos (p .y) (q .y) (lt-yes (p .y) (q .y) (k .1)),
-        )
-
+-- ---- turning from one vector that runs onward to another never passes straight down
 by-one : (s : Sgn) → s ⊗ pls ≡ s
 by-one mns = refl
 by-one zer = refl
@@ -209,9 +192,6 @@ unfolding holesBelow count
 holes-once t c zero = rw (le-ltb c 0 (omega arith))
 holes-once t c (suc n) = go (isHole t n) refl (ℕ-discrete c n) (holes-once t c n)
   where
-    nothing : (k : ℕ) → k + 0 ≡ k
-    nothing k = omega arith
-
     same : (c ≡ n → ⊥) → ltb c n ≡ ltb c (suc n)
     same e = at (decLe (suc c) n)
       where
@@ -222,7 +202,7 @@ holes-once t c (suc n) = go (isHole t n) refl (ℕ-discrete c n) (holes-once t c
     go : (b : Bool) → isHole t n ≡ b → Dec (c ≡ n) → count c (holesBelow t n) ≡ once (ltb c n && isHole t c)
         → count c (pick b (holesBelow t n ++ (n ∷ [])) (holesBelow t n)) ≡ once (ltb c (suc n) && isHole t c)
     go true q (yes e) r = count-snoc c n (holesBelow t n) ∙ rw (r, e, le-ltb n n (omega arith), eq-eqb n n refl, lt-ltb n (suc n) (omega arith), q)
-    go true q (no e) r = count-snoc c n (holesBelow t n) ∙ rw (r, ne-eqb n c (λ q. e (sym q)), same e) (nothing (once (ltb c (suc n) && isHole t c)))
+    go true q (no e) r = count-snoc c n (holesBelow t n) ∙ rw (r, ne-eqb n c (λ q. e (sym q)), same e) (add-zero (once (ltb c (suc n) && isHole t c)))
     go false q (yes e) r = r ∙ rw (e, q, le-ltb n n (omega arith), lt-ltb n (suc n) (omega arith))
     go false q (no e) r = r ∙ rw (same e)
 

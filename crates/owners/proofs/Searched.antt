@@ -10,28 +10,28 @@ use lib.Seq.{length-take-le, getD-take}
 use lib.IntN.{pos}
 use lib.Signed.{ltZ, _≤ℤ_, ≤ℤ-refl}
 use Rattle.laws.specs.Test.{or-false}
+use Rattle.laws.specs.Compare.{lt-no}
 use Rattle.turn.specs.declared.Point.{Point}
 use Rattle.turn.specs.Limits.{maxLinks}
 use Rattle.turn.specs.Points.{before, OnGrid}
-use Rattle.anchor.specs.declared.Anchor.{Anchor}
 use Rattle.table.specs.Table.{Table, contourCount}
-use Rattle.anchor.specs.Anchor.{anchorEdge}
 use Rattle.table.specs.Sound.{Sound}
-use Rattle.anchor.specs.Anchored.{Anchored}
 use Rattle.table.specs.Passing.{contours-few}
+use Rattle.anchor.specs.declared.Anchor.{Anchor}
+use Rattle.anchor.specs.Anchor.{anchorEdge}
+use Rattle.anchor.specs.Anchored.{Anchored}
+use Rattle.anchor.specs.Anchors.{Anchors, listedAnchor}
+use Rattle.anchor.specs.AnchorPositions.{anchor-on-grid, end-on-grid}
 use Rattle.candidates.specs.Candidates.{rightward}
 use Rattle.nearest.specs.Search.{searchUnder}
-use Rattle.anchor.specs.Anchors.{Anchors, listedAnchor}
 use Rattle.nearest.specs.Lists.{giving, Placed}
-use Rattle.laws.specs.Compare.{lt-no}
 use Rattle.nearest.specs.Least.{under-few}
 use Rattle.order.specs.HoleOrder.{goesBefore, precedes, sorted, holes, hole, bindingOrder}
 use Rattle.order.specs.HoleLaws.{Rising, holes-rising, holes-are}
-use Rattle.owners.specs.Owners.{everyContour, contourBelow, giveEach}
 use Rattle.order.specs.HoleLists.{Room, Gathered, Bounded, byAnchor, Ordered, room-for}
-use Rattle.owners.specs.Giving.{giveListed, Listed}
 use Rattle.order.specs.Insertion.{sorted-length, sorted-image, entries}
-use Rattle.anchor.specs.AnchorPositions.{anchor-on-grid, end-on-grid}
+use Rattle.owners.specs.Owners.{everyContour, contourBelow, giveEach}
+use Rattle.owners.specs.Giving.{giveListed, Listed}
 use Rattle.owners.proofs.Gives.{give-same}
 
 -- ---- no contour is mute

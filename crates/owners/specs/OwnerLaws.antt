@@ -12,15 +12,14 @@ use borrow.Author.Tests.{eq-eqb, ne-eqb, eqb-true, lt-ltb}
 use lib.ListN.{length, getD, set, take, replicate, getD-replicate, List·getD-eq-default}
 use lib.Seq.{getD-set-same, getD-set-other, set-out}
 use Rattle.laws.specs.Test.{pick, true≢false}
+use Rattle.laws.specs.Count.{count, count-more, count-most, counted-in}
+use Rattle.laws.specs.Lists.{Place, place-of}
 use Rattle.table.specs.Table.{Table, contourCount, kindOf, hulls, hullCount, droppedOwner}
-use Rattle.table.specs.TableLaws.{hulls-more}
 use Rattle.table.specs.Sound.{Sound}
+use Rattle.order.specs.HoleOrder.{bindingOrder}
+use Rattle.order.specs.OrderLaws.{each-once}
 use Rattle.owners.specs.declared.Given.{Given}
 use Rattle.owners.specs.declared.Given.the-variants.{All, Stuck}
-use Rattle.order.specs.HoleOrder.{bindingOrder}
-use Rattle.laws.specs.Count.{count, counted-in}
-use Rattle.laws.specs.Lists.{Place, place-of}
-use Rattle.order.specs.OrderLaws.{each-once}
 use Rattle.owners.specs.Owners.{Owned, owned, given, firstOwner, listOf, giveEach, contourBelow, searchedOwners, ownersOf}
 
 -- ---- a list of a rule's values
@@ -114,17 +113,10 @@ module _ (under : ℕ → ℕ) (n : ℕ) (some : 0 < n) where
           joined b (r (held-on old c (given (under c) old) b h) q)
 
 -- ---- the first owners
-pub hulls-most : (k : ℕ) (l : List ℕ) → hulls (take k l) ≤ hulls l
-unfolding hulls
-hulls-most zero [] = omega arith
-hulls-most zero (d ∷ l) = omega arith
-hulls-most (suc k) [] = omega arith
-hulls-most (suc k) (d ∷ l) = omega (arith, hulls-most k l)
-
 hull-below : (kinds : List ℕ) (c : ℕ) → c < length kinds → getD kinds c 0 ≡ 0 → firstOwner kinds c < hulls kinds
 hull-below kinds c l e =
-    let m : hulls (take (c + 1) kinds) ≡ hulls (take c kinds) + 1 = hulls-more kinds c l ∙ rw (eq-eqb _ _ e) in
-    rw (eq-eqb _ _ e) (omega (arith, m, hulls-most (c + 1) kinds))
+    let m : hulls (take (c + 1) kinds) ≡ hulls (take c kinds) + 1 = count-more 0 kinds c l ∙ rw (eq-eqb _ _ e) in
+    rw (eq-eqb _ _ e) (omega (arith, m, count-most 0 (c + 1) kinds))
 
 hole-none : (kinds : List ℕ) (c : ℕ) → (getD kinds c 0 ≡ 0 → ⊥) → firstOwner kinds c ≡ droppedOwner
 hole-none kinds c e = rw (ne-eqb _ _ e)

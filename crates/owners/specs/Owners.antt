@@ -8,9 +8,9 @@ use Rattle.laws.specs.Test.{pick}
 use Rattle.table.specs.Table.{Table, contourCount, hulls, hullCount, droppedOwner}
 use Rattle.anchor.specs.Anchor.{anchorEdge}
 use Rattle.nearest.specs.Search.{searchUnder}
+use Rattle.order.specs.HoleOrder.{bindingOrder}
 use Rattle.owners.specs.declared.Given.{Given}
 use Rattle.owners.specs.declared.Given.the-variants.{All, Stuck}
-use Rattle.order.specs.HoleOrder.{bindingOrder}
 
 -- every contour gives edges, with fill above
 abbrev pub everyContour : ℕ → Bool

@@ -11,15 +11,15 @@ use lib.IntN.{pos}
 use lib.ListN.{length, getD}
 use borrow.Author.Tests.{lt-ltb, le-ltb}
 use Rattle.laws.specs.Lowest.{lowest, some, found}
+use Rattle.laws.specs.Fails.{Iff, then, both, ne-fails, or-fails, some-fails}
 use Rattle.turn.specs.Limits.{maxLinks}
 use Rattle.turn.specs.Points.{differ, Coord, OnGrid, Grid}
 use Rattle.turn.specs.declared.Checked.the-variants.{Fine}
+use Rattle.turn.specs.Refusals.{refuses}
 use Rattle.table.specs.Table.{Table, pointCount, point, contourCount, firstOf, lenOf, endOf, kindOf, contourOf, nextIn, previousIn, next}
 use Rattle.table.specs.TableChecks.{misfit, startIn, unended, badContour, tableChecked}
 use Rattle.table.specs.TableLaws.{start-next, next-inside, next-last, previous-first, previous-inside}
-use Rattle.laws.specs.Fails.{Iff, then, both, ne-fails, or-fails, some-fails}
 use Rattle.table.specs.Tests.{fitting, Ranged, Placed, contour-right}
-use Rattle.turn.specs.Refusals.{refuses}
 use Rattle.table.specs.Sound.{Sound}
 
 -- ---- where points stand

@@ -1,12 +1,13 @@
 -- The contour table as it is lent, and what its lists say of a point, of a contour and of the way round it.
 use Prim.Native.Nat.{ℕ, _+_, _*_, _-_, _/_}
 use mathlib.Core.Bool.{Bool}
-use mathlib.Core.List.{List, [], _∷_}
+use mathlib.Core.List.{List}
 use lib.Dec.{eqb, ltb}
 use lib.IntN.{ℤ, pos}
 use lib.ListN.{length, getD, take, drop}
 use Rattle.laws.specs.Test.{pick}
 use Rattle.laws.specs.Lowest.{lowest}
+use Rattle.laws.specs.Count.{count}
 use Rattle.turn.specs.declared.Point.{Point}
 use Rattle.turn.specs.Area.{pointsOf}
 
@@ -75,9 +76,8 @@ abbrev pub isHole : Table → ℕ → Bool
 isHole t c = eqb (kindOf t c) 1
 
 -- how many hulls a list of kinds has
-unfoldable pub hulls : List ℕ → ℕ
-hulls [] = 0
-hulls (k ∷ l) = pick (eqb k 0) 1 0 + hulls l
+abbrev pub hulls : List ℕ → ℕ
+hulls kinds = count 0 kinds
 
 abbrev pub hullCount : Table → ℕ
 hullCount t = hulls (t .kind)

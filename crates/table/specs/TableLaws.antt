@@ -2,19 +2,17 @@
 use Prim.Native.Nat.{ℕ, zero, suc, _+_, _*_, _-_, _≤_, _<_}
 use mathlib.Core.Path.{_≡_, refl, sym, subst}
 use mathlib.Core.Bool.{Bool, true, false}
-use mathlib.Core.List.{List, [], _∷_, _++_}
+use mathlib.Core.List.{List}
 use native.Mathlib.Omega.{arith}
 use native.Mathlib.Numerals.{add-one}
-use native.Mathlib.Nat.{zero-add, add-zero, add-assoc, not-suc-le-zero}
-use lib.Dec.{eqb}
+use native.Mathlib.Nat.{not-suc-le-zero}
 use lib.IntN.{ℤ}
-use lib.ListN.{length, getD, take}
-use lib.Seq.{take-suc}
+use lib.ListN.{length, getD}
 use borrow.Author.Tests.{eq-eqb, ne-eqb}
 use Rattle.laws.specs.Test.{pick}
 use Rattle.turn.specs.declared.Point.{Point}
 use Rattle.turn.specs.Points.{OnGrid, Grid}
-use Rattle.table.specs.Table.{pointAt, nextIn, previousIn, hulls}
+use Rattle.table.specs.Table.{pointAt, nextIn, previousIn}
 use Rattle.table.specs.TableChecks.{startIn}
 
 -- ---- points
@@ -45,22 +43,7 @@ previous-first from to = rw (eq-eqb from from refl)
 pub previous-inside : (from to p : ℕ) → from < p → previousIn from to p ≡ p - 1
 previous-inside from to p h = let n : p ≡ from → ⊥ = λ q. omega arith in rw (ne-eqb p from n)
 
--- ---- hulls
-hulls-append : (s t : List ℕ) → hulls (s ++ t) ≡ hulls s + hulls t
-unfolding hulls
-hulls-append [] t = sym (zero-add _)
-hulls-append (k ∷ s) t = simp (hulls-append s t, add-assoc)
-
--- one contour more
-pub hulls-more : (l : List ℕ) (k : ℕ) → k < length l → hulls (take (k + 1) l) ≡ hulls (take k l) + pick (eqb (getD l k 0) 0) 1 0
-unfolding hulls
-hulls-more l k h = simp (add-one, take-suc l k 0 h, hulls-append, add-zero)
-
-pub no-hulls : (l : List ℕ) → hulls (take 0 l) ≡ 0
-unfolding hulls
-no-hulls [] = refl
-no-hulls (k ∷ l) = refl
-
+-- ---- one hull more, or none
 pub bit-small : (b : Bool) → pick b 1 0 ≤ 1
 bit-small true = omega arith
 bit-small false = omega arith

@@ -1,19 +1,14 @@
 -- What each test of check 10 says, both ways: it fails exactly where the plain fact holds.
 use Prim.Native.Nat.{ℕ, _+_, _/_, _%_, _≤_, _<_}
-use native.Mathlib.Omega.{arith}
-use mathlib.Core.Path.{_≡_, refl}
-use mathlib.Core.Bool.{Bool, true, false, not}
+use mathlib.Core.Path.{_≡_}
+use mathlib.Core.Bool.{true}
 use mathlib.Core.List.{List}
 use lib.IntN.{ℤ}
 use lib.ListN.{length}
-use Rattle.laws.specs.Test.{pick, true≢false}
-use Rattle.laws.specs.Fails.{Iff, Fails, then, lt-fails, ne-fails, not-fails, or-fails, some-fails}
-use Rattle.turn.specs.declared.Point.{Point}
+use Rattle.laws.specs.Fails.{Fails, then, lt-fails, ne-fails, not-fails, or-fails, some-fails}
 use Rattle.turn.specs.Limits.{maxLinks}
 use Rattle.turn.specs.PointOrder.{on-grid}
 use Rattle.turn.specs.Points.{differ, OnGrid}
-use Rattle.turn.specs.declared.Checked.{Checked}
-use Rattle.turn.specs.declared.Checked.the-variants.{Fine, Refused}
 use Rattle.table.specs.Table.{pointAt, previousIn}
 use Rattle.table.specs.TableChecks.{misfit, rangeFault, pointFault, somePointFault, contourFault}
 

@@ -1,11 +1,11 @@
 -- `anchor_fault`: the tests of check 11 for one contour, each by its law.
 use denote.Ref.{now}
-use Rattle.table.specs.Table.{Table, table}
 use native.Mathlib.Omega.{arith}
-use Rattle.anchor.specs.AnchorPositions.{paired}
-use Rattle.table.specs.Passing.{ranges-within}
-use Rattle.anchor.proofs.Answers.{hole-low, anchor-hull, anchor-high-up, anchor-order}
 use borrow.Author.Needs.{needs}
+use Rattle.table.specs.Table.{Table, table}
+use Rattle.table.specs.Passing.{ranges-within}
+use Rattle.anchor.specs.AnchorPositions.{paired}
+use Rattle.anchor.proofs.Answers.{hole-low, anchor-hull, anchor-high-up, anchor-order}
 use Rattle.anchor.proofs.anchor_fault.Statement.{statement}
 use Rattle.anchor.proofs.anchor_fault.Tie as tie
 

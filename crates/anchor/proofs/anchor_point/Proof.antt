@@ -2,9 +2,9 @@
 use mathlib.Core.Path.{ap, _∙_}
 use native.Mathlib.Omega.{arith}
 use denote.Ref.{now}
+use borrow.Author.Needs.{needs}
 use Rattle.table.specs.Table.{pointAt}
 use Rattle.anchor.specs.AnchorPositions.{anchor-high}
-use borrow.Author.Needs.{needs}
 use Rattle.anchor.proofs.anchor_point.Statement.{statement}
 use Rattle.anchor.proofs.anchor_point.Tie as tie
 

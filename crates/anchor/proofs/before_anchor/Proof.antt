@@ -1,8 +1,8 @@
 -- `before_anchor`: by the direction.
 use mathlib.Core.Path.{sym}
 use mathlib.Core.Bool.{true, false}
-use Rattle.anchor.specs.AnchorPositions.{before-anchor}
 use borrow.Author.Needs.{needs}
+use Rattle.anchor.specs.AnchorPositions.{before-anchor}
 use Rattle.anchor.proofs.before_anchor.Statement.{statement}
 use Rattle.anchor.proofs.before_anchor.Tie as tie
 

@@ -1,13 +1,13 @@
 -- `before_last`: the last hole, where there is one, stands at its number.
-use Rattle.turn.specs.Points.{before}
-use Rattle.anchor.specs.Anchor.{anchorPointIn}
-use Rattle.anchor.proofs.Answers.{and-rest}
 use Prim.Native.Nat.{_-_}
 use mathlib.Core.Path.{sym, ap, _∙_}
 use native.Mathlib.Omega.{arith}
 use denote.Ref.{now}
 use borrow.Author.Tests.{lt-ltb}
 use borrow.Author.Needs.{needs}
+use Rattle.turn.specs.Points.{before}
+use Rattle.anchor.specs.Anchor.{anchorPointIn}
+use Rattle.anchor.proofs.Answers.{and-rest}
 use Rattle.anchor.proofs.before_last.Statement.{statement}
 use Rattle.anchor.proofs.before_last.Tie as tie
 

@@ -3,10 +3,10 @@ use Prim.Native.Nat.{_+_, _-_}
 use mathlib.Core.Path.{ap, _∙_}
 use native.Mathlib.Omega.{arith}
 use denote.Ref.{now}
+use borrow.Author.Needs.{needs}
 use Rattle.table.specs.Table.{pointAt}
 use Rattle.table.specs.TableLaws.{grid-read}
 use Rattle.anchor.specs.AnchorPositions.{anchor-high, before-anchor-within, edge-is}
-use borrow.Author.Needs.{needs}
 use Rattle.anchor.proofs.left_bottom_segment_from.Statement.{statement}
 use Rattle.anchor.proofs.left_bottom_segment_from.Tie as tie
 

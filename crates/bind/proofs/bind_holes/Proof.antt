@@ -2,12 +2,11 @@
 use native.Mathlib.Omega.{arith}
 use mathlib.Core.Path.{_≡_, sym}
 use Prim.Native.Nat.{ℕ}
-use lib.ListN.{length}
-use lib.ListN.{take, replicate, length-replicate}
+use lib.ListN.{length, take, replicate, length-replicate}
 use lib.Seq.{length-take-le}
+use borrow.Author.Needs.{needs}
 use Rattle.table.specs.Table.{Table, table}
 use Rattle.table.specs.Passing.{contours-few}
-use borrow.Author.Needs.{needs}
 use Rattle.bind.proofs.bind_holes.Statement.{statement}
 use Rattle.bind.proofs.bind_holes.Tie as tie
 

@@ -2,13 +2,13 @@
 use native.Mathlib.Omega.{arith}
 use mathlib.Core.Path.{_≡_}
 use lib.ListN.{getD}
+use borrow.Author.Needs.{needs}
 use Rattle.turn.specs.declared.Point.{Point}
 use Rattle.turn.specs.Points.{OnGrid}
 use Rattle.table.specs.Table.{pointAt}
 use Rattle.table.specs.TableLaws.{grid-read}
 use Rattle.candidates.specs.EdgeLists.{Lists, lists}
 use Rattle.candidates.proofs.Listing.{edge-right, edge-left}
-use borrow.Author.Needs.{needs}
 use Rattle.candidates.proofs.listed_edge.Statement.{statement}
 use Rattle.candidates.proofs.listed_edge.Tie as tie
 

@@ -1,6 +1,6 @@
 -- `is_nearer`: the gaps by cross products, then the tie.
-use Rattle.edges.proofs.Num.{nearer-yes, nearer-no, nearer-rest}
 use borrow.Author.Needs.{needs}
+use Rattle.edges.proofs.Num.{nearer-yes, nearer-no, nearer-rest}
 use Rattle.edges.proofs.is_nearer.Statement.{statement}
 use Rattle.edges.proofs.is_nearer.Tie as tie
 

@@ -1,6 +1,6 @@
 -- `lies_under`: by its three ways out.
-use Rattle.edges.proofs.Num.{under-yes, under-no, under-on}
 use borrow.Author.Needs.{needs}
+use Rattle.edges.proofs.Num.{under-yes, under-no, under-on}
 use Rattle.edges.proofs.lies_under.Statement.{statement}
 use Rattle.edges.proofs.lies_under.Tie as tie
 

@@ -2,12 +2,12 @@
 use Prim.Native.Nat.{_<_}
 use native.Mathlib.Omega.{arith}
 use lib.ListN.{length}
-use Rattle.lookup.proofs.Answers.{lookup-past, lookup-refused, lookup-found}
-use Rattle.table.specs.Passing.{passes-sound}
 use mathlib.Core.Path.{sym, _∙_}
 use denote.Ref.{now}
-use Rattle.table.specs.Table.{Table, table}
 use borrow.Author.Needs.{needs}
+use Rattle.table.specs.Passing.{passes-sound}
+use Rattle.table.specs.Table.{Table, table}
+use Rattle.lookup.proofs.Answers.{lookup-past, lookup-refused, lookup-found}
 use Rattle.lookup.proofs.lookup.Statement.{statement}
 use Rattle.lookup.proofs.lookup.Tie as tie
 

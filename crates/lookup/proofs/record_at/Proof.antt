@@ -1,11 +1,11 @@
 -- `record_at`: the two ways out, each by its law.
 use denote.Ref.{now}
-use Rattle.table.specs.Table.{Table, table}
 use borrow.Author.Tests.{not-false}
 use mathlib.Core.List.{[]}
-use Rattle.laws.specs.Test.{not-is}
-use Rattle.lookup.proofs.Answers.{owner-wrong, owner-fine}
 use borrow.Author.Needs.{needs}
+use Rattle.laws.specs.Test.{not-is}
+use Rattle.table.specs.Table.{Table, table}
+use Rattle.lookup.proofs.Answers.{owner-wrong, owner-fine}
 use Rattle.lookup.proofs.record_at.Statement.{statement}
 use Rattle.lookup.proofs.record_at.Tie as tie
 

@@ -3,12 +3,12 @@ use native.Mathlib.Omega.{arith}
 use Prim.Native.Nat.{ℕ}
 use lib.ListN.{getD-replicate}
 use mathlib.Core.Bool.{Bool}
+use borrow.Author.Needs.{needs}
 use Rattle.table.specs.Table.{Table, table}
-use Rattle.candidates.specs.Candidates.{rightward}
 use Rattle.anchor.specs.Anchors.{Anchors, anchors}
+use Rattle.candidates.specs.Candidates.{rightward}
 use Rattle.candidates.specs.EdgeListLaws.{ranges-of, fit, of-few}
 use Rattle.nearest.proofs.Same.{flags, best-numbers, searched}
-use borrow.Author.Needs.{needs}
 use Rattle.nearest.proofs.contours_under.Statement.{statement}
 use Rattle.nearest.proofs.contours_under.Tie as tie
 

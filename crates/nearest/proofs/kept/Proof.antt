@@ -1,8 +1,8 @@
 -- `kept`: by its four ways out.
 use mathlib.Core.Path.{sym, _∙_}
 use borrow.Author.Tests.{not-true, not-false}
-use Rattle.nearest.proofs.Offers.{kept-not, kept-first, kept-nearer, kept-farther}
 use borrow.Author.Needs.{needs}
+use Rattle.nearest.proofs.Offers.{kept-not, kept-first, kept-nearer, kept-farther}
 use Rattle.nearest.proofs.kept.Statement.{statement}
 use Rattle.nearest.proofs.kept.Tie as tie
 

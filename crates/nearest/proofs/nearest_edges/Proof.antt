@@ -1,8 +1,8 @@
 -- `nearest_edges`: edge by edge, as `Rounds` says.
 use native.Mathlib.Omega.{arith}
 use Prim.Native.Nat.{_-_}
-use Rattle.candidates.specs.EdgeLists.{lists}
 use Rattle.anchor.specs.Anchors.{anchors}
+use Rattle.candidates.specs.EdgeLists.{lists}
 use Rattle.nearest.proofs.Offers.{Rounds, rounds-start, rounds-numbers, rounds-mute, rounds-again, rounds-end}
 use Rattle.nearest.proofs.nearest_edges.Statement.{statement}
 use Rattle.nearest.proofs.nearest_edges.Tie as tie

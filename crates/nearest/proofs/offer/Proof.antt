@@ -2,8 +2,8 @@
 use native.Mathlib.Omega.{arith}
 use Prim.Native.Nat.{_-_}
 use lib.ListN.{getD}
-use Rattle.candidates.specs.EdgeLists.{Lists, lists}
 use Rattle.anchor.specs.Anchors.{Anchors, anchors}
+use Rattle.candidates.specs.EdgeLists.{Lists, lists}
 use Rattle.nearest.proofs.Offers.{Offering, Held, held, kept-at, offer-back, offer-start, offer-past, offer-more, offer-end}
 use Rattle.nearest.proofs.offer.Statement.{statement}
 use Rattle.nearest.proofs.offer.Tie as tie

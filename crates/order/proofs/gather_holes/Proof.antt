@@ -6,9 +6,9 @@ use Rattle.turn.specs.Limits.{maxLinks}
 use Rattle.table.specs.Table.{Table, table}
 use Rattle.table.specs.Passing.{ranges-within, contours-few}
 use Rattle.anchor.specs.Anchors.{Anchors, anchors}
-use Rattle.order.proofs.Gathers.{Gathering, gather-start, gather-skip, gather-more, gather-end}
 use Rattle.anchor.specs.AnchorPositions.{on-anchor}
 use Rattle.order.specs.HoleLists.{room-for}
+use Rattle.order.proofs.Gathers.{Gathering, gather-start, gather-skip, gather-more, gather-end}
 use Rattle.order.proofs.gather_holes.Statement.{statement}
 use Rattle.order.proofs.gather_holes.Tie as tie
 

@@ -1,7 +1,7 @@
 -- `goes_before`: by its three ways out.
 use mathlib.Core.Path.{sym, _∙_}
-use Rattle.order.proofs.Insertions.{goes-first, goes-last, goes-by-angle}
 use borrow.Author.Needs.{needs}
+use Rattle.order.proofs.Insertions.{goes-first, goes-last, goes-by-angle}
 use Rattle.order.proofs.goes_before.Statement.{statement}
 use Rattle.order.proofs.goes_before.Tie as tie
 

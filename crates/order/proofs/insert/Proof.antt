@@ -2,10 +2,9 @@
 use native.Mathlib.Omega.{arith}
 use mathlib.Core.Path.{refl}
 use Prim.Native.Nat.{ℕ, _-_, _<_}
-use lib.ListN.{getD}
+use lib.ListN.{getD, length-set}
 use mathlib.Core.Bool.{Bool}
 use mathlib.Core.List.{List}
-use lib.ListN.{length-set}
 use Rattle.anchor.specs.Anchors.{Anchors, anchors}
 use Rattle.order.specs.HoleLists.{byAnchor}
 use Rattle.order.proofs.Insertions.{Shifted, shift-start, shift-more, shift-stop, shift-end, went}

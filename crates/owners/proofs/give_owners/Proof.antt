@@ -2,8 +2,7 @@
 use native.Mathlib.Omega.{arith}
 use mathlib.Core.Path.{_≡_, refl, _∙_}
 use Prim.Native.Nat.{_-_}
-use lib.ListN.{length, getD}
-use lib.ListN.{drop, take, length-set}
+use lib.ListN.{length, getD, drop, take, length-set}
 use Rattle.owners.specs.Giving.{giveListed}
 use Rattle.owners.proofs.Gives.{give-end, give-stuck, give-more}
 use Rattle.owners.proofs.give_owners.Statement.{statement}

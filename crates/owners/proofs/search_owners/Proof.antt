@@ -3,13 +3,13 @@ use native.Mathlib.Omega.{arith}
 use mathlib.Core.Path.{_∙_}
 use Prim.Native.Nat.{ℕ}
 use mathlib.Core.List.{List}
+use borrow.Author.Needs.{needs}
 use Rattle.turn.specs.Limits.{maxLinks}
 use Rattle.table.specs.Table.{Table, table}
-use Rattle.anchor.specs.Anchors.{Anchors, anchors}
 use Rattle.table.specs.Passing.{contours-few}
+use Rattle.anchor.specs.Anchors.{Anchors, anchors}
 use Rattle.order.specs.HoleLists.{Room}
 use Rattle.owners.proofs.Searched.{few-holes, bounded, placed, listed, gave}
-use borrow.Author.Needs.{needs}
 use Rattle.owners.proofs.search_owners.Statement.{statement}
 use Rattle.owners.proofs.search_owners.Tie as tie
 
