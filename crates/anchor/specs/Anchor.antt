@@ -7,7 +7,7 @@ use Rattle.laws.specs.Test.{pick}
 use Rattle.turn.specs.declared.Point.{Point}
 use Rattle.turn.specs.Points.{clockwise, fromTo}
 use Rattle.turn.specs.declared.Vector.{Vector}
-use Rattle.table.specs.Table.{Table, pointAt, firstOf, endOf, nextIn, previousIn}
+use Rattle.table.specs.Table.{Table, pointIn, firstOf, rangeEnd, nextIn, previousIn}
 use Rattle.anchor.specs.declared.Anchor.{Anchor}
 
 -- "contour point 1 for clockwise output, else point 0", of a contour whose first point stands at a position
@@ -15,7 +15,7 @@ abbrev pub anchorPositionIn : ℕ → Bool → ℕ
 anchorPositionIn from cw = from + pick cw 1 0
 
 abbrev pub anchorPointIn : List ℤ → ℕ → Bool → Point
-anchorPointIn points from cw = pointAt points (anchorPositionIn from cw)
+anchorPointIn points from cw = pointIn points (anchorPositionIn from cw)
 
 abbrev pub anchorPosition : Table → Bool → ℕ → ℕ
 anchorPosition t cw c = anchorPositionIn (firstOf t c) cw
@@ -29,19 +29,19 @@ abbrev pub lowerEnd : Point → Point → Point → Point
 lowerEnd at p q = pick (clockwise at p q) q p
 
 -- "the lower of the two edges at that position": at position p of the contour that stands from a position up to another
-abbrev pub edgeAt : List ℤ → ℕ → ℕ → ℕ → Anchor
-edgeAt points from to p =
+abbrev pub lowerEdgeAt : List ℤ → ℕ → ℕ → ℕ → Anchor
+lowerEdgeAt points from to p =
     record {
-      at = pointAt points p;
-      to = lowerEnd (pointAt points p) (pointAt points (nextIn from to p)) (pointAt points (previousIn from to p));
+      at = pointIn points p;
+      to = lowerEnd (pointIn points p) (pointIn points (nextIn from to p)) (pointIn points (previousIn from to p));
     }
 
 -- the anchor edge of the contour that stands from a position up to another
 abbrev pub anchorEdgeIn : List ℤ → ℕ → ℕ → Bool → Anchor
-anchorEdgeIn points from to cw = edgeAt points from to (anchorPositionIn from cw)
+anchorEdgeIn points from to cw = lowerEdgeAt points from to (anchorPositionIn from cw)
 
 abbrev pub anchorEdge : Table → Bool → ℕ → Anchor
-anchorEdge t cw c = anchorEdgeIn (t .points) (firstOf t c) (endOf t c) cw
+anchorEdge t cw c = anchorEdgeIn (t .points) (firstOf t c) (rangeEnd t c) cw
 
 -- the way of the anchor edge
 abbrev pub anchorWay : Anchor → Vector

@@ -18,7 +18,7 @@ use Rattle.turn.specs.Points.{before, differ, fromTo, cross, dot, clockwise}
 use Rattle.turn.specs.Angle.{sameDirection}
 use Rattle.turn.specs.Directions.{cross-anti, cross-self}
 use Rattle.turn.specs.PointOrder.{differ-sym}
-use Rattle.table.specs.Table.{Table, point, contourCount, firstOf, endOf, isHole, next, previous}
+use Rattle.table.specs.Table.{Table, point, contourCount, firstOf, rangeEnd, isHole, next, previous}
 use Rattle.table.specs.Sound.{Sound}
 use Rattle.table.specs.Passing.{next-within, previous-within, next-previous}
 use Rattle.anchor.specs.Anchor.{anchorPosition, anchorPoint, lowerEnd, anchorEdge}
@@ -134,19 +134,19 @@ module _ (t : Table) (cw : Bool) (s : Sound t) (a : Anchored t cw) (c : ℕ) (l 
   low : firstOf t c ≤ k
   low = anchor-low (firstOf t c) cw
 
-  high : k < endOf t c
+  high : k < rangeEnd t c
   high = omega (arith, anchor-high (firstOf t c) cw, s .long c l)
 
   after-ahead : before (anchorPoint t cw c) after ≡ true
   after-ahead =
-      let w = next-within (firstOf t c) (endOf t c) k low high in
+      let w = next-within (firstOf t c) (rangeEnd t c) k low high in
       ahead-of (anchorPoint t cw c) after (s .neighbours c k l low high) (a .least c (next t c k) l h (w .0) (w .1))
 
   earlier-ahead : before (anchorPoint t cw c) earlier ≡ true
   earlier-ahead =
-      let w = previous-within (firstOf t c) (endOf t c) k low high in
+      let w = previous-within (firstOf t c) (rangeEnd t c) k low high in
       let d = s .neighbours c (previous t c k) l (w .0) (w .1) in
-      let e = subst (λ (x : ℕ). differ earlier (point t x) ≡ true) (next-previous (firstOf t c) (endOf t c) k low high) d in
+      let e = subst (λ (x : ℕ). differ earlier (point t x) ≡ true) (next-previous (firstOf t c) (rangeEnd t c) k low high) d in
       ahead-of (anchorPoint t cw c) earlier (differ-sym (anchorPoint t cw c) earlier ∙ e) (a .least c (previous t c k) l h (w .0) (w .1))
 
   -- a hole's anchor edge runs rightward or straight up

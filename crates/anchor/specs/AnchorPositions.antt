@@ -9,7 +9,7 @@ use lib.IntN.{ℤ}
 use Rattle.laws.specs.Test.{pick}
 use Rattle.turn.specs.declared.Point.{Point}
 use Rattle.turn.specs.Points.{OnGrid, clockwise}
-use Rattle.table.specs.Table.{pointAt, nextIn, previousIn, Table, contourCount, firstOf, endOf}
+use Rattle.table.specs.Table.{pointIn, nextIn, previousIn, Table, contourCount, firstOf, rangeEnd}
 use Rattle.table.specs.TableLaws.{next-inside, previous-first, previous-inside, grid-point}
 use Rattle.table.specs.Sound.{Sound}
 use Rattle.table.specs.Passing.{ranges-within, next-within, previous-within}
@@ -43,11 +43,11 @@ before-anchor-within from len false h = rw (before-anchor from len false) (omega
 
 -- the anchor edge from its parts
 module _ (points : List ℤ) (from len : ℕ) (cw : Bool) (h : 3 ≤ len) (at n p to : Point) (a : at ≡ anchorPointIn points from cw)
-    (i : n ≡ pointAt points (anchorPositionIn from cw + 1)) (j : p ≡ pointAt points (previousIn from (from + len) (anchorPositionIn from cw))) (e : to ≡ lowerEnd at n p) where
+    (i : n ≡ pointIn points (anchorPositionIn from cw + 1)) (j : p ≡ pointIn points (previousIn from (from + len) (anchorPositionIn from cw))) (e : to ≡ lowerEnd at n p) where
   to-is : to ≡ anchorEdgeIn points from (from + len) cw .to
   to-is =
       e ∙ ap (λ (x : Point). lowerEnd x n p) a
-      ∙ ap₂ (lowerEnd (anchorPointIn points from cw)) (i ∙ ap (pointAt points) (sym (after-anchor from len cw h))) j
+      ∙ ap₂ (lowerEnd (anchorPointIn points from cw)) (i ∙ ap (pointIn points) (sym (after-anchor from len cw h))) j
 
   pub edge-is : _≡_ {A = Anchor} (record { at = at; to = to }) (anchorEdgeIn points from (from + len) cw)
   edge-is = λ k. record { at = a k; to = to-is k }
@@ -65,7 +65,7 @@ module _ (t : Table) (s : Sound t) (cw : Bool) (c : ℕ) (l : c < contourCount t
   from = firstOf t c
 
   abbrev to : ℕ
-  to = endOf t c
+  to = rangeEnd t c
 
   abbrev at : ℕ
   at = anchorPositionIn from cw
@@ -73,7 +73,7 @@ module _ (t : Table) (s : Sound t) (cw : Bool) (c : ℕ) (l : c < contourCount t
   inside : at < to
   inside = omega (arith, anchor-high from cw, s .long c l)
 
-  point-on-grid : (p : ℕ) → p < to → OnGrid (pointAt (t .points) p)
+  point-on-grid : (p : ℕ) → p < to → OnGrid (pointIn (t .points) p)
   point-on-grid p h = grid-point (t .points) p (s .grid) (omega (arith, ranges-within t s c l))
 
   pub anchor-on-grid : OnGrid (anchorEdge t cw c .at)
@@ -81,8 +81,8 @@ module _ (t : Table) (s : Sound t) (cw : Bool) (c : ℕ) (l : c < contourCount t
 
   pub end-on-grid : OnGrid (anchorEdge t cw c .to)
   end-on-grid =
-      on-either (clockwise (pointAt (t .points) at) (pointAt (t .points) (nextIn from to at)) (pointAt (t .points) (previousIn from to at)))
-      (pointAt (t .points) (nextIn from to at)) (pointAt (t .points) (previousIn from to at))
+      on-either (clockwise (pointIn (t .points) at) (pointIn (t .points) (nextIn from to at)) (pointIn (t .points) (previousIn from to at)))
+      (pointIn (t .points) (nextIn from to at)) (pointIn (t .points) (previousIn from to at))
       (point-on-grid (nextIn from to at) (next-within from to at (anchor-low from cw) inside .1))
       (point-on-grid (previousIn from to at) (previous-within from to at (anchor-low from cw) inside .1))
 

@@ -15,7 +15,7 @@ use Rattle.turn.specs.PointOrder.{before-irreflexive, not-before-transitive}
 use Rattle.turn.specs.declared.Checked.the-variants.{Fine}
 use Rattle.turn.specs.Refusals.{refuses}
 use Rattle.table.specs.Table.{Table, point, contourCount, firstOf, lenOf, isHole}
-use Rattle.anchor.specs.AnchorChecks.{holeBefore, outOfOrder, badAnchor, anchorsChecked}
+use Rattle.anchor.specs.AnchorChecks.{holeBefore, beforePreviousHole, badAnchor, anchorsChecked}
 use Rattle.anchor.specs.Anchor.{anchorPoint}
 use Rattle.anchor.specs.Anchored.{Anchored}
 
@@ -55,7 +55,7 @@ module _ (t : Table) (cw : Bool) where
   Least c = (k : ℕ) → k < lenOf t c → before (point t (firstOf t c + k)) (anchorPoint t cw c) ≡ false
 
   abbrev Fit : ℕ → Type 0
-  Fit c = isHole t c ≡ true → (Least c) × (outOfOrder t cw c ≡ false)
+  Fit c = isHole t c ≡ true → (Least c) × (beforePreviousHole t cw c ≡ false)
 
   parts : Iff (anchorsChecked t cw ≡ Fine) ((c : ℕ) → c < contourCount t → Fit c)
   unfolding anchorsChecked

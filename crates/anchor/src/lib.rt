@@ -37,7 +37,7 @@ fn anchor_point(points: &[i32], from: usize, clockwise: bool) -> Point
     requires { ⌜ (from + 2) * 2 ≤ length (now points) ⌝ }
     ensures { λ r. ⌜ r ≡ anchorPointIn (now (points .entry)) from clockwise ⌝ }
 {
-    table::point_at(points, anchor_position(from, clockwise))
+    table::point_in(points, anchor_position(from, clockwise))
 }
 
 // Whether some point of a contour is before the anchor.
@@ -47,7 +47,7 @@ fn not_least(points: &[i32], from: usize, len: usize, anchor: Point) -> bool
 {
     let mut k = 0;
     while k < len {
-        if turn::before(table::point_at(points, from + k), anchor) {
+        if turn::before(table::point_in(points, from + k), anchor) {
             return true;
         }
         k += 1;
@@ -145,8 +145,8 @@ pub fn left_bottom_segment_from(points: &[i32], from: usize, len: usize, clockwi
     ensures { λ r. ⌜ r ≡ anchorEdgeIn (now (points .entry)) from (from + len) clockwise ⌝ }
 {
     let at = anchor_point(points, from, clockwise);
-    let next = table::point_at(points, anchor_position(from, clockwise) + 1);
-    let previous = table::point_at(points, before_anchor(from, len, clockwise));
+    let next = table::point_in(points, anchor_position(from, clockwise) + 1);
+    let previous = table::point_in(points, before_anchor(from, len, clockwise));
     Anchor {
         at: at,
         to: lower_end(at, next, previous),

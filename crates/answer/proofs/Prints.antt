@@ -21,7 +21,7 @@ use Rattle.bind.specs.declared.Binding.the-variants.{Bound, Refused}
 use Rattle.owners.specs.declared.Given.{Given}
 use Rattle.owners.specs.declared.Given.the-variants.{All, Stuck}
 use Rattle.owners.specs.Owners.{Owned, ownersOf}
-use Rattle.bind.specs.Outcome.{Outcome, outcome, written, droppedOf, handedBy, handed, boundAfter, bound}
+use Rattle.bind.specs.Outcome.{Outcome, outcome, overFront, droppedOf, handedBy, handed, boundAfter, bound}
 use Rattle.print.specs.Room.{maxContours, Ranges, Printable}
 use Rattle.print.specs.Write.{Wrote}
 use Rattle.print.specs.Answer as print
@@ -62,14 +62,14 @@ abbrev MayPrint : Table → Binding → List ℕ → Type 0
 MayPrint t (Bound shapes dropped) owner = Printable (printTable t owner) (totalsOf t shapes dropped)
 MayPrint t (Refused number place) owner = Unit
 
-written-long : (owners buffer : List ℕ) → length buffer ≤ length (written owners buffer)
+written-long : (owners buffer : List ℕ) → length buffer ≤ length (overFront owners buffer)
 written-long owners buffer = omega (arith, length-append owners (drop (length owners) buffer), length-drop (length owners) buffer)
 
 module _ (t : Table) (cw : Bool) (buffer : List ℕ) where
   handed-may : (s : Sound t) → contourCount t ≤ length buffer → (a : Given) (owners : List ℕ)
       → MayPrint t (handedBy t a owners buffer .answer) (handedBy t a owners buffer .owner)
   handed-may s r All owners =
-      sound-printable t (written owners buffer) (hullCount t) (droppedOf t) s (omega (arith, written-long owners buffer))
+      sound-printable t (overFront owners buffer) (hullCount t) (droppedOf t) s (omega (arith, written-long owners buffer))
       (omega (arith, hulls-few (t .kind), s .kind-long))
       (dropped-few t)
   handed-may s r (Stuck c) owners = tt

@@ -7,7 +7,7 @@ use native.Mathlib.Numerals.{add-one}
 use native.Mathlib.Nat.{zero-add}
 use lib.ListN.{length, getD, set, length-set, replicate, length-replicate, getD-replicate}
 use lib.Seq.{paste, paste-zero, paste-suc, take-all}
-use Rattle.bind.specs.Outcome.{written}
+use Rattle.bind.specs.Outcome.{overFront}
 
 -- ---- `copy`: the first i numbers of `from` stand in front of the old tail
 pub record Copying (old new from : List ℕ) (i : ℕ) : Type 0 where
@@ -26,7 +26,7 @@ module _ (old new from : List ℕ) (i : ℕ) (c : Copying old new from i) where
     is = let z : 0 + i ≡ i = omega arith in rw (c .is, add-one i) (ap (λ (j : ℕ). set (paste old 0 from i) j (getD from i 0)) (sym z) ∙ paste-suc old 0 from i 0 (rw z h) k);
   }
 
-  pub copy-end : length from ≤ i → new ≡ written from old
+  pub copy-end : length from ≤ i → new ≡ overFront from old
   copy-end h =
       let q : i ≡ length from = omega (arith, c .on) in
       c .is ∙ rw (q, zero-add (length from), take-all (length from) from (omega arith))

@@ -20,9 +20,9 @@ use Rattle.anchor.specs.Anchoring.{passes-anchored}
 use Rattle.order.specs.HoleOrder.{bindingOrder}
 use Rattle.owners.specs.declared.Given.{Given}
 use Rattle.owners.specs.declared.Given.the-variants.{All, Stuck}
-use Rattle.owners.specs.Owners.{contourBelow, firstOwner, listOf, Owned, owned, giveEach, searchedOwners, ownersOf}
+use Rattle.owners.specs.Owners.{contourBelow, firstOwner, tabulate, Owned, owned, giveEach, searchedOwners, ownersOf}
 use Rattle.bind.specs.declared.Binding.the-variants.{Bound, Refused}
-use Rattle.bind.specs.Outcome.{droppedOf, Outcome, outcome, written, handed, boundAfter, bound, delivered}
+use Rattle.bind.specs.Outcome.{droppedOf, Outcome, outcome, overFront, handed, boundAfter, bound, delivered}
 
 -- ---- the ways out of `check`
 module _ (t : Table) (owners : ℕ) (cw : Bool) where
@@ -33,16 +33,16 @@ module _ (t : Table) (owners : ℕ) (cw : Bool) where
   both-at n p e = rw e
 
 -- ---- the ways out of `bind_in`
-module _ (t : Table) (s : Sound t) (cw : Bool) (numbers own owner : List ℕ) (r : Given) (n : numbers ≡ listOf (firstOwner (t .kind)) (length (t .kind)))
+module _ (t : Table) (s : Sound t) (cw : Bool) (numbers own owner : List ℕ) (r : Given) (n : numbers ≡ tabulate (firstOwner (t .kind)) (length (t .kind)))
     (e : owned r own ≡ giveEach (contourBelow t cw) (bindingOrder t cw) numbers) where
   found : searchedOwners t cw ≡ owned r own
-  found = ap (λ (k : ℕ). giveEach (contourBelow t cw) (bindingOrder t cw) (listOf (firstOwner (t .kind)) k)) (sym (s .kind-long))
+  found = ap (λ (k : ℕ). giveEach (contourBelow t cw) (bindingOrder t cw) (tabulate (firstOwner (t .kind)) k)) (sym (s .kind-long))
       ∙ ap (giveEach (contourBelow t cw) (bindingOrder t cw)) (sym n) ∙ sym e
 
   pub deliver-stuck : (c : ℕ) → r ≡ Stuck c → owned (Stuck c) owner ≡ delivered (searchedOwners t cw) owner
   deliver-stuck c q = rw (found, q)
 
-  pub deliver-all : (new : List ℕ) → r ≡ All → new ≡ written own owner → owned All new ≡ delivered (searchedOwners t cw) owner
+  pub deliver-all : (new : List ℕ) → r ≡ All → new ≡ overFront own owner → owned All new ≡ delivered (searchedOwners t cw) owner
   deliver-all new q w = rw (found, q, w)
 
 -- ---- the ways out of `bind_sound`
@@ -66,10 +66,10 @@ module _ (t : Table) (cw : Bool) (buffer new : List ℕ) where
   unfolding ownersOf
   one-hull h = rw h
 
-  pub bound-none : hullCount t ≡ 0 → new ≡ written (replicate (contourCount t) droppedOwner) buffer → outcome (Bound 0 (contourCount t)) new ≡ handed t (ownersOf t cw) buffer
+  pub bound-none : hullCount t ≡ 0 → new ≡ overFront (replicate (contourCount t) droppedOwner) buffer → outcome (Bound 0 (contourCount t)) new ≡ handed t (ownersOf t cw) buffer
   bound-none h w = subst (λ (o : Owned). outcome (Bound 0 (contourCount t)) new ≡ handed t o buffer) (sym (no-hull h)) (rw (h, w))
 
-  pub bound-one : hullCount t ≡ 1 → new ≡ written (replicate (contourCount t) 0) buffer → outcome (Bound 1 0) new ≡ handed t (ownersOf t cw) buffer
+  pub bound-one : hullCount t ≡ 1 → new ≡ overFront (replicate (contourCount t) 0) buffer → outcome (Bound 1 0) new ≡ handed t (ownersOf t cw) buffer
   bound-one h w = subst (λ (o : Owned). outcome (Bound 1 0) new ≡ handed t o buffer) (sym (one-hull h)) (rw (h, w))
 
   module _ (k : ℕ) (h : hullCount t ≡ k) (z : k ≡ 0 → ⊥) (o : k ≡ 1 → ⊥) (r : Given) (e : owned r new ≡ delivered (searchedOwners t cw) buffer) where

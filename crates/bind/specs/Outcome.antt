@@ -28,12 +28,12 @@ abbrev pub outcome : Binding → List ℕ → Outcome
 outcome b l = record { answer = b; owner = l }
 
 -- "An owner buffer longer than needed keeps its tail."
-abbrev pub written : List ℕ → List ℕ → List ℕ
-written owners buffer = owners ++ drop (length owners) buffer
+abbrev pub overFront : List ℕ → List ℕ → List ℕ
+overFront owners buffer = owners ++ drop (length owners) buffer
 
 -- "After 1 to 7 and 10 to 12 all lent memory is as before the call."
 abbrev pub handedBy : Table → Given → List ℕ → List ℕ → Outcome
-handedBy t All owners buffer = outcome (Bound (hullCount t) (droppedOf t)) (written owners buffer)
+handedBy t All owners buffer = outcome (Bound (hullCount t) (droppedOf t)) (overFront owners buffer)
 handedBy t (Stuck c) owners buffer = outcome (Refused 12 c) buffer
 
 abbrev pub handed : Table → Owned → List ℕ → Outcome
@@ -47,17 +47,17 @@ abbrev pub bound : Table → Bool → List ℕ → Outcome
 bound t cw buffer = boundAfter (bothChecked t (length buffer) cw) t cw buffer
 
 -- ---- document 01's number and place for each answer: 0 is done
-abbrev pub numberOf : Binding → ℕ
-numberOf (Bound shapes dropped) = 0
-numberOf (Refused number at) = number
+abbrev pub bindingNumber : Binding → ℕ
+bindingNumber (Bound shapes dropped) = 0
+bindingNumber (Refused number at) = number
 
-abbrev pub placeOf : Binding → ℕ
-placeOf (Bound shapes dropped) = 0
-placeOf (Refused number at) = at
+abbrev pub bindingPlace : Binding → ℕ
+bindingPlace (Bound shapes dropped) = 0
+bindingPlace (Refused number at) = at
 
 -- on success the owners stand in front of the old tail; after a refusal nothing has changed
 abbrev pub deliveredBy : Given → List ℕ → List ℕ → Owned
-deliveredBy All owners old = owned All (written owners old)
+deliveredBy All owners old = owned All (overFront owners old)
 deliveredBy (Stuck c) owners old = owned (Stuck c) old
 
 abbrev pub delivered : Owned → List ℕ → Owned

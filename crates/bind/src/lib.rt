@@ -9,7 +9,7 @@ ghost use Rattle.table.specs.Sound.{Sound};
 ghost use Rattle.anchor.specs.AnchorChecks.{bothChecked};
 ghost use Rattle.anchor.specs.Anchored.{Anchored};
 ghost use Rattle.owners.specs.Owners.{owned, searchedOwners, ownersOf};
-ghost use Rattle.bind.specs.Outcome.{outcome, written, handed, bound, delivered};
+ghost use Rattle.bind.specs.Outcome.{outcome, overFront, handed, bound, delivered};
 
 // What binding answers: how many shapes there are and how many holes were dropped, or the number and the place of a refusal.
 pub enum Binding {
@@ -20,7 +20,7 @@ pub enum Binding {
 // The numbers of `from`, in front of the old tail.
 fn copy(from: &[u16], to: &mut [u16])
     requires { ⌜ length (now from) ≤ length (now to) ⌝ }
-    ensures { λ _. ⌜ now (to .exit) ≡ written (now (from .entry)) (now (to .entry)) ⌝ }
+    ensures { λ _. ⌜ now (to .exit) ≡ overFront (now (from .entry)) (now (to .entry)) ⌝ }
 {
     let mut i = 0;
     while i < from.len() {
@@ -32,7 +32,7 @@ fn copy(from: &[u16], to: &mut [u16])
 // One number n times, in front of the old tail.
 fn fill(owner: &mut [u16], n: usize, number: u16)
     requires { ⌜ n ≤ length (now owner) ⌝ }
-    ensures { λ _. ⌜ now (owner .exit) ≡ written (replicate n number) (now (owner .entry)) ⌝ }
+    ensures { λ _. ⌜ now (owner .exit) ≡ overFront (replicate n number) (now (owner .entry)) ⌝ }
 {
     let mut i = 0;
     while i < n {

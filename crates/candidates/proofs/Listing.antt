@@ -12,12 +12,12 @@ use borrow.Author.Tests.{lt-ltb, le-ltb}
 use Rattle.laws.specs.Lists.{put-below}
 use Rattle.laws.specs.Test.{pick}
 use Rattle.turn.specs.declared.Point.{Point}
-use Rattle.table.specs.Table.{pointAt, Table, firstOf, endOf, contourOf, nextIn, next}
+use Rattle.table.specs.Table.{pointIn, Table, firstOf, rangeEnd, contourOf, nextIn, next}
 use Rattle.table.specs.Passing.{apart, contour-is}
-use Rattle.candidates.specs.EdgeLists.{Lists, listedEdge, Ranges, ranges, ContourListed, Round}
+use Rattle.candidates.specs.EdgeLists.{EdgeLists, listedEdge, Ranges, ranges, ContourListed, Round}
 
 -- ---- the ways out of `listed_edge`
-module _ (g : Lists) (k : ℕ) (p q : Point) (ep : p ≡ pointAt (g .points) k) (eq : q ≡ pointAt (g .points) (getD (g .next) k 0)) where
+module _ (g : EdgeLists) (k : ℕ) (p q : Point) (ep : p ≡ pointIn (g .points) k) (eq : q ≡ pointIn (g .points) (getD (g .next) k 0)) where
   abbrev contour : ℕ
   contour = getD (g .of) k 0
 
@@ -75,26 +75,26 @@ module _ (first len : List ℕ) (r : Ranges first len) where
   abbrev t : Table
   t = ranges first len
 
-  at-home : (c k : ℕ) → c < length first → firstOf t c ≤ k → k < endOf t c → contourOf t k ≡ c
+  at-home : (c k : ℕ) → c < length first → firstOf t c ≤ k → k < rangeEnd t c → contourOf t k ≡ c
   at-home c k h f e = contour-is t (r .follow) k c (record { below = h; from = f; to = e })
 
   pub round-start : (next of : List ℕ) → Round t 0 next of
   round-start next of = record { of-is = λ b k l. absurd (not-suc-le-zero l); next-is = λ b k l. absurd (not-suc-le-zero l) }
 
-  pub round-more : (c : ℕ) (next₀ of₀ next₁ of₁ : List ℕ) → c < length first → Round t c next₀ of₀ → ContourListed c (firstOf t c) (endOf t c) next₀ of₀ next₁ of₁ → Round t (c + 1) next₁ of₁
+  pub round-more : (c : ℕ) (next₀ of₀ next₁ of₁ : List ℕ) → c < length first → Round t c next₀ of₀ → ContourListed c (firstOf t c) (rangeEnd t c) next₀ of₀ next₁ of₁ → Round t (c + 1) next₁ of₁
   round-more c next₀ of₀ next₁ of₁ h o n = record {
     of-is = λ b k l f e. at-of b k l f e (ℕ-discrete b c);
     next-is = λ b k l f e. at-next b k l f e (ℕ-discrete b c);
   }
     where
-      at-of : (b k : ℕ) → b < c + 1 → firstOf t b ≤ k → k < endOf t b → Dec (b ≡ c) → getD of₁ k 0 ≡ contourOf t k
+      at-of : (b k : ℕ) → b < c + 1 → firstOf t b ≤ k → k < rangeEnd t b → Dec (b ≡ c) → getD of₁ k 0 ≡ contourOf t k
       at-of b k l f e (yes q) =
-          let f′ : firstOf t c ≤ k = rw q at f in let e′ : k < endOf t c = rw q at e in
+          let f′ : firstOf t c ≤ k = rw q at f in let e′ : k < rangeEnd t c = rw q at e in
           n .of-in k f′ e′ ∙ sym (at-home c k h f′ e′)
       at-of b k l f e (no q) = n .of-below k (omega (arith, apart t (r .follow) c b h (omega arith))) ∙ o .of-is b k (omega arith) f e
 
-      at-next : (b k : ℕ) → b < c + 1 → firstOf t b ≤ k → k < endOf t b → Dec (b ≡ c) → getD next₁ k 0 ≡ next t (contourOf t k) k
+      at-next : (b k : ℕ) → b < c + 1 → firstOf t b ≤ k → k < rangeEnd t b → Dec (b ≡ c) → getD next₁ k 0 ≡ next t (contourOf t k) k
       at-next b k l f e (yes q) =
-          let f′ : firstOf t c ≤ k = rw q at f in let e′ : k < endOf t c = rw q at e in
+          let f′ : firstOf t c ≤ k = rw q at f in let e′ : k < rangeEnd t c = rw q at e in
           n .next-in k f′ e′ ∙ rw (at-home c k h f′ e′)
       at-next b k l f e (no q) = n .next-below k (omega (arith, apart t (r .follow) c b h (omega arith))) ∙ o .next-is b k (omega arith) f e

@@ -6,15 +6,15 @@ use mathlib.Core.List.{List}
 use native.Mathlib.Omega.{arith}
 use lib.ListN.{length, getD}
 use Rattle.turn.specs.Limits.{maxLinks}
-use Rattle.table.specs.Table.{Table, pointCount, contourCount, firstOf, endOf, contourOf, next}
+use Rattle.table.specs.Table.{Table, pointCount, contourCount, firstOf, rangeEnd, contourOf, next}
 use Rattle.table.specs.Passing.{located, sound-follows, contours-few, next-within}
 use Rattle.table.specs.Sound.{Sound}
-use Rattle.candidates.specs.EdgeLists.{Lists, listedEdge, lists, Fit, Ranges, ranges, Round}
+use Rattle.candidates.specs.EdgeLists.{EdgeLists, listedEdge, edgeLists, Fit, Ranges, ranges, Round}
 use Rattle.candidates.specs.Candidates.{edge}
 
-pub contour-is : (g : Lists) (k : ℕ) → listedEdge g k .contour ≡ getD (g .of) k 0
+pub listed-contour : (g : EdgeLists) (k : ℕ) → listedEdge g k .contour ≡ getD (g .of) k 0
 unfolding listedEdge
-contour-is g k = refl
+listed-contour g k = refl
 
 -- ---- the ranges of a sound table
 module _ (t : Table) (s : Sound t) where
@@ -40,11 +40,11 @@ module _ (t : Table) (s : Sound t) (next′ of : List ℕ) (r : Round (ranges (t
   pub next-below : (k : ℕ) → k < pointCount t → next t (contourOf t k) k < pointCount t
   next-below k l =
       let h = located t s k l in
-      omega (arith, next-within (firstOf t (contourOf t k)) (endOf t (contourOf t k)) k (h .from) (h .to) .1, s .within (contourOf t k) (h .below))
+      omega (arith, next-within (firstOf t (contourOf t k)) (rangeEnd t (contourOf t k)) k (h .from) (h .to) .1, s .within (contourOf t k) (h .below))
 
   module _ (right : Bool) where
-    abbrev g : Lists
-    g = lists (t .points) next′ of (t .kind) right
+    abbrev g : EdgeLists
+    g = edgeLists (t .points) next′ of (t .kind) right
 
     pub edges-same : (k : ℕ) → k < pointCount t → listedEdge g k ≡ edge t right k
     unfolding listedEdge edge

@@ -8,29 +8,29 @@ use lib.IntN.{ℤ}
 use Rattle.turn.specs.Limits.{maxLinks}
 use Rattle.turn.specs.Points.{Grid}
 use Rattle.table.specs.TableChecks.{startIn}
-use Rattle.table.specs.Table.{Table, table, pointAt, firstOf, endOf, contourOf, nextIn, next}
+use Rattle.table.specs.Table.{Table, table, pointIn, firstOf, rangeEnd, contourOf, nextIn, next}
 use Rattle.edges.specs.declared.Edge.{Edge}
 use Rattle.candidates.specs.Candidates.{edgeOf}
 
 -- Edge k begins at point k. `next` is the point after it round its contour, `of` its contour, `kind` a contour's kind; `right` says which way candidates are walked.
-pub record Lists : Type 0 where
+pub record EdgeLists : Type 0 where
   pub points : List ℤ
   pub next : List ℕ
   pub of : List ℕ
   pub kind : List ℕ
   pub right : Bool
 
-abbrev pub lists : List ℤ → List ℕ → List ℕ → List ℕ → Bool → Lists
-lists p n o k r = record { points = p; next = n; of = o; kind = k; right = r }
+abbrev pub edgeLists : List ℤ → List ℕ → List ℕ → List ℕ → Bool → EdgeLists
+edgeLists p n o k r = record { points = p; next = n; of = o; kind = k; right = r }
 
-unfoldable pub listedEdge : Lists → ℕ → Edge
+unfoldable pub listedEdge : EdgeLists → ℕ → Edge
 listedEdge g k =
     let c = getD (g .of) k 0 in
-    edgeOf (g .right) (pointAt (g .points) k) (pointAt (g .points) (getD (g .next) k 0)) (getD (g .kind) c 0) c
+    edgeOf (g .right) (pointIn (g .points) k) (pointIn (g .points) (getD (g .next) k 0)) (getD (g .kind) c 0) c
 
 -- ---- what the code is told
 -- n edges, whose points lie within the bounds, of contours that have a kind
-pub record Fit (g : Lists) (n : ℕ) : Type 0 where
+pub record Fit (g : EdgeLists) (n : ℕ) : Type 0 where
   pub room : n * 2 ≤ length (g .points)
   pub grid : Grid (g .points)
   pub next-room : n ≤ length (g .next)
@@ -57,5 +57,5 @@ pub record ContourListed (c from to : ℕ) (next of next′ of′ : List ℕ) : 
 
 -- right for the points of the first n contours
 pub record Round (t : Table) (n : ℕ) (next′ of : List ℕ) : Type 0 where
-  pub of-is : (c k : ℕ) → c < n → firstOf t c ≤ k → k < endOf t c → getD of k 0 ≡ contourOf t k
-  pub next-is : (c k : ℕ) → c < n → firstOf t c ≤ k → k < endOf t c → getD next′ k 0 ≡ next t (contourOf t k) k
+  pub of-is : (c k : ℕ) → c < n → firstOf t c ≤ k → k < rangeEnd t c → getD of k 0 ≡ contourOf t k
+  pub next-is : (c k : ℕ) → c < n → firstOf t c ≤ k → k < rangeEnd t c → getD next′ k 0 ≡ next t (contourOf t k) k

@@ -24,7 +24,7 @@ use Rattle.walk.specs.Ledger.{coordinates-length, all-points-length}
 use Rattle.walk.specs.Extract.{Buffers, Extracted, extractedAs, afterScan, afterChecks, extracted}
 use Rattle.walk.specs.Visits.{scanned}
 use Rattle.tour.specs.ThreePoints.{finished}
-use Rattle.table.specs.Table.{Table, table, firstOf, endOf, contourCount, point, isHole}
+use Rattle.table.specs.Table.{Table, table, firstOf, rangeEnd, contourCount, point, isHole}
 use Rattle.anchor.specs.Anchor.{anchorPoint}
 use Rattle.table.specs.TableChecks.{tableChecked}
 use Rattle.anchor.specs.AnchorChecks.{anchorsChecked}
@@ -89,7 +89,7 @@ module _ (g : Lent) (top st : List ℕ) (r : Room) (e : checked g top st r ≡ g
       low true n = omega arith
       low false n = omega arith
 
-  least : (c p : ℕ) → c < contourCount t → isHole t c ≡ true → firstOf t c ≤ p → p < endOf t c → before (point t p) (anchorPoint t cw c) ≡ false
+  least : (c p : ℕ) → c < contourCount t → isHole t c ≡ true → firstOf t c ≤ p → p < rangeEnd t c → before (point t p) (anchorPoint t cw c) ≡ false
   least c p h k low high =
       let i = in-table c h in
       let n : getD (lens ks) c 0 ≡ length (walkAt ks c .steps) = lens-at ks c in

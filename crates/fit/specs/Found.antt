@@ -23,11 +23,11 @@ use Rattle.lookup.specs.declared.records.Lookup.the-variants.{Found}
 use Rattle.bind.specs.declared.Binding.the-variants as binding
 use Rattle.owners.specs.declared.Given.{Given}
 use Rattle.owners.specs.declared.Given.the-variants.{All, Stuck}
-use Rattle.owners.specs.Owners.{Owned, owned, given, giveEach, firstOwner, listOf, searchedOwners, ownersOf, contourBelow}
-use Rattle.bind.specs.Outcome.{Outcome, outcome, written, handed, handedBy, boundAfter, bound}
+use Rattle.owners.specs.Owners.{Owned, owned, given, giveEach, firstOwner, tabulate, searchedOwners, ownersOf, contourBelow}
+use Rattle.bind.specs.Outcome.{Outcome, outcome, overFront, handed, handedBy, boundAfter, bound}
 use Rattle.order.specs.HoleOrder.{bindingOrder}
 use Rattle.order.specs.OrderLaws.{each-once}
-use Rattle.owners.specs.OwnerLaws.{list-length, list-at, owners-below}
+use Rattle.owners.specs.OwnerLaws.{tabulate-length, tabulate-at, owners-below}
 use Rattle.laws.specs.Count.{count, count-more, count-most}
 
 -- ---- giving leaves the owners of contours that are not gone through
@@ -85,8 +85,8 @@ module _ (t : Table) (s : Sound t) (cw : Bool) (l : List ℕ) where
       by false e true f = eq-eqb o droppedOwner (b (eqb-false _ _ e) (eqb-true _ _ f))
       by false e false f = lt-ltb o (hullCount t) (d (eqb-false _ _ e) (eqb-false _ _ f))
 
-  searched : searchedOwners t cw ≡ owned All l → Left (bindingOrder t cw) (listOf (firstOwner (t .kind)) (contourCount t)) l
-  searched e = left (contourBelow t cw) (bindingOrder t cw) (listOf (firstOwner (t .kind)) (contourCount t)) l e
+  searched : searchedOwners t cw ≡ owned All l → Left (bindingOrder t cw) (tabulate (firstOwner (t .kind)) (contourCount t)) l
+  searched e = left (contourBelow t cw) (bindingOrder t cw) (tabulate (firstOwner (t .kind)) (contourCount t)) l e
 
   not-hole : (c : ℕ) → kindOf t c ≡ 0 → count c (bindingOrder t cw) ≡ 0
   not-hole c k = each-once t cw c ∙ rw (k) (off (ltb c (contourCount t)))
@@ -96,7 +96,7 @@ module _ (t : Table) (s : Sound t) (cw : Bool) (l : List ℕ) where
       off false = refl
 
   hull-own : searchedOwners t cw ≡ owned All l → (c : ℕ) → c < contourCount t → kindOf t c ≡ 0 → getD l c 0 ≡ shapeOf t c
-  hull-own e c h k = searched e .same c (not-hole c k) ∙ list-at (firstOwner (t .kind)) (contourCount t) c h ∙ rw (eq-eqb (kindOf t c) 0 k)
+  hull-own e c h k = searched e .same c (not-hole c k) ∙ tabulate-at (firstOwner (t .kind)) (contourCount t) c h ∙ rw (eq-eqb (kindOf t c) 0 k)
 
   pub owners-right : ownersOf t cw ≡ owned All l → Right t l
   unfolding ownersOf
@@ -132,7 +132,7 @@ module _ (t : Table) (s : Sound t) (cw : Bool) (l : List ℕ) where
           clash x a b = omega arith
       go false f false k q =
           record {
-            long = searched q .long ∙ list-length (firstOwner (t .kind)) (contourCount t);
+            long = searched q .long ∙ tabulate-length (firstOwner (t .kind)) (contourCount t);
             right = λ c h. right-of c (getD l c 0) (hull-own q c h) (λ i j. absurd (eqb-false _ _ f j)) (λ i j. all-below e (positive j) c h);
           }
         where
@@ -146,10 +146,10 @@ module _ (t : Table) (cw : Bool) (buffer owner : List ℕ) (shapes dropped : ℕ
   by-checked (Refused number place) q h = let z = ap (λ (x : Outcome). x .answer) h in let x : _≡_ {A = ℕ} 0 1 = cc in absurd (zero-one x)
   by-checked Fine q h = (q, h)
 
-  by-given : (w : Owned) → outcome (binding.Bound shapes dropped) owner ≡ handed t w buffer → (w .answer ≡ All) × (owner ≡ written (w .owners) buffer)
+  by-given : (w : Owned) → outcome (binding.Bound shapes dropped) owner ≡ handed t w buffer → (w .answer ≡ All) × (owner ≡ overFront (w .owners) buffer)
   by-given w h = go (w .answer) refl h
     where
-      go : (a : Given) → w .answer ≡ a → outcome (binding.Bound shapes dropped) owner ≡ handedBy t a (w .owners) buffer → (w .answer ≡ All) × (owner ≡ written (w .owners) buffer)
+      go : (a : Given) → w .answer ≡ a → outcome (binding.Bound shapes dropped) owner ≡ handedBy t a (w .owners) buffer → (w .answer ≡ All) × (owner ≡ overFront (w .owners) buffer)
       go All q h = (q, ap (λ (x : Outcome). x .owner) h)
       go (Stuck c) q h = let z = ap (λ (x : Outcome). x .answer) h in let x : _≡_ {A = ℕ} 0 1 = cc in absurd (zero-one x)
 
@@ -169,5 +169,5 @@ module _ (t : Table) (cw : Bool) (buffer owner : List ℕ) (shapes dropped : ℕ
         owned = ap (λ x. ownerRight (kindOf t c) x (shapeOf t c) (hullCount t)) o ∙ r .right c l;
       })
     where
-      long : (x : List ℕ) → owner ≡ written x buffer → length x ≡ contourCount t → contourCount t ≤ length buffer → length owner ≡ length buffer
+      long : (x : List ℕ) → owner ≡ overFront x buffer → length x ≡ contourCount t → contourCount t ≤ length buffer → length owner ≡ length buffer
       long x e h k = ap length e ∙ length-append x (drop (length x) buffer) ∙ omega (arith, length-drop (length x) buffer)

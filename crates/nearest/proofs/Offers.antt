@@ -21,10 +21,10 @@ use Rattle.anchor.specs.declared.Anchor.{Anchor}
 use Rattle.anchor.specs.Anchors.{Anchors, listedAnchor}
 use Rattle.edges.specs.declared.Edge.{Edge}
 use Rattle.edges.specs.Edges.{liesUnder, nearer}
-use Rattle.candidates.specs.EdgeLists.{Lists, listedEdge}
-use Rattle.candidates.specs.EdgeListLaws.{contour-is}
+use Rattle.candidates.specs.EdgeLists.{EdgeLists, listedEdge}
+use Rattle.candidates.specs.EdgeListLaws.{listed-contour}
 use Rattle.nearest.specs.Search.{kept, offered, keep, nearest}
-use Rattle.nearest.specs.Lists.{giving, Placed, Parted, Numbers, Offered, Nearests}
+use Rattle.nearest.specs.SearchLists.{giving, SortedAnchors, Parted, Numbers, Offered, Nearests}
 use Rattle.nearest.specs.Least.{nearest-le}
 use Rattle.nearest.proofs.Parts.{coord32, num}
 
@@ -73,23 +73,23 @@ module _ (edge : ℕ → Edge) (a : Anchor) (k b : ℕ) where
       go false t = offered-left (le-no _ _ t)
 
 -- ---- the loop of `offer`: the anchors before j have been offered edge k, the others have not
-pub record Offering (g : Lists) (h : Anchors) (k : ℕ) (old new : List ℕ) (from j : ℕ) : Type 0 where
+pub record Offering (g : EdgeLists) (h : Anchors) (k : ℕ) (old new : List ℕ) (from j : ℕ) : Type 0 where
   pub len : length new ≡ length old
   pub on : from ≤ j
   pub done : (i : ℕ) → i < j → getD new i 0 ≡ offered (listedEdge g) (listedAnchor h i) k (getD old i 0)
   pub rest : (i : ℕ) → j ≤ i → getD new i 0 ≡ getD old i 0
 
 -- the edge that the code holds
-pub record Held (g : Lists) (k : ℕ) (e : Edge) : Type 0 where
+pub record Held (g : EdgeLists) (k : ℕ) (e : Edge) : Type 0 where
   pub is : e ≡ listedEdge g k
   pub left : Coord (e .left .x)
   pub right : Coord (e .right .x)
 
-pub held : (g : Lists) (k : ℕ) (e : Edge) → e ≡ listedEdge g k → OnGrid (e .left) → OnGrid (e .right) → Held g k e
+pub held : (g : EdgeLists) (k : ℕ) (e : Edge) → e ≡ listedEdge g k → OnGrid (e .left) → OnGrid (e .right) → Held g k e
 held g k e d l r = record { is = d; left = l .0; right = r .0 }
 
 -- what is kept at an anchor that the code holds
-pub kept-at : (g : Lists) (h : Anchors) (k j : ℕ) (a : Anchor) (r b : ℕ) → a ≡ listedAnchor h j → r ≡ kept (listedEdge g) a k b → r ≡ kept (listedEdge g) (listedAnchor h j) k b
+pub kept-at : (g : EdgeLists) (h : Anchors) (k j : ℕ) (a : Anchor) (r b : ℕ) → a ≡ listedAnchor h j → r ≡ kept (listedEdge g) a k b → r ≡ kept (listedEdge g) (listedAnchor h j) k b
 kept-at g h k j a r b e q = rw e at q
 
 -- a number as the code reads it
@@ -97,12 +97,12 @@ abbrev R : ℤ → ℤ
 R z = toZ w32 (ofZ w32 z)
 
 -- an edge that the code sees not to run to the right
-pub offer-back : (g : Lists) (h : Anchors) (m k : ℕ) (e : Edge) → Held g k e → leZ (R (e .right .x)) (R (e .left .x)) ≡ true → (old : List ℕ) → Offered g h m k old old
+pub offer-back : (g : EdgeLists) (h : Anchors) (m k : ℕ) (e : Edge) → Held g k e → leZ (R (e .right .x)) (R (e .left .x)) ≡ true → (old : List ℕ) → Offered g h m k old old
 offer-back g h m k e x t old j l =
     let b = le-yes (e .right .x) (e .left .x) (rw (coord32 (e .right .x) (x .right), coord32 (e .left .x) (x .left)) at t) in
     offered-back (listedEdge g) (listedAnchor h j) k (getD old j 0) (rw (x .is) at b)
 
-module _ (g : Lists) (h : Anchors) (m k : ℕ) (e : Edge) (from : ℕ) (hs : Placed h m) (x : Held g k e) (part : Parted (h .x) m (R (e .left .x)) from) (old : List ℕ) where
+module _ (g : EdgeLists) (h : Anchors) (m k : ℕ) (e : Edge) (from : ℕ) (hs : SortedAnchors h m) (x : Held g k e) (part : Parted (h .x) m (R (e .left .x)) from) (old : List ℕ) where
   pub offer-start : Offering g h k old old from from
   offer-start = record {
     len = refl;
@@ -154,12 +154,12 @@ nearest-more : (edge : ℕ → Edge) (gives : ℕ → Bool) (a : Anchor) (k : �
 unfolding nearest
 nearest-more edge gives a k = rw (add-one k)
 
-pub record Rounds (g : Lists) (mute : List ℕ) (n : ℕ) (h : Anchors) (m : ℕ) (old new : List ℕ) (k : ℕ) : Type 0 where
+pub record Rounds (g : EdgeLists) (mute : List ℕ) (n : ℕ) (h : Anchors) (m : ℕ) (old new : List ℕ) (k : ℕ) : Type 0 where
   pub len : length new ≡ length old
   pub on : k ≤ n
   pub best : Nearests g mute k h m new
 
-module _ (g : Lists) (mute : List ℕ) (n : ℕ) (h : Anchors) (m : ℕ) (old : List ℕ) where
+module _ (g : EdgeLists) (mute : List ℕ) (n : ℕ) (h : Anchors) (m : ℕ) (old : List ℕ) where
   pub rounds-start : ((j : ℕ) → j < m → getD old j 0 ≡ 0) → Rounds g mute n h m old old 0
   unfolding nearest
   rounds-start z = record { len = refl; on = omega arith; best = z }
@@ -174,7 +174,7 @@ module _ (g : Lists) (mute : List ℕ) (n : ℕ) (h : Anchors) (m : ℕ) (old : 
     rounds-mute l e = record {
       len = r .len;
       on = omega arith;
-      best = λ j v. r .best j v ∙ rw (contour-is g k, ne-eqb (getD mute (getD (g .of) k 0) 0) 0 e) refl ∙ nearest-more (listedEdge g) (giving mute) (listedAnchor h j) k;
+      best = λ j v. r .best j v ∙ rw (listed-contour g k, ne-eqb (getD mute (getD (g .of) k 0) 0) 0 e) refl ∙ nearest-more (listedEdge g) (giving mute) (listedAnchor h j) k;
     }
 
     pub rounds-again : (new : List ℕ) → k < n → getD mute (getD (g .of) k 0) 0 ≡ 0 → length new ≡ length mid → Offered g h m k mid new → Rounds g mute n h m old new (k + 1)
@@ -186,7 +186,7 @@ module _ (g : Lists) (mute : List ℕ) (n : ℕ) (h : Anchors) (m : ℕ) (old : 
     }
       where
         given : (j : ℕ) → offered (listedEdge g) (listedAnchor h j) k (nearest (listedEdge g) (giving mute) (listedAnchor h j) k) ≡ keep (listedEdge g) (giving mute) (listedAnchor h j) k (nearest (listedEdge g) (giving mute) (listedAnchor h j) k)
-        given j = rw (contour-is g k, eq-eqb (getD mute (getD (g .of) k 0) 0) 0 z)
+        given j = rw (listed-contour g k, eq-eqb (getD mute (getD (g .of) k 0) 0) 0 z)
 
     pub rounds-end : n ≤ k → Nearests g mute n h m mid
     rounds-end l j v = let e : k ≡ n = omega (arith, r .on) in rw e at (r .best j v)

@@ -14,7 +14,7 @@ use Rattle.laws.specs.Order.{lin}
 use Rattle.laws.specs.Compare.{lt-yes, lt-no}
 use Rattle.laws.specs.Bounds.{same32}
 use Rattle.turn.specs.Points.{Coord}
-use Rattle.nearest.specs.Lists.{Sorted, Parted}
+use Rattle.nearest.specs.SearchLists.{Sorted, Parted}
 
 pub record Bracket (l : List ℤ) (m : ℕ) (x : ℤ) (low high : ℕ) : Type 0 where
   pub low-le : low ≤ high

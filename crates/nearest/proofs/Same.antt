@@ -14,10 +14,10 @@ use Rattle.anchor.specs.declared.Anchor.{Anchor}
 use Rattle.anchor.specs.Anchors.{Anchors, listedAnchor}
 use Rattle.edges.specs.declared.Edge.{Edge}
 use Rattle.candidates.specs.Candidates.{edge}
-use Rattle.candidates.specs.EdgeLists.{Lists, lists, listedEdge, ranges, Round}
-use Rattle.candidates.specs.EdgeListLaws.{contour-is, of-is, edges-same}
+use Rattle.candidates.specs.EdgeLists.{EdgeLists, edgeLists, listedEdge, ranges, Round}
+use Rattle.candidates.specs.EdgeListLaws.{listed-contour, of-is, edges-same}
 use Rattle.nearest.specs.Search.{kept, offered, keep, nearest, contourUnder}
-use Rattle.nearest.specs.Lists.{giving, named, Flags, Numbers, Nearests}
+use Rattle.nearest.specs.SearchLists.{giving, named, Flags, Numbers, Nearests}
 use Rattle.nearest.specs.Least.{nearest-le}
 
 -- ---- edges that are the same below n give the same answer
@@ -50,8 +50,8 @@ module _ (t : Table) (s : Sound t) (next′ of : List ℕ) (r : Round (ranges (t
   flags mute h k l = rw (of-is t s next′ of r k l) (omega (arith, located t s k l .below))
 
   module _ (right : Bool) where
-    abbrev g : Lists
-    g = lists (t .points) next′ of (t .kind) right
+    abbrev g : EdgeLists
+    g = edgeLists (t .points) next′ of (t .kind) right
 
     module _ (mute : List ℕ) (h : Anchors) (m : ℕ) (best : List ℕ) (n : Nearests g mute (pointCount t) h m best) where
       pub best-numbers : Numbers best m (pointCount t)
@@ -59,7 +59,7 @@ module _ (t : Table) (s : Sound t) (next′ of : List ℕ) (r : Round (ranges (t
 
       listed : (a : Anchor) (b : ℕ) → b ≡ nearest (listedEdge g) (giving mute) a (pointCount t) → named of b ≡ contourUnder (listedEdge g) (giving mute) a (pointCount t)
       unfolding contourUnder
-      listed a b e = rw (← e, contour-is g (b - 1))
+      listed a b e = rw (← e, listed-contour g (b - 1))
 
       -- what the search answers
       pub searched : (under : List ℕ) → ((j : ℕ) → j < m → getD under j 0 ≡ named of (getD best j 0))

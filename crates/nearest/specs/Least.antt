@@ -55,17 +55,17 @@ pick-skip true true false w x b e = refl
 pick-skip true false u w x b e = refl
 pick-skip false s u w x b e = refl
 
-pick-won : (g s u w : Bool) (x b : ℕ) → g && (s && u) ≡ true → w ≡ true → x ≡ pick g (pick s (pick (u && w) x b) b) b
-pick-won true true true w x b e f = rw f
-pick-won true true false w x b e f = absurd (true≢false e refl)
-pick-won true false u w x b e f = absurd (true≢false e refl)
-pick-won false s u w x b e f = absurd (true≢false e refl)
+pick-takes : (g s u w : Bool) (x b : ℕ) → g && (s && u) ≡ true → w ≡ true → x ≡ pick g (pick s (pick (u && w) x b) b) b
+pick-takes true true true w x b e f = rw f
+pick-takes true true false w x b e f = absurd (true≢false e refl)
+pick-takes true false u w x b e f = absurd (true≢false e refl)
+pick-takes false s u w x b e f = absurd (true≢false e refl)
 
-pick-lost : (g s u w : Bool) (x b : ℕ) → w ≡ false → b ≡ pick g (pick s (pick (u && w) x b) b) b
-pick-lost true true true w x b f = rw f
-pick-lost true true false w x b f = refl
-pick-lost true false u w x b f = refl
-pick-lost false s u w x b f = refl
+pick-stays : (g s u w : Bool) (x b : ℕ) → w ≡ false → b ≡ pick g (pick s (pick (u && w) x b) b) b
+pick-stays true true true w x b f = rw f
+pick-stays true true false w x b f = refl
+pick-stays true false u w x b f = refl
+pick-stays false s u w x b f = refl
 
 module _ (edge : ℕ → Edge) (gives : ℕ → Bool) (a : Anchor) where
   counts-runs : (k : ℕ) → counts edge gives a k ≡ true → pos 0 <ℤ run (edge k)
@@ -91,8 +91,8 @@ module _ (edge : ℕ → Edge) (gives : ℕ → Bool) (a : Anchor) where
     }
 
     -- it is nearer
-    won : counts edge gives a n ≡ true → (b : ℕ) → nearer a (edge n) (edge b) ≡ true → Nearest edge gives a n b → Nearest edge gives a (suc n) n
-    won c b w r = record {
+    takes-over : counts edge gives a n ≡ true → (b : ℕ) → nearer a (edge n) (edge b) ≡ true → Nearest edge gives a n b → Nearest edge gives a (suc n) n
+    takes-over c b w r = record {
       one = omega arith;
       counted = c;
       least = below-suc (λ k. counts edge gives a k ≡ true → nearer a (edge k) (edge n) ≡ false) n (λ k m t. not-true _ (λ v. farther k m t v)) (λ t. nearer-same a (edge n));
@@ -105,8 +105,8 @@ module _ (edge : ℕ → Edge) (gives : ℕ → Bool) (a : Anchor) where
             (r .least k m t)
 
     -- it is not
-    lost : (b : ℕ) → nearer a (edge n) (edge b) ≡ false → Nearest edge gives a n b → Nearest edge gives a (suc n) b
-    lost b w r = record {
+    stays : (b : ℕ) → nearer a (edge n) (edge b) ≡ false → Nearest edge gives a n b → Nearest edge gives a (suc n) b
+    stays b w r = record {
       one = omega (arith, r .one);
       counted = r .counted;
       least = below-suc (λ k. counts edge gives a k ≡ true → nearer a (edge k) (edge b) ≡ false) n (r .least) (λ t. w);
@@ -119,14 +119,14 @@ module _ (edge : ℕ → Edge) (gives : ℕ → Bool) (a : Anchor) where
         next : (b : ℕ) → counts edge gives a n ≡ true → (w : Bool) → nearer a (edge n) (edge b) ≡ w → Nearest edge gives a n b → Best edge gives a (suc n) (keep edge gives a n (suc b))
         next b c true e r =
             let q : suc b - 1 ≡ b = omega arith in
-            subst (Best edge gives a (suc n)) (sym (add-one n) ∙ pick-won (gives (edge n .contour)) (spans (a .at .x) (edge n)) (liesUnder a (edge n)) _ (n + 1) (suc b) c (rw (ne-eqb (suc b) 0 (λ z. omega arith), q) e)) (won c b e r)
+            subst (Best edge gives a (suc n)) (sym (add-one n) ∙ pick-takes (gives (edge n .contour)) (spans (a .at .x) (edge n)) (liesUnder a (edge n)) _ (n + 1) (suc b) c (rw (ne-eqb (suc b) 0 (λ z. omega arith), q) e)) (takes-over c b e r)
         next b c false e r =
             let q : suc b - 1 ≡ b = omega arith in
-            subst (Best edge gives a (suc n)) (pick-lost (gives (edge n .contour)) (spans (a .at .x) (edge n)) (liesUnder a (edge n)) _ (n + 1) (suc b) (rw (ne-eqb (suc b) 0 (λ z. omega arith), q) e)) (lost b e r)
+            subst (Best edge gives a (suc n)) (pick-stays (gives (edge n .contour)) (spans (a .at .x) (edge n)) (liesUnder a (edge n)) _ (n + 1) (suc b) (rw (ne-eqb (suc b) 0 (λ z. omega arith), q) e)) (stays b e r)
 
         go : (c : Bool) → counts edge gives a n ≡ c → (b : ℕ) → Best edge gives a n b → Best edge gives a (suc n) (keep edge gives a n b)
         go false c b r = subst (Best edge gives a (suc n)) (pick-skip (gives (edge n .contour)) (spans (a .at .x) (edge n)) (liesUnder a (edge n)) _ (n + 1) b c) (skip c b r)
-        go true c zero r = subst (Best edge gives a (suc n)) (sym (add-one n) ∙ pick-won (gives (edge n .contour)) (spans (a .at .x) (edge n)) (liesUnder a (edge n)) _ (n + 1) 0 c refl) (first c r)
+        go true c zero r = subst (Best edge gives a (suc n)) (sym (add-one n) ∙ pick-takes (gives (edge n .contour)) (spans (a .at .x) (edge n)) (liesUnder a (edge n)) _ (n + 1) 0 c refl) (first c r)
         go true c (suc b) r = next b c (nearer a (edge n) (edge b)) refl r
 
   pub best : (n : ℕ) → Best edge gives a n (nearest edge gives a n)

@@ -1,4 +1,4 @@
 -- The definitions that the contracts cite, then the laws of them.
 pub mod Search
-pub mod Lists
+pub mod SearchLists
 pub mod Least

@@ -9,9 +9,9 @@ ghost use Rattle.table.specs.Table.{table};
 ghost use Rattle.table.specs.Sound.{Sound};
 ghost use Rattle.anchor.specs.Anchors.{anchors, listedAnchor};
 ghost use Rattle.edges.specs.Edges.{On};
-ghost use Rattle.candidates.specs.EdgeLists.{lists, listedEdge, Fit};
+ghost use Rattle.candidates.specs.EdgeLists.{edgeLists, listedEdge, Fit};
 ghost use Rattle.nearest.specs.Search.{kept as kept-of, searchUnder};
-ghost use Rattle.nearest.specs.Lists.{giving, Flags, Placed, Sorted, Parted, Numbers, Offered, Nearests, named};
+ghost use Rattle.nearest.specs.SearchLists.{giving, Flags, SortedAnchors, Sorted, Parted, Numbers, Offered, Nearests, named};
 
 // The first of m numbers in order that is not below x.
 fn first_from(l: &[i32], m: usize, x: i32) -> usize
@@ -44,9 +44,9 @@ fn kept(
     k: usize,
     b: u32,
 ) -> u32
-    requires { ⌜ (Fit (lists (now points) (now next) (now of) (now kind) right) n) × (n ≤ maxLinks) ⌝ }
-    requires { ⌜ (k < n) × (b ≤ n) × (e ≡ listedEdge (lists (now points) (now next) (now of) (now kind) right) k) × (On a e) ⌝ }
-    ensures { λ r. ⌜ r ≡ kept-of (listedEdge (lists (now (points .entry)) (now (next .entry)) (now (of .entry)) (now (kind .entry)) right)) a k b ⌝ }
+    requires { ⌜ (Fit (edgeLists (now points) (now next) (now of) (now kind) right) n) × (n ≤ maxLinks) ⌝ }
+    requires { ⌜ (k < n) × (b ≤ n) × (e ≡ listedEdge (edgeLists (now points) (now next) (now of) (now kind) right) k) × (On a e) ⌝ }
+    ensures { λ r. ⌜ r ≡ kept-of (listedEdge (edgeLists (now (points .entry)) (now (next .entry)) (now (of .entry)) (now (kind .entry)) right)) a k b ⌝ }
 {
     if !edges::lies_under(a, e) {
         return b;
@@ -78,10 +78,10 @@ fn offer(
     best: &mut [u32],
     k: usize,
 )
-    requires { ⌜ (Fit (lists (now points) (now next) (now of) (now kind) right) n) × (n ≤ maxLinks) × (k < n) ⌝ }
-    requires { ⌜ Placed (anchors (now x) (now y) (now «to_x») (now «to_y»)) m ⌝ }
+    requires { ⌜ (Fit (edgeLists (now points) (now next) (now of) (now kind) right) n) × (n ≤ maxLinks) × (k < n) ⌝ }
+    requires { ⌜ SortedAnchors (anchors (now x) (now y) (now «to_x») (now «to_y»)) m ⌝ }
     requires { ⌜ (m ≤ length (now best)) × (Numbers (now best) m n) ⌝ }
-    ensures { λ _. ⌜ Offered (lists (now (points .entry)) (now (next .entry)) (now (of .entry)) (now (kind .entry)) right) (anchors (now (x .entry)) (now (y .entry)) (now («to_x» .entry)) (now («to_y» .entry))) m k (now (best .entry)) (now (best .exit)) ⌝ }
+    ensures { λ _. ⌜ Offered (edgeLists (now (points .entry)) (now (next .entry)) (now (of .entry)) (now (kind .entry)) right) (anchors (now (x .entry)) (now (y .entry)) (now («to_x» .entry)) (now («to_y» .entry))) m k (now (best .entry)) (now (best .exit)) ⌝ }
 {
     let e = candidates::listed_edge(points, next, of, kind, right, n, k);
     let start = e.left.x;
@@ -117,10 +117,10 @@ fn nearest_edges(
     m: usize,
     best: &mut [u32],
 )
-    requires { ⌜ (Fit (lists (now points) (now next) (now of) (now kind) right) n) × (n ≤ maxLinks) × (Flags (now of) (now mute) n) ⌝ }
-    requires { ⌜ Placed (anchors (now x) (now y) (now «to_x») (now «to_y»)) m ⌝ }
+    requires { ⌜ (Fit (edgeLists (now points) (now next) (now of) (now kind) right) n) × (n ≤ maxLinks) × (Flags (now of) (now mute) n) ⌝ }
+    requires { ⌜ SortedAnchors (anchors (now x) (now y) (now «to_x») (now «to_y»)) m ⌝ }
     requires { ⌜ (m ≤ length (now best)) × ((j : ℕ) → j < m → getD (now best) j 0 ≡ 0) ⌝ }
-    ensures { λ _. ⌜ Nearests (lists (now (points .entry)) (now (next .entry)) (now (of .entry)) (now (kind .entry)) right) (now (mute .entry)) n (anchors (now (x .entry)) (now (y .entry)) (now («to_x» .entry)) (now («to_y» .entry))) m (now (best .exit)) ⌝ }
+    ensures { λ _. ⌜ Nearests (edgeLists (now (points .entry)) (now (next .entry)) (now (of .entry)) (now (kind .entry)) right) (now (mute .entry)) n (anchors (now (x .entry)) (now (y .entry)) (now («to_x» .entry)) (now («to_y» .entry))) m (now (best .exit)) ⌝ }
 {
     let mut k = 0;
     while k < n {
@@ -189,7 +189,7 @@ pub fn contours_under(
 )
     requires { ⌜ Sound (table (now points) (now first) (now len) (now kind)) ⌝ }
     requires { ⌜ (length (now first) ≤ length (now mute)) × (m ≤ maxLinks) × (m ≤ length (now under)) ⌝ }
-    requires { ⌜ Placed (anchors (now x) (now y) (now «to_x») (now «to_y»)) m ⌝ }
+    requires { ⌜ SortedAnchors (anchors (now x) (now y) (now «to_x») (now «to_y»)) m ⌝ }
     ensures { λ _. ⌜ ((j : ℕ) → j < m → getD (now (under .exit)) j 0 ≡ searchUnder (table (now (points .entry)) (now (first .entry)) (now (len .entry)) (now (kind .entry))) above clockwise (giving (now (mute .entry))) (listedAnchor (anchors (now (x .entry)) (now (y .entry)) (now («to_x» .entry)) (now («to_y» .entry))) j)) ⌝ }
 {
     let n = points.len() / 2;

@@ -17,9 +17,9 @@ use Rattle.turn.specs.Points.{before, cross, productBound}
 use Rattle.anchor.specs.declared.Anchor.{Anchor}
 use Rattle.anchor.specs.Anchor.{anchorWay}
 use Rattle.anchor.specs.Anchors.{Anchors, listedAnchor}
-use Rattle.order.specs.HoleOrder.{goesBefore, place, sorted}
-use Rattle.order.specs.Insertion.{Inserted, place-same, image, placeIn, sorted-more, entries}
-use Rattle.order.specs.HoleLists.{Bounded, byAnchor, placeOf, Ordered, room-for}
+use Rattle.order.specs.HoleOrder.{goesBefore, slot, sorted}
+use Rattle.order.specs.Insertion.{Inserted, slot-same, image, slotIn, sorted-more, entries}
+use Rattle.order.specs.HoleLists.{Bounded, byAnchor, slotOf, Ordered, room-for}
 
 -- ---- the ways out of `goes_before`
 module _ (a b : Anchor) (c d : ℕ) where
@@ -34,15 +34,15 @@ module _ (a b : Anchor) (c d : ℕ) where
   goes-by-angle e f x q n = rw (e, f) (ap (λ z. lower (pos 0) z (ltb c d)) (same64 x (omega arith) ∙ q))
 
 -- ---- the place, as the loop looks for it
-place-down : (test : ℕ → Bool) (p : ℕ) → 0 < p → test (p - 1) ≡ true → place test p ≡ place test (p - 1)
-unfolding place
-place-down test zero h e = absurd (not-suc-le-zero h)
-place-down test (suc p) h e = let q : suc p - 1 ≡ p = omega arith in let e′ : test p ≡ true = rw q at e in rw (q, e′)
+slot-down : (test : ℕ → Bool) (p : ℕ) → 0 < p → test (p - 1) ≡ true → slot test p ≡ slot test (p - 1)
+unfolding slot
+slot-down test zero h e = absurd (not-suc-le-zero h)
+slot-down test (suc p) h e = let q : suc p - 1 ≡ p = omega arith in let e′ : test p ≡ true = rw q at e in rw (q, e′)
 
-place-stop : (test : ℕ → Bool) (p : ℕ) → 0 < p → test (p - 1) ≡ false → place test p ≡ p
-unfolding place
-place-stop test zero h e = refl
-place-stop test (suc p) h e = let q : suc p - 1 ≡ p = omega arith in let e′ : test p ≡ false = rw q at e in rw e′
+slot-stop : (test : ℕ → Bool) (p : ℕ) → 0 < p → test (p - 1) ≡ false → slot test p ≡ p
+unfolding slot
+slot-stop test zero h e = refl
+slot-stop test (suc p) h e = let q : suc p - 1 ≡ p = omega arith in let e′ : test p ≡ false = rw q at e in rw e′
 
 -- ---- the loop of `insert`: a gap at p; what was from p on has moved by one
 pub record Shifted (test : ℕ → Bool) (old new : List ℕ) (m p : ℕ) : Type 0 where
@@ -50,7 +50,7 @@ pub record Shifted (test : ℕ → Bool) (old new : List ℕ) (m p : ℕ) : Type
   pub len : length new ≡ length old
   pub below : (i : ℕ) → i < p → getD new i 0 ≡ getD old i 0
   pub above : (i : ℕ) → p ≤ i → i < m → getD new (i + 1) 0 ≡ getD old i 0
-  pub same : place test m ≡ place test p
+  pub same : slot test m ≡ slot test p
 
 pub shift-start : (test : ℕ → Bool) (old : List ℕ) (m : ℕ) → Shifted test old old m m
 shift-start test old m = record { within = omega arith; len = refl; below = λ i l. refl; above = λ i l k. absurd (no-i i l k); same = refl }
@@ -65,7 +65,7 @@ module _ (test : ℕ → Bool) (old new : List ℕ) (m p : ℕ) (s : Shifted tes
     len = length-set new p d ∙ s .len;
     below = λ i l. getD-set-other new p i d 0 (λ e. omega arith) ∙ s .below i (omega arith);
     above = λ i l k. at i l k (ℕ-discrete (i + 1) p);
-    same = s .same ∙ place-down test p h t;
+    same = s .same ∙ slot-down test p h t;
   }
     where
       at : (i : ℕ) → p - 1 ≤ i → i < m → Dec (i + 1 ≡ p) → getD (set new p d) (i + 1) 0 ≡ getD old i 0
@@ -74,7 +74,7 @@ module _ (test : ℕ → Bool) (old new : List ℕ) (m p : ℕ) (s : Shifted tes
           rw e (getD-set-same new p d 0 (omega (arith, s .within, s .len))) ∙ q ∙ s .below (p - 1) (omega arith) ∙ ap (λ (j : ℕ). getD old j 0) z
       at i l k (no e) = getD-set-other new p (i + 1) d 0 e ∙ s .above i (omega arith) k
 
-  put : (c : ℕ) → place test m ≡ p → Inserted old (set new p c) m (place test m) c
+  put : (c : ℕ) → slot test m ≡ p → Inserted old (set new p c) m (slot test m) c
   put c e = rw e (record {
     within = s .within;
     below = λ i l. getD-set-other new p i c 0 (λ q. omega arith) ∙ s .below i l;
@@ -82,11 +82,11 @@ module _ (test : ℕ → Bool) (old new : List ℕ) (m p : ℕ) (s : Shifted tes
     above = λ i l k. getD-set-other new p (i + 1) c 0 (λ q. omega arith) ∙ s .above i l k;
   })
 
-  pub shift-stop : (c : ℕ) → 0 < p → test (p - 1) ≡ false → Inserted old (set new p c) m (place test m) c
-  shift-stop c h t = put c (s .same ∙ place-stop test p h t)
+  pub shift-stop : (c : ℕ) → 0 < p → test (p - 1) ≡ false → Inserted old (set new p c) m (slot test m) c
+  shift-stop c h t = put c (s .same ∙ slot-stop test p h t)
 
-  pub shift-end : (c : ℕ) → p ≤ 0 → Inserted old (set new p c) m (place test m) c
-  unfolding place
+  pub shift-end : (c : ℕ) → p ≤ 0 → Inserted old (set new p c) m (slot test m) c
+  unfolding slot
   shift-end c h = let e : p ≡ 0 = omega arith in put c (s .same ∙ rw e)
 
 -- the code's test of the hole that stands before the gap
@@ -117,17 +117,17 @@ module _ (h : Anchors) (who old mid : List ℕ) (m j : ℕ) (o : Ordering h who 
   pub ordering-below : (i : ℕ) → i < j → getD mid i 0 < j
   ordering-below i l = rw (o .done i l) (entries (λ k. k < j) (byAnchor h who) (λ k. k) j (λ k n. n) i l)
 
-  pub ordering-more : (new : List ℕ) → j < m → length new ≡ length mid → Inserted mid new j (placeOf h who mid j) j → Ordering h who old new m (j + 1)
+  pub ordering-more : (new : List ℕ) → j < m → length new ≡ length mid → Inserted mid new j (slotOf h who mid j) j → Ordering h who old new m (j + 1)
   ordering-more new l e s = record {
     on = omega arith;
     len = e ∙ o .len;
-    done = rw (add-one j) (image (λ k. k) mid new (sorted (byAnchor h who) (λ k. k) j) (sorted (byAnchor h who) (λ k. k) (suc j)) j (placeOf h who mid j) j j s
+    done = rw (add-one j) (image (λ k. k) mid new (sorted (byAnchor h who) (λ k. k) j) (sorted (byAnchor h who) (λ k. k) (suc j)) j (slotOf h who mid j) j j s
         (subst (λ (p : ℕ). Inserted (sorted (byAnchor h who) (λ k. k) j) (sorted (byAnchor h who) (λ k. k) (suc j)) j p j) (sym places) (sorted-more (byAnchor h who) (λ k. k) j))
         refl (o .done));
   }
     where
-      places : placeOf h who mid j ≡ placeIn (byAnchor h who) (λ k. k) j
-      places = place-same (λ p. byAnchor h who j (getD mid p 0)) (λ p. byAnchor h who j (getD (sorted (byAnchor h who) (λ k. k) j) p 0)) j (λ p k. ap (byAnchor h who j) (o .done p k))
+      places : slotOf h who mid j ≡ slotIn (byAnchor h who) (λ k. k) j
+      places = slot-same (λ p. byAnchor h who j (getD mid p 0)) (λ p. byAnchor h who j (getD (sorted (byAnchor h who) (λ k. k) j) p 0)) j (λ p k. ap (byAnchor h who j) (o .done p k))
 
   pub ordering-end : m ≤ j → Ordered h who m mid
   ordering-end l = let e : j ≡ m = omega (arith, o .on) in rw e at (o .done)

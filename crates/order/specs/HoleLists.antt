@@ -9,7 +9,7 @@ use Rattle.turn.specs.Points.{OnGrid}
 use Rattle.table.specs.Table.{Table}
 use Rattle.anchor.specs.Anchor.{anchorEdge}
 use Rattle.anchor.specs.Anchors.{Anchors, listedAnchor}
-use Rattle.order.specs.HoleOrder.{goesBefore, place, sorted, holesBelow}
+use Rattle.order.specs.HoleOrder.{goesBefore, slot, sorted, holesBelow}
 
 -- room for n holes
 pub record Room (who : List ℕ) (h : Anchors) (n : ℕ) : Type 0 where
@@ -35,8 +35,8 @@ pub record Bounded (who : List ℕ) (h : Anchors) (m : ℕ) : Type 0 where
 abbrev pub byAnchor : Anchors → List ℕ → ℕ → ℕ → Bool
 byAnchor h who i j = goesBefore (listedAnchor h i) (listedAnchor h j) (getD who i 0) (getD who j 0)
 
-abbrev pub placeOf : Anchors → List ℕ → List ℕ → ℕ → ℕ
-placeOf h who ord j = place (λ p. byAnchor h who j (getD ord p 0)) j
+abbrev pub slotOf : Anchors → List ℕ → List ℕ → ℕ → ℕ
+slotOf h who ord j = slot (λ p. byAnchor h who j (getD ord p 0)) j
 
 -- m holes in binding's order, by their places among the holes
 abbrev pub Ordered : Anchors → List ℕ → ℕ → List ℕ → Type 0

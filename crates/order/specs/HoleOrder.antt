@@ -23,16 +23,16 @@ precedes t cw c d = goesBefore (anchorEdge t cw c) (anchorEdge t cw d) c d
 
 -- ---- an order made by insertion
 -- where the run of places at the end of n begins at which a test passes
-unfoldable pub place : (ℕ → Bool) → ℕ → ℕ
-place test zero = zero
-place test (suc n) = let further = place test n in pick (test n) further (suc n)
+unfoldable pub slot : (ℕ → Bool) → ℕ → ℕ
+slot test zero = zero
+slot test (suc n) = let further = slot test n in pick (test n) further (suc n)
 
 abbrev pub insertAt : ℕ → ℕ → List ℕ → List ℕ
 insertAt p c l = take p l ++ (c ∷ drop p l)
 
 -- c put into a list: in front of those at its end that it goes before
 unfoldable pub inserted : (ℕ → ℕ → Bool) → ℕ → List ℕ → List ℕ
-inserted first c l = insertAt (place (λ p. first c (getD l p 0)) (length l)) c l
+inserted first c l = insertAt (slot (λ p. first c (getD l p 0)) (length l)) c l
 
 -- the first n of a sequence in order, `first` saying which of two goes first
 unfoldable pub sorted : (ℕ → ℕ → Bool) → (ℕ → ℕ) → ℕ → List ℕ

@@ -11,7 +11,7 @@ use lib.ListN.{length, getD, take, drop, length-append, length-drop, take-append
 use lib.Seq.{length-take-le, getD-take, getD-drop, getD-at, getD-append-add, take-suc, take-length}
 use Rattle.laws.specs.Test.{pick, pick-ind}
 use Rattle.laws.specs.Count.{count, count-append, count-snoc}
-use Rattle.order.specs.HoleOrder.{place, insertAt, inserted, sorted}
+use Rattle.order.specs.HoleOrder.{slot, insertAt, inserted, sorted}
 
 -- c stands at place p among m; what was from p on has moved by one
 pub record Inserted (old new : List ℕ) (m p c : ℕ) : Type 0 where
@@ -21,42 +21,42 @@ pub record Inserted (old new : List ℕ) (m p c : ℕ) : Type 0 where
   pub above : (i : ℕ) → p ≤ i → i < m → getD new (i + 1) 0 ≡ getD old i 0
 
 -- ---- the place
-pub place-le : (test : ℕ → Bool) (n : ℕ) → place test n ≤ n
-unfolding place
-place-le test zero = omega arith
-place-le test (suc n) = pick-ind (test n) (place test n) (suc n) (λ (p : ℕ). p ≤ suc n) (λ _. omega (arith, place-le test n)) (λ _. omega arith)
+pub slot-le : (test : ℕ → Bool) (n : ℕ) → slot test n ≤ n
+unfolding slot
+slot-le test zero = omega arith
+slot-le test (suc n) = pick-ind (test n) (slot test n) (suc n) (λ (p : ℕ). p ≤ suc n) (λ _. omega (arith, slot-le test n)) (λ _. omega arith)
 
-pub place-same : (s t : ℕ → Bool) (n : ℕ) → ((k : ℕ) → k < n → s k ≡ t k) → place s n ≡ place t n
-unfolding place
-place-same s t zero h = refl
-place-same s t (suc n) h = rw (h n (omega arith), place-same s t n (λ k l. h k (omega arith)))
+pub slot-same : (s t : ℕ → Bool) (n : ℕ) → ((k : ℕ) → k < n → s k ≡ t k) → slot s n ≡ slot t n
+unfolding slot
+slot-same s t zero h = refl
+slot-same s t (suc n) h = rw (h n (omega arith), slot-same s t n (λ k l. h k (omega arith)))
 
 -- the test passes from the place on, and fails just before it
-pub place-passes : (test : ℕ → Bool) (n k : ℕ) → place test n ≤ k → k < n → test k ≡ true
-unfolding place
-place-passes test zero k h l = absurd (not-suc-le-zero l)
-place-passes test (suc n) k h l = go (test n) refl h (ℕ-discrete k n) (place-passes test n k)
+pub slot-passes : (test : ℕ → Bool) (n k : ℕ) → slot test n ≤ k → k < n → test k ≡ true
+unfolding slot
+slot-passes test zero k h l = absurd (not-suc-le-zero l)
+slot-passes test (suc n) k h l = go (test n) refl h (ℕ-discrete k n) (slot-passes test n k)
   where
     past : suc n ≤ k → k < suc n → ⊥
     past g l = omega arith
 
-    go : (b : Bool) → test n ≡ b → pick b (place test n) (suc n) ≤ k → Dec (k ≡ n) → (place test n ≤ k → k < n → test k ≡ true) → test k ≡ true
+    go : (b : Bool) → test n ≡ b → pick b (slot test n) (suc n) ≤ k → Dec (k ≡ n) → (slot test n ≤ k → k < n → test k ≡ true) → test k ≡ true
     go true e g (yes q) r = rw q e
     go true e g (no q) r = r g (omega arith)
     go false e g d r = absurd (past g l)
 
-pub place-fails : (test : ℕ → Bool) (n p : ℕ) → place test n ≡ suc p → test p ≡ false
-unfolding place
-place-fails test zero p e = absurd (none e)
+pub slot-fails : (test : ℕ → Bool) (n p : ℕ) → slot test n ≡ suc p → test p ≡ false
+unfolding slot
+slot-fails test zero p e = absurd (none e)
   where
     none : 0 ≡ suc p → ⊥
     none e = omega arith
-place-fails test (suc n) p e = go (test n) refl e (place-fails test n p)
+slot-fails test (suc n) p e = go (test n) refl e (slot-fails test n p)
   where
     last : suc n ≡ suc p → n ≡ p
     last q = omega arith
 
-    go : (b : Bool) → test n ≡ b → pick b (place test n) (suc n) ≡ suc p → (place test n ≡ suc p → test p ≡ false) → test p ≡ false
+    go : (b : Bool) → test n ≡ b → pick b (slot test n) (suc n) ≡ suc p → (slot test n ≡ suc p → test p ≡ false) → test p ≡ false
     go true f q r = r q
     go false f q r = subst (λ (k : ℕ). test k ≡ false) (last q) f
 
@@ -104,27 +104,27 @@ unfolding sorted inserted
 sorted-length first f zero = refl
 sorted-length first f (suc n) =
     let l = sorted first f n in
-    insert-length (place (λ p. first (f n) (getD l p 0)) (length l)) (f n) l (place-le (λ p. first (f n) (getD l p 0)) (length l)) ∙ ap suc (sorted-length first f n)
+    insert-length (slot (λ p. first (f n) (getD l p 0)) (length l)) (f n) l (slot-le (λ p. first (f n) (getD l p 0)) (length l)) ∙ ap suc (sorted-length first f n)
 
-abbrev pub placeIn : (ℕ → ℕ → Bool) → (ℕ → ℕ) → ℕ → ℕ
-placeIn first f n = place (λ p. first (f n) (getD (sorted first f n) p 0)) n
+abbrev pub slotIn : (ℕ → ℕ → Bool) → (ℕ → ℕ) → ℕ → ℕ
+slotIn first f n = slot (λ p. first (f n) (getD (sorted first f n) p 0)) n
 
-pub sorted-more : (first : ℕ → ℕ → Bool) (f : ℕ → ℕ) (n : ℕ) → Inserted (sorted first f n) (sorted first f (suc n)) n (placeIn first f n) (f n)
+pub sorted-more : (first : ℕ → ℕ → Bool) (f : ℕ → ℕ) (n : ℕ) → Inserted (sorted first f n) (sorted first f (suc n)) n (slotIn first f n) (f n)
 unfolding sorted inserted
 sorted-more first f n =
     let l = sorted first f n in
-    subst (λ (k : ℕ). Inserted l (insertAt (place (λ p. first (f n) (getD l p 0)) (length l)) (f n) l) k (place (λ p. first (f n) (getD l p 0)) k) (f n)) (sorted-length first f n)
-    (insert-is (place (λ p. first (f n) (getD l p 0)) (length l)) (f n) l (place-le (λ p. first (f n) (getD l p 0)) (length l)))
+    subst (λ (k : ℕ). Inserted l (insertAt (slot (λ p. first (f n) (getD l p 0)) (length l)) (f n) l) k (slot (λ p. first (f n) (getD l p 0)) k) (f n)) (sorted-length first f n)
+    (insert-is (slot (λ p. first (f n) (getD l p 0)) (length l)) (f n) l (slot-le (λ p. first (f n) (getD l p 0)) (length l)))
 
 -- what holds of all that were put in holds of every entry
 pub entries : (P : ℕ → Type 0) (first : ℕ → ℕ → Bool) (f : ℕ → ℕ) (n : ℕ) → ((k : ℕ) → k < n → P (f k)) → (i : ℕ) → i < n → P (getD (sorted first f n) i 0)
 entries P first f zero h i l = absurd (not-suc-le-zero l)
-entries P first f (suc n) h i l = go (decLe (suc i) (placeIn first f n)) (ℕ-discrete i (placeIn first f n)) (λ k m. entries P first f n (λ k′ m′. h k′ (omega arith)) k m)
+entries P first f (suc n) h i l = go (decLe (suc i) (slotIn first f n)) (ℕ-discrete i (slotIn first f n)) (λ k m. entries P first f n (λ k′ m′. h k′ (omega arith)) k m)
   where
-    s : Inserted (sorted first f n) (sorted first f (suc n)) n (placeIn first f n) (f n)
+    s : Inserted (sorted first f n) (sorted first f (suc n)) n (slotIn first f n) (f n)
     s = sorted-more first f n
 
-    go : Dec (i < placeIn first f n) → Dec (i ≡ placeIn first f n) → ((k : ℕ) → k < n → P (getD (sorted first f n) k 0)) → P (getD (sorted first f (suc n)) i 0)
+    go : Dec (i < slotIn first f n) → Dec (i ≡ slotIn first f n) → ((k : ℕ) → k < n → P (getD (sorted first f n) k 0)) → P (getD (sorted first f (suc n)) i 0)
     go (yes k) d r = subst P (sym (s .below i k)) (r i (omega (arith, s .within)))
     go (no k) (yes q) r = subst P (sym (s .here) ∙ ap (λ (j : ℕ). getD (sorted first f (suc n)) j 0) (sym q)) (h n (omega arith))
     go (no k) (no q) r =
@@ -136,15 +136,15 @@ module _ (first first′ : ℕ → ℕ → Bool) (f : ℕ → ℕ) (n : ℕ) (sa
   one-more : (m : ℕ) → m < n → ((i : ℕ) → i < m → getD (sorted first f m) i 0 ≡ f (getD (sorted first′ (λ k. k) m) i 0))
       → (i : ℕ) → i < suc m → getD (sorted first f (suc m)) i 0 ≡ f (getD (sorted first′ (λ k. k) (suc m)) i 0)
   one-more m h earlier =
-      image f (sorted first f m) (sorted first f (suc m)) (sorted first′ (λ k. k) m) (sorted first′ (λ k. k) (suc m)) m (placeIn first f m) (f m) m
+      image f (sorted first f m) (sorted first f (suc m)) (sorted first′ (λ k. k) m) (sorted first′ (λ k. k) (suc m)) m (slotIn first f m) (f m) m
       (sorted-more first f m)
       (subst (λ (p : ℕ). Inserted (sorted first′ (λ k. k) m) (sorted first′ (λ k. k) (suc m)) m p m) (sym places) (sorted-more first′ (λ k. k) m)) refl earlier
     where
       low : (p : ℕ) → p < m → getD (sorted first′ (λ k. k) m) p 0 < m
       low = entries (λ k. k < m) first′ (λ k. k) m (λ k l. l)
 
-      places : placeIn first f m ≡ placeIn first′ (λ k. k) m
-      places = place-same (λ p. first (f m) (getD (sorted first f m) p 0)) (λ p. first′ m (getD (sorted first′ (λ k. k) m) p 0)) m
+      places : slotIn first f m ≡ slotIn first′ (λ k. k) m
+      places = slot-same (λ p. first (f m) (getD (sorted first f m) p 0)) (λ p. first′ m (getD (sorted first′ (λ k. k) m) p 0)) m
           (λ p k. ap (first (f m)) (earlier p k) ∙ same m (getD (sorted first′ (λ k. k) m) p 0) h (omega (arith, low p k)))
 
   pub sorted-image : (m : ℕ) → m ≤ n → (i : ℕ) → i < m → getD (sorted first f m) i 0 ≡ f (getD (sorted first′ (λ k. k) m) i 0)
@@ -163,7 +163,7 @@ count-sorted x first [] zero h = refl
 count-sorted x first (d ∷ l) zero h = refl
 count-sorted x first l (suc n) h =
     let s = sorted first (λ j. getD l j 0) n in
-    count-insert x (place (λ p. first (getD l n 0) (getD s p 0)) (length s)) (getD l n 0) s
+    count-insert x (slot (λ p. first (getD l n 0) (getD s p 0)) (length s)) (getD l n 0) s
     ∙ ap (λ (k : ℕ). k + pick (eqb (getD l n 0) x) 1 0) (count-sorted x first l n (omega arith))
     ∙ sym (ap (count x) (take-suc l n 0 h) ∙ count-snoc x (getD l n 0) (take n l))
 
@@ -188,7 +188,7 @@ module _ (first : ℕ → ℕ → Bool) (D : ℕ → Type 0) (s : Strict first D
     l′ = sorted first f (suc n)
 
     abbrev p : ℕ
-    p = placeIn first f n
+    p = slotIn first f n
 
     put : Inserted l l′ n p (f n)
     put = sorted-more first f n
@@ -207,7 +207,7 @@ module _ (first : ℕ → ℕ → Bool) (D : ℕ → Type 0) (s : Strict first D
         within = omega (arith, put .within)
 
         next : first (getD l q 0) (f n) ≡ true
-        next = s .total (f n) (getD l q 0) (d n (omega arith)) (held q within) (other q within) (place-fails (λ k. first (f n) (getD l k 0)) n q e)
+        next = s .total (f n) (getD l q 0) (d n (omega arith)) (held q within) (other q within) (slot-fails (λ k. first (f n) (getD l k 0)) n q e)
 
         go : Dec (i ≡ q) → first (getD l i 0) (f n) ≡ true
         go (yes z) = rw z next
@@ -221,7 +221,7 @@ module _ (first : ℕ → ℕ → Bool) (D : ℕ → Type 0) (s : Strict first D
         go (suc q) e g = low q e i (omega arith)
 
     after-new : (i : ℕ) → p ≤ i → i < n → first (f n) (getD l i 0) ≡ true
-    after-new i h k = place-passes (λ k. first (f n) (getD l k 0)) n i h k
+    after-new i h k = slot-passes (λ k. first (f n) (getD l k 0)) n i h k
 
     -- where the entries of the new list come from
     was-below : (i : ℕ) → i < p → getD l′ i 0 ≡ getD l i 0

@@ -9,7 +9,7 @@ ghost use Rattle.table.specs.Table.{table};
 ghost use Rattle.table.specs.Sound.{Sound};
 ghost use Rattle.anchor.specs.Anchors.{anchors};
 ghost use Rattle.order.specs.HoleOrder.{goesBefore};
-ghost use Rattle.order.specs.HoleLists.{Room, Gathered, Bounded, placeOf, Ordered};
+ghost use Rattle.order.specs.HoleLists.{Room, Gathered, Bounded, slotOf, Ordered};
 ghost use Rattle.order.specs.Insertion.{Inserted};
 
 // The holes in contour order: hole j's contour and its anchor. Answers how many there are.
@@ -69,7 +69,7 @@ fn goes_before(a: Anchor, b: Anchor, c: u32, d: u32) -> bool
 fn insert(who: &[u32], x: &[i32], y: &[i32], to_x: &[i32], to_y: &[i32], ord: &mut [u32], j: usize)
     requires { ⌜ (Bounded (now who) (anchors (now x) (now y) (now «to_x») (now «to_y»)) (suc j)) × (j < maxLinks) ⌝ }
     requires { ⌜ (j < length (now ord)) × ((i : ℕ) → i < j → getD (now ord) i 0 < j) ⌝ }
-    ensures { λ _. ⌜ Inserted (now (ord .entry)) (now (ord .exit)) j (placeOf (anchors (now (x .entry)) (now (y .entry)) (now («to_x» .entry)) (now («to_y» .entry))) (now (who .entry)) (now (ord .entry)) j) j ⌝ }
+    ensures { λ _. ⌜ Inserted (now (ord .entry)) (now (ord .exit)) j (slotOf (anchors (now (x .entry)) (now (y .entry)) (now («to_x» .entry)) (now («to_y» .entry))) (now (who .entry)) (now (ord .entry)) j) j ⌝ }
 {
     let a = anchor::listed_anchor(x, y, to_x, to_y, j);
     let c = who[j];

@@ -10,8 +10,8 @@ use borrow.Author.Tests.{eq-eqb, ne-eqb}
 use Rattle.laws.specs.Lists.{put-below}
 use Rattle.laws.specs.Count.{count-none, count-more}
 use Rattle.table.specs.Table.{hulls, droppedOwner}
-use Rattle.owners.specs.Owners.{firstOwner, listOf}
-use Rattle.owners.specs.OwnerLaws.{list-length, list-at}
+use Rattle.owners.specs.Owners.{firstOwner, tabulate}
+use Rattle.owners.specs.OwnerLaws.{tabulate-length, tabulate-at}
 
 -- ---- `number_hulls`
 pub record Numbering (kind old new : List ℕ) (shape c : ℕ) : Type 0 where
@@ -43,11 +43,11 @@ module _ (kind old new : List ℕ) (shape c : ℕ) (n : Numbering kind old new s
     done = put-below 0 (firstOwner kind) new c droppedOwner (omega (arith, n .len)) (rw (ne-eqb _ _ e)) (n .done);
   }
 
-pub numbering-end : (kind old new : List ℕ) (shape c : ℕ) → Numbering kind old new shape c → length kind ≤ c → length old ≡ length kind → new ≡ listOf (firstOwner kind) (length kind)
+pub numbering-end : (kind old new : List ℕ) (shape c : ℕ) → Numbering kind old new shape c → length kind ≤ c → length old ≡ length kind → new ≡ tabulate (firstOwner kind) (length kind)
 numbering-end kind old new shape c n h r =
-    ext-getD 0 new (listOf (firstOwner kind) (length kind)) (n .len ∙ r ∙ sym (list-length (firstOwner kind) (length kind))) each
+    ext-getD 0 new (tabulate (firstOwner kind) (length kind)) (n .len ∙ r ∙ sym (tabulate-length (firstOwner kind) (length kind))) each
   where
-    each : (i : ℕ) → i < length new → getD new i 0 ≡ getD (listOf (firstOwner kind) (length kind)) i 0
+    each : (i : ℕ) → i < length new → getD new i 0 ≡ getD (tabulate (firstOwner kind) (length kind)) i 0
     each i l =
         let m : i < length kind = omega (arith, n .len) in
-        n .done i (omega arith) ∙ sym (list-at (firstOwner kind) (length kind) i m)
+        n .done i (omega arith) ∙ sym (tabulate-at (firstOwner kind) (length kind) i m)

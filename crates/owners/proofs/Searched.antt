@@ -24,7 +24,7 @@ use Rattle.anchor.specs.Anchors.{Anchors, listedAnchor}
 use Rattle.anchor.specs.AnchorPositions.{anchor-on-grid, end-on-grid}
 use Rattle.candidates.specs.Candidates.{rightward}
 use Rattle.nearest.specs.Search.{searchUnder}
-use Rattle.nearest.specs.Lists.{giving, Placed}
+use Rattle.nearest.specs.SearchLists.{giving, SortedAnchors}
 use Rattle.nearest.specs.Least.{under-few}
 use Rattle.order.specs.HoleOrder.{goesBefore, precedes, sorted, holes, hole, bindingOrder}
 use Rattle.order.specs.HoleLaws.{Rising, holes-rising, holes-are}
@@ -89,8 +89,8 @@ module _ (t : Table) (s : Sound t) (cw : Bool) (a : Anchored t cw) (m : ℕ) (wh
             (not-left (anchorEdge t cw (hole t p) .at) (anchorEdge t cw (hole t q) .at)
             (a .order (hole t p) (hole t q) (rising .rises p q i (among q n)) (hole-below q n) (holes-are t (contourCount t) p (among p (omega arith))) (holes-are t (contourCount t) q (among q n))))
 
-    pub placed : Placed h m
-    placed = record {
+    pub sorted-anchors : SortedAnchors h m
+    sorted-anchors = record {
       x-room = bounded-room .x-room;
       y-room = bounded-room .y-room;
       to-x-room = bounded-room .to-x-room;

@@ -20,25 +20,25 @@ use Rattle.order.specs.HoleOrder.{bindingOrder}
 use Rattle.order.specs.OrderLaws.{each-once}
 use Rattle.owners.specs.declared.Given.{Given}
 use Rattle.owners.specs.declared.Given.the-variants.{All, Stuck}
-use Rattle.owners.specs.Owners.{Owned, owned, given, firstOwner, listOf, giveEach, contourBelow, searchedOwners, ownersOf}
+use Rattle.owners.specs.Owners.{Owned, owned, given, firstOwner, tabulate, giveEach, contourBelow, searchedOwners, ownersOf}
 
 -- ---- a list of a rule's values
-pub list-length : (f : ℕ → ℕ) (n : ℕ) → length (listOf f n) ≡ n
-unfolding listOf
-list-length f zero = refl
-list-length f (suc n) = ap suc (list-length (λ k. f (suc k)) n)
+pub tabulate-length : (f : ℕ → ℕ) (n : ℕ) → length (tabulate f n) ≡ n
+unfolding tabulate
+tabulate-length f zero = refl
+tabulate-length f (suc n) = ap suc (tabulate-length (λ k. f (suc k)) n)
 
-list-past : (f : ℕ → ℕ) (n i : ℕ) → n ≤ i → getD (listOf f n) i 0 ≡ 0
-unfolding listOf
-list-past f zero i h = refl
-list-past f (suc n) zero h = absurd (not-suc-le-zero h)
-list-past f (suc n) (suc i) h = list-past (λ k. f (suc k)) n i (omega arith)
+tabulate-past : (f : ℕ → ℕ) (n i : ℕ) → n ≤ i → getD (tabulate f n) i 0 ≡ 0
+unfolding tabulate
+tabulate-past f zero i h = refl
+tabulate-past f (suc n) zero h = absurd (not-suc-le-zero h)
+tabulate-past f (suc n) (suc i) h = tabulate-past (λ k. f (suc k)) n i (omega arith)
 
-pub list-at : (f : ℕ → ℕ) (n i : ℕ) → i < n → getD (listOf f n) i 0 ≡ f i
-unfolding listOf
-list-at f zero i h = absurd (not-suc-le-zero h)
-list-at f (suc n) zero h = refl
-list-at f (suc n) (suc i) h = list-at (λ k. f (suc k)) n i (omega arith)
+pub tabulate-at : (f : ℕ → ℕ) (n i : ℕ) → i < n → getD (tabulate f n) i 0 ≡ f i
+unfolding tabulate
+tabulate-at f zero i h = absurd (not-suc-le-zero h)
+tabulate-at f (suc n) zero h = refl
+tabulate-at f (suc n) (suc i) h = tabulate-at (λ k. f (suc k)) n i (omega arith)
 
 -- ---- giving keeps owners below a bound
 module _ (under : ℕ → ℕ) (n : ℕ) (some : 0 < n) where
@@ -122,25 +122,25 @@ hole-none : (kinds : List ℕ) (c : ℕ) → (getD kinds c 0 ≡ 0 → ⊥) → 
 hole-none kinds c e = rw (ne-eqb _ _ e)
 
 module _ (t : Table) (s : Sound t) (some : 0 < hullCount t) where
-  first-held : Held (λ k. k) (hullCount t) some (listOf (firstOwner (t .kind)) (contourCount t))
+  first-held : Held (λ k. k) (hullCount t) some (tabulate (firstOwner (t .kind)) (contourCount t))
   first-held c = go (decLe (suc c) (contourCount t)) (ℕ-discrete (kindOf t c) 0)
     where
-      go : Dec (c < contourCount t) → Dec (kindOf t c ≡ 0) → (getD (listOf (firstOwner (t .kind)) (contourCount t)) c 0 < hullCount t) ⊎ (getD (listOf (firstOwner (t .kind)) (contourCount t)) c 0 ≡ droppedOwner)
-      go (yes h) (yes k) = inl (rw (list-at (firstOwner (t .kind)) (contourCount t) c h) (hull-below (t .kind) c (omega (arith, s .kind-long)) k))
-      go (yes h) (no k) = inr (list-at (firstOwner (t .kind)) (contourCount t) c h ∙ hole-none (t .kind) c k)
-      go (no h) k = inl (rw (list-past (firstOwner (t .kind)) (contourCount t) c (omega arith)) some)
+      go : Dec (c < contourCount t) → Dec (kindOf t c ≡ 0) → (getD (tabulate (firstOwner (t .kind)) (contourCount t)) c 0 < hullCount t) ⊎ (getD (tabulate (firstOwner (t .kind)) (contourCount t)) c 0 ≡ droppedOwner)
+      go (yes h) (yes k) = inl (rw (tabulate-at (firstOwner (t .kind)) (contourCount t) c h) (hull-below (t .kind) c (omega (arith, s .kind-long)) k))
+      go (yes h) (no k) = inr (tabulate-at (firstOwner (t .kind)) (contourCount t) c h ∙ hole-none (t .kind) c k)
+      go (no h) k = inl (rw (tabulate-past (firstOwner (t .kind)) (contourCount t) c (omega arith)) some)
 
   searched-below : (cw : Bool) (l : List ℕ) → searchedOwners t cw ≡ owned All l → (c : ℕ) → c < contourCount t → getD l c 0 < hullCount t
   searched-below cw l e c h = go (ℕ-discrete (kindOf t c) 0)
     where
-      r : Below (contourBelow t cw) (hullCount t) some (bindingOrder t cw) (listOf (firstOwner (t .kind)) (contourCount t)) l
-      r = all-given (contourBelow t cw) (hullCount t) some (bindingOrder t cw) (listOf (firstOwner (t .kind)) (contourCount t)) l first-held e
+      r : Below (contourBelow t cw) (hullCount t) some (bindingOrder t cw) (tabulate (firstOwner (t .kind)) (contourCount t)) l
+      r = all-given (contourBelow t cw) (hullCount t) some (bindingOrder t cw) (tabulate (firstOwner (t .kind)) (contourCount t)) l first-held e
 
       hole-at : Place 0 c (bindingOrder t cw) → getD l c 0 < hullCount t
       hole-at m = subst (λ (d : ℕ). getD l d 0 < hullCount t) (m .here) (r .gone (m .place) (m .within))
 
       go : Dec (kindOf t c ≡ 0) → getD l c 0 < hullCount t
-      go (yes k) = r .kept c (rw (list-at (firstOwner (t .kind)) (contourCount t) c h) (hull-below (t .kind) c (omega (arith, s .kind-long)) k))
+      go (yes k) = r .kept c (rw (tabulate-at (firstOwner (t .kind)) (contourCount t) c h) (hull-below (t .kind) c (omega (arith, s .kind-long)) k))
       go (no k) =
           let i : kindOf t c ≡ 1 = omega (arith, s .kinds c h) in
           let o : count c (bindingOrder t cw) ≡ 1 = each-once t cw c ∙ rw (lt-ltb c (contourCount t) h, eq-eqb _ _ i) in

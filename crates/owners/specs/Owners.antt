@@ -28,9 +28,9 @@ contourBelow t cw c = searchUnder t withFillAbove cw everyContour (anchorEdge t 
 abbrev pub firstOwner : List ℕ → ℕ → ℕ
 firstOwner kinds c = pick (eqb (getD kinds c 0) 0) (hulls (take c kinds)) droppedOwner
 
-unfoldable pub listOf : (ℕ → ℕ) → ℕ → List ℕ
-listOf f zero = []
-listOf f (suc n) = f zero ∷ listOf (λ k. f (suc k)) n
+unfoldable pub tabulate : (ℕ → ℕ) → ℕ → List ℕ
+tabulate f zero = []
+tabulate f (suc n) = f zero ∷ tabulate (λ k. f (suc k)) n
 
 -- owners, with all holes' parents found or the contour of the first hole that finds none
 pub record Owned : Type 0 where
@@ -53,7 +53,7 @@ giveEach under (c ∷ l) owners =
     pick (eqb parent droppedOwner) (owned (Stuck c) owners) rest
 
 abbrev pub searchedOwners : Table → Bool → Owned
-searchedOwners t cw = giveEach (contourBelow t cw) (bindingOrder t cw) (listOf (firstOwner (t .kind)) (contourCount t))
+searchedOwners t cw = giveEach (contourBelow t cw) (bindingOrder t cw) (tabulate (firstOwner (t .kind)) (contourCount t))
 
 -- ---- the owners of every contour
 -- "With no hulls, holes are dropped and counted. With one hull, every hole gets it without a search."

@@ -7,7 +7,7 @@ ghost use Rattle.table.specs.Table.{table};
 ghost use Rattle.table.specs.Sound.{Sound};
 ghost use Rattle.anchor.specs.Anchored.{Anchored};
 ghost use Rattle.order.specs.HoleOrder.{bindingOrder};
-ghost use Rattle.owners.specs.Owners.{owned, firstOwner, listOf, given, giveEach, contourBelow};
+ghost use Rattle.owners.specs.Owners.{owned, firstOwner, tabulate, given, giveEach, contourBelow};
 ghost use Rattle.owners.specs.Giving.{giveListed, Listed};
 
 // Every hole has its owner, or the contour of the first that finds none.
@@ -19,7 +19,7 @@ pub enum Given {
 // The first owners: a hull's is its own number, a hole has none yet.
 pub fn number_hulls(kind: &[u8], own: &mut [u16])
     requires { ⌜ (length (now own) ≡ length (now kind)) × (length (now kind) ≤ maxLinks) ⌝ }
-    ensures { λ _. ⌜ now (own .exit) ≡ listOf (firstOwner (now (kind .entry))) (length (now (kind .entry))) ⌝ }
+    ensures { λ _. ⌜ now (own .exit) ≡ tabulate (firstOwner (now (kind .entry))) (length (now (kind .entry))) ⌝ }
 {
     let mut shape: u16 = 0;
     let mut c = 0;

@@ -22,16 +22,16 @@ abbrev pub table : List ℤ → List ℕ → List ℕ → List ℕ → Table
 table points first len kind = record { points = points; first = first; len = len; kind = kind }
 
 -- ---- points, by their position in the list
-abbrev pub pointAt : List ℤ → ℕ → Point
-pointAt l p = record { x = getD l (p * 2) (pos 0); y = getD l (p * 2 + 1) (pos 0) }
+abbrev pub pointIn : List ℤ → ℕ → Point
+pointIn l p = record { x = getD l (p * 2) (pos 0); y = getD l (p * 2 + 1) (pos 0) }
 
 abbrev pub pointCount : Table → ℕ
 pointCount t = length (t .points) / 2
 
 abbrev pub point : Table → ℕ → Point
-point t p = pointAt (t .points) p
+point t p = pointIn (t .points) p
 
--- ---- contours, by their number: contour c's points stand from `firstOf t c` up to `endOf t c`
+-- ---- contours, by their number: contour c's points stand from `firstOf t c` up to `rangeEnd t c`
 abbrev pub contourCount : Table → ℕ
 contourCount t = length (t .first)
 
@@ -41,8 +41,8 @@ firstOf t c = getD (t .first) c 0
 abbrev pub lenOf : Table → ℕ → ℕ
 lenOf t c = getD (t .len) c 0
 
-abbrev pub endOf : Table → ℕ → ℕ
-endOf t c = firstOf t c + lenOf t c
+abbrev pub rangeEnd : Table → ℕ → ℕ
+rangeEnd t c = firstOf t c + lenOf t c
 
 abbrev pub kindOf : Table → ℕ → ℕ
 kindOf t c = getD (t .kind) c 0
@@ -53,7 +53,7 @@ contour t c = take (lenOf t c) (drop (firstOf t c) (pointsOf (t .points)))
 
 -- the contour of the point at position p: the lowest that ends after it
 abbrev pub contourOf : Table → ℕ → ℕ
-contourOf t p = lowest (λ c. ltb p (endOf t c)) (contourCount t)
+contourOf t p = lowest (λ c. ltb p (rangeEnd t c)) (contourCount t)
 
 -- ---- round a contour: after the last point comes the first
 abbrev pub nextIn : ℕ → ℕ → ℕ → ℕ
@@ -63,10 +63,10 @@ abbrev pub previousIn : ℕ → ℕ → ℕ → ℕ
 previousIn from to p = pick (eqb p from) (to - 1) (p - 1)
 
 abbrev pub next : Table → ℕ → ℕ → ℕ
-next t c p = nextIn (firstOf t c) (endOf t c) p
+next t c p = nextIn (firstOf t c) (rangeEnd t c) p
 
 abbrev pub previous : Table → ℕ → ℕ → ℕ
-previous t c p = previousIn (firstOf t c) (endOf t c) p
+previous t c p = previousIn (firstOf t c) (rangeEnd t c) p
 
 -- ---- hulls and holes
 abbrev pub isHull : Table → ℕ → Bool

@@ -11,7 +11,7 @@ use Rattle.turn.specs.Points.{differ, offGrid}
 use Rattle.turn.specs.Refusals.{refuseIf, refuseAt}
 use Rattle.turn.specs.declared.Checked.{Checked}
 use Rattle.turn.specs.declared.Checked.the-variants.{Fine}
-use Rattle.table.specs.Table.{Table, pointAt, pointCount, contourCount, firstOf, lenOf, kindOf, previousIn}
+use Rattle.table.specs.Table.{Table, pointIn, pointCount, contourCount, firstOf, lenOf, kindOf, previousIn}
 
 -- ---- 10, "binding, first", at 0
 -- "lists differ in length; room for owners below the contour count; more than 4,096 points"; a last x without its y counts as a list of wrong length
@@ -36,7 +36,7 @@ rangeFault count start first len kind =
 
 -- "coordinate out of range": of the contour that stands from a position up to another, the point at p is off the grid or, "round it", equal to the one before it
 abbrev pub pointFault : List ℤ → ℕ → ℕ → ℕ → Bool
-pointFault points from to p = offGrid (pointAt points p) || not (differ (pointAt points (previousIn from to p)) (pointAt points p))
+pointFault points from to p = offGrid (pointIn points p) || not (differ (pointIn points (previousIn from to p)) (pointIn points p))
 
 abbrev pub somePointFault : List ℤ → ℕ → ℕ → Bool
 somePointFault points from len = some (λ k. pointFault points from (from + len) (from + k)) len

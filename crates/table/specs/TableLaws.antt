@@ -12,14 +12,14 @@ use borrow.Author.Tests.{eq-eqb, ne-eqb}
 use Rattle.laws.specs.Test.{pick}
 use Rattle.turn.specs.declared.Point.{Point}
 use Rattle.turn.specs.Points.{OnGrid, Grid}
-use Rattle.table.specs.Table.{pointAt, nextIn, previousIn}
+use Rattle.table.specs.Table.{pointIn, nextIn, previousIn}
 use Rattle.table.specs.TableChecks.{startIn}
 
 -- ---- points
-pub grid-point : (points : List ℤ) (p : ℕ) → Grid points → p * 2 + 1 < length points → OnGrid (pointAt points p)
+pub grid-point : (points : List ℤ) (p : ℕ) → Grid points → p * 2 + 1 < length points → OnGrid (pointIn points p)
 grid-point points p g h = (g (p * 2) (omega arith), g (p * 2 + 1) h)
 
-pub grid-read : (points : List ℤ) (p : ℕ) (q : Point) → q ≡ pointAt points p → Grid points → p * 2 + 1 < length points → OnGrid q
+pub grid-read : (points : List ℤ) (p : ℕ) (q : Point) → q ≡ pointIn points p → Grid points → p * 2 + 1 < length points → OnGrid q
 grid-read points p q e g h = subst (λ (x : Point). OnGrid x) (sym e) (grid-point points p g h)
 
 -- ---- where ranges begin

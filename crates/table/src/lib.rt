@@ -8,16 +8,16 @@ ghost use lib.Dec.{eqb};
 ghost use lib.ListN.{length, take};
 ghost use Rattle.laws.specs.Test.{pick};
 ghost use Rattle.laws.specs.Lowest.{lowest};
-ghost use Rattle.table.specs.Table.{table, pointAt, hulls};
+ghost use Rattle.table.specs.Table.{table, pointIn, hulls};
 ghost use Rattle.table.specs.TableChecks.{misfit, startIn, rangeFault, somePointFault, contourFault, badContour, tableChecked};
 
 // The owner of a hole where there is no hull.
 pub const DROPPED: u16 = 65535;
 
 // The point at position p of a list of x and y in turn.
-pub fn point_at(points: &[i32], p: usize) -> Point
+pub fn point_in(points: &[i32], p: usize) -> Point
     requires { ⌜ p * 2 + 1 < length (now points) ⌝ }
-    ensures { λ r. ⌜ r ≡ pointAt (now (points .entry)) p ⌝ }
+    ensures { λ r. ⌜ r ≡ pointIn (now (points .entry)) p ⌝ }
 {
     let i = p * 2;
     Point {
@@ -68,10 +68,10 @@ fn some_point_fault(points: &[i32], from: usize, len: usize) -> bool
     requires { ⌜ (3 ≤ len) × ((from + len) * 2 ≤ length (now points)) ⌝ }
     ensures { λ r. ⌜ r ≡ somePointFault (now (points .entry)) from len ⌝ }
 {
-    let mut last = point_at(points, from + len - 1);
+    let mut last = point_in(points, from + len - 1);
     let mut k = 0;
     while k < len {
-        let here = point_at(points, from + k);
+        let here = point_in(points, from + k);
         if off_grid(here) | !turn::differ(last, here) {
             return true;
         }

@@ -4,7 +4,7 @@ use mathlib.Core.Path.{ap, _∙_}
 use native.Mathlib.Omega.{arith}
 use denote.Ref.{now}
 use borrow.Author.Needs.{needs}
-use Rattle.table.specs.Table.{pointAt}
+use Rattle.table.specs.Table.{pointIn}
 use Rattle.table.specs.TableLaws.{grid-read}
 use Rattle.anchor.specs.AnchorPositions.{anchor-high, before-anchor-within, edge-is}
 use Rattle.anchor.proofs.left_bottom_segment_from.Statement.{statement}
@@ -16,17 +16,17 @@ anchor-point-requires c κs = search needs
 anchor-position-requires : tie.Need-anchor-position-requires
 anchor-position-requires c κs = search needs
 
-add-point-at : tie.Need-add-point-at
-add-point-at c = let s = c .before .before in omega (arith, c .anchor-position .ensures, anchor-high (s .args .from) (s .args .clockwise), s .good)
+add-point-in : tie.Need-add-point-in
+add-point-in c = let s = c .before .before in omega (arith, c .anchor-position .ensures, anchor-high (s .args .from) (s .args .clockwise), s .good)
 
-point-at-requires : tie.Need-point-at-requires
-point-at-requires c κs = let s = c .before .before in omega (arith, c .anchor-position .ensures, anchor-high (s .args .from) (s .args .clockwise))
+point-in-requires : tie.Need-point-in-requires
+point-in-requires c κs = let s = c .before .before in omega (arith, c .anchor-position .ensures, anchor-high (s .args .from) (s .args .clockwise))
 
 before-anchor-requires : tie.Need-before-anchor-requires
 before-anchor-requires c κs = let s = c .before .before .before in (s .pre .0, omega (arith, s .good))
 
-point-at-requires-2 : tie.Need-point-at-requires-2
-point-at-requires-2 c κs = let s = c .before .before .before .before in omega (arith, c .before-anchor .ensures, before-anchor-within (s .args .from) (s .args .len) (s .args .clockwise) (s .pre .0))
+point-in-requires-2 : tie.Need-point-in-requires-2
+point-in-requires-2 c κs = let s = c .before .before .before .before in omega (arith, c .before-anchor .ensures, before-anchor-within (s .args .from) (s .args .len) (s .args .clockwise) (s .pre .0))
 
 lower-end-requires : tie.Need-lower-end-requires
 lower-end-requires c κs =
@@ -36,15 +36,15 @@ lower-end-requires c κs =
     let h = anchor-high (a .from) (a .clockwise) in
     let k = before-anchor-within (a .from) (a .len) (a .clockwise) (s .pre .0) in (
       grid-read p _ _ (c .before .before .before .before .anchor-point .ensures) (s .pre .2) (omega arith),
-      grid-read p _ _ (c .before .before .point-at .ensures) (s .pre .2) (omega (arith, c .before .before .before .anchor-position .ensures)),
-      grid-read p _ _ (c .point-at2 .ensures) (s .pre .2) (omega (arith, c .before .before-anchor .ensures)),
+      grid-read p _ _ (c .before .before .point-in .ensures) (s .pre .2) (omega (arith, c .before .before .before .anchor-position .ensures)),
+      grid-read p _ _ (c .point-in2 .ensures) (s .pre .2) (omega (arith, c .before .before-anchor .ensures)),
     )
 
 returns : tie.Need-returns
 returns c =
     let a = c .before .before .before .before .before .before .args in
-    let next = c .before .before .before .point-at .ensures ∙ ap (λ x. pointAt (now (a .points)) (x + 1)) (c .before .before .before .before .anchor-position .ensures) in
-    let previous = c .before .point-at2 .ensures ∙ ap (pointAt (now (a .points))) (c .before .before .before-anchor .ensures) in
+    let next = c .before .before .before .point-in .ensures ∙ ap (λ x. pointIn (now (a .points)) (x + 1)) (c .before .before .before .before .anchor-position .ensures) in
+    let previous = c .before .point-in2 .ensures ∙ ap (pointIn (now (a .points))) (c .before .before .before-anchor .ensures) in
     edge-is (now (a .points)) (a .from) (a .len) (a .clockwise) (c .before .before .before .before .before .before .pre .0) _ _ _ _ (c .before .before .before .before .before .anchor-point .ensures) next previous (c .lower-end .ensures)
 
 pub left-bottom-segment-from-spec : {M : Type 1} → statement M
@@ -53,9 +53,9 @@ left-bottom-segment-from-spec =
     (tie.spec
     anchor-point-requires
     anchor-position-requires
-    add-point-at
-    point-at-requires
+    add-point-in
+    point-in-requires
     before-anchor-requires
-    point-at-requires-2
+    point-in-requires-2
     lower-end-requires
     returns)

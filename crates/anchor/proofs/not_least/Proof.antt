@@ -8,12 +8,12 @@ use borrow.Author.Count.{below-none, below-more}
 use Rattle.laws.specs.Lowest.{None, some-yes, some-no}
 use Rattle.turn.specs.declared.Point.{Point}
 use Rattle.turn.specs.Points.{before}
-use Rattle.table.specs.Table.{pointAt}
+use Rattle.table.specs.Table.{pointIn}
 use Rattle.anchor.proofs.not_least.Statement.{statement}
 use Rattle.anchor.proofs.not_least.Tie as tie
 
 abbrev Inv-loop : tie.InvT-loop
-Inv-loop points from len anchor k₀ k = (k ≤ len) × None (λ i. before (pointAt points (from + i)) anchor) k
+Inv-loop points from len anchor k₀ k = (k ≤ len) × None (λ i. before (pointIn points (from + i)) anchor) k
 
 abbrev μ-loop : tie.MeasureT-loop
 μ-loop points from len anchor k₀ k = len - k
@@ -21,11 +21,11 @@ abbrev μ-loop : tie.MeasureT-loop
 loop-holds : tie.Need-loop-holds Inv-loop μ-loop
 loop-holds c = (omega arith, below-none _)
 
-add-point-at : tie.Need-add-point-at Inv-loop μ-loop
-add-point-at c = omega arith
+add-point-in : tie.Need-add-point-in Inv-loop μ-loop
+add-point-in c = omega arith
 
-point-at-requires : tie.Need-point-at-requires Inv-loop μ-loop
-point-at-requires c κs = omega arith
+point-in-requires : tie.Need-point-in-requires Inv-loop μ-loop
+point-in-requires c κs = omega arith
 
 before-requires : tie.Need-before-requires Inv-loop μ-loop
 before-requires c κs = search needs
@@ -33,14 +33,14 @@ before-requires c κs = search needs
 here :
     (c : tie.After-before2 Inv-loop μ-loop) →
     let a = c .before .before .before .before .args in
-    c .before2 .result ≡ before (pointAt (now (a .points)) (a .from + c .before .before .before .loop .k)) (a .anchor)
-here c = c .before2 .ensures ∙ ap (λ (p : Point). before p (c .before .before .before .before .args .anchor)) (c .before .point-at .ensures)
+    c .before2 .result ≡ before (pointIn (now (a .points)) (a .from + c .before .before .before .loop .k)) (a .anchor)
+here c = c .before2 .ensures ∙ ap (λ (p : Point). before p (c .before .before .before .before .args .anchor)) (c .before .point-in .ensures)
 
 returns : tie.Need-returns Inv-loop μ-loop
 returns c =
     let a = c .before .before .before .before .before .args in
     let l = c .before .before .before .before .loop in
-    sym (some-yes (λ i. before (pointAt (now (a .points)) (a .from + i)) (a .anchor)) (a .len) (l .k) (omega arith) (l .inv .1) (sym (here (c .before)) ∙ c .if1 .taken))
+    sym (some-yes (λ i. before (pointIn (now (a .points)) (a .from + i)) (a .anchor)) (a .len) (l .k) (omega arith) (l .inv .1) (sym (here (c .before)) ∙ c .if1 .taken))
 
 add-k : tie.Need-add-k Inv-loop μ-loop
 add-k c = omega arith
@@ -54,7 +54,7 @@ loop-again c = (omega arith, below-more _ _ (c .before .before .before .before .
 returns-2 : tie.Need-returns-2 Inv-loop μ-loop
 returns-2 c =
     let a = c .before .before .args in
-    sym (some-no (λ i. before (pointAt (now (a .points)) (a .from + i)) (a .anchor)) (a .len) (λ k l. c .before .loop .inv .1 k (omega arith)))
+    sym (some-no (λ i. before (pointIn (now (a .points)) (a .from + i)) (a .anchor)) (a .len) (λ k l. c .before .loop .inv .1 k (omega arith)))
 
 pub not-least-spec : {M : Type 1} → statement M
 not-least-spec =
@@ -63,8 +63,8 @@ not-least-spec =
     Inv-loop
     μ-loop
     loop-holds
-    add-point-at
-    point-at-requires
+    add-point-in
+    point-in-requires
     before-requires
     returns
     add-k

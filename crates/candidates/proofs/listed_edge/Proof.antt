@@ -5,21 +5,21 @@ use lib.ListN.{getD}
 use borrow.Author.Needs.{needs}
 use Rattle.turn.specs.declared.Point.{Point}
 use Rattle.turn.specs.Points.{OnGrid}
-use Rattle.table.specs.Table.{pointAt}
+use Rattle.table.specs.Table.{pointIn}
 use Rattle.table.specs.TableLaws.{grid-read}
-use Rattle.candidates.specs.EdgeLists.{Lists, lists}
+use Rattle.candidates.specs.EdgeLists.{EdgeLists, edgeLists}
 use Rattle.candidates.proofs.Listing.{edge-right, edge-left}
 use Rattle.candidates.proofs.listed_edge.Statement.{statement}
 use Rattle.candidates.proofs.listed_edge.Tie as tie
 
-abbrev g : tie.Start → Lists
-g s = lists (s .args .points .now) (s .args .next .now) (s .args .of .now) (s .args .kind .now) (s .args .right)
+abbrev g : tie.Start → EdgeLists
+g s = edgeLists (s .args .points .now) (s .args .next .now) (s .args .of .now) (s .args .kind .now) (s .args .right)
 
 -- both ends lie within the bounds
-here : (s : tie.Start) (p : Point) → p ≡ pointAt (s .args .points .now) (s .args .k) → OnGrid p
+here : (s : tie.Start) (p : Point) → p ≡ pointIn (s .args .points .now) (s .args .k) → OnGrid p
 here s p e = grid-read (s .args .points .now) (s .args .k) p e (s .pre .0 .grid) (omega (arith, s .pre .0 .room, s .pre .1))
 
-there : (s : tie.Start) (q : Point) → q ≡ pointAt (s .args .points .now) (getD (s .args .next .now) (s .args .k) 0) → OnGrid q
+there : (s : tie.Start) (q : Point) → q ≡ pointIn (s .args .points .now) (getD (s .args .next .now) (s .args .k) 0) → OnGrid q
 there s q e = grid-read (s .args .points .now) (getD (s .args .next .now) (s .args .k) 0) q e (s .pre .0 .grid) (omega (arith, s .pre .0 .next (s .args .k) (s .pre .1), s .pre .0 .room))
 
 mul-c : tie.Need-mul-c
@@ -43,20 +43,20 @@ shared-slice-read-j c = search needs
 cast-j : tie.Need-cast-j
 cast-j c = let s = c .before .before .before .before .before .before in omega (arith, c .shared-slice-known6 .given (s .args .k))
 
-point-at-requires : tie.Need-point-at-requires
-point-at-requires c κs = search needs
+point-in-requires : tie.Need-point-in-requires
+point-in-requires c κs = search needs
 
-point-at-requires-2 : tie.Need-point-at-requires-2
-point-at-requires-2 c κs = let s = c .before .before .before .before .before .before .before in omega (arith, s .pre .0 .next (s .args .k) (s .pre .1), s .pre .0 .room)
+point-in-requires-2 : tie.Need-point-in-requires-2
+point-in-requires-2 c κs = let s = c .before .before .before .before .before .before .before in omega (arith, s .pre .0 .next (s .args .k) (s .pre .1), s .pre .0 .room)
 
 returns : tie.Need-returns
 returns c =
-    let s = c .before .before .before .before .before .before .before .before .before in let p = c .before .before .point-at in let q = c .before .point-at2 in
+    let s = c .before .before .before .before .before .before .before .before .before in let p = c .before .before .point-in in let q = c .before .point-in2 in
     (edge-right (g s) _ (p .result) (q .result) (p .ensures) (q .ensures) (c .if1 .taken), here s (p .result) (p .ensures), there s (q .result) (q .ensures))
 
 returns-2 : tie.Need-returns-2
 returns-2 c =
-    let s = c .before .before .before .before .before .before .before .before .before in let p = c .before .before .point-at in let q = c .before .point-at2 in
+    let s = c .before .before .before .before .before .before .before .before .before in let p = c .before .before .point-in in let q = c .before .point-in2 in
     (edge-left (g s) _ (p .result) (q .result) (p .ensures) (q .ensures) (c .if1 .left), there s (q .result) (q .ensures), here s (p .result) (p .ensures))
 
 pub listed-edge-spec : {M : Type 1} → statement M
@@ -70,7 +70,7 @@ listed-edge-spec =
     mul-j
     shared-slice-read-j
     cast-j
-    point-at-requires
-    point-at-requires-2
+    point-in-requires
+    point-in-requires-2
     returns
     returns-2)

@@ -5,7 +5,7 @@ use Prim.Native.Nat.{ℕ, _-_, _≤_, _<_}
 use lib.ListN.{length, getD, length-set}
 use borrow.Author.Count.{below-none}
 use Rattle.laws.specs.Lists.{put-below}
-use Rattle.nearest.specs.Lists.{named}
+use Rattle.nearest.specs.SearchLists.{named}
 use Rattle.nearest.proofs.name_contours.Statement.{statement}
 use Rattle.nearest.proofs.name_contours.Tie as tie
 

@@ -3,19 +3,19 @@ use native.Mathlib.Omega.{arith}
 use Prim.Native.Nat.{_-_}
 use lib.ListN.{getD}
 use Rattle.anchor.specs.Anchors.{Anchors, anchors}
-use Rattle.candidates.specs.EdgeLists.{Lists, lists}
+use Rattle.candidates.specs.EdgeLists.{EdgeLists, edgeLists}
 use Rattle.nearest.proofs.Offers.{Offering, Held, held, kept-at, offer-back, offer-start, offer-past, offer-more, offer-end}
 use Rattle.nearest.proofs.offer.Statement.{statement}
 use Rattle.nearest.proofs.offer.Tie as tie
 
 abbrev Inv-loop : tie.InvT-loop
-Inv-loop points next of kind right n x y to-x to-y m best₀ k e start end j₀ best j = Offering (lists points next of kind right) (anchors x y to-x to-y) k best₀ best j₀ j
+Inv-loop points next of kind right n x y to-x to-y m best₀ k e start end j₀ best j = Offering (edgeLists points next of kind right) (anchors x y to-x to-y) k best₀ best j₀ j
 
 abbrev μ-loop : tie.MeasureT-loop
 μ-loop points next of kind right n x y to-x to-y m best₀ k e start end j₀ best j = m - j
 
-abbrev g : tie.Start Inv-loop μ-loop → Lists
-g s = lists (s .args .points .now) (s .args .next .now) (s .args .of .now) (s .args .kind .now) (s .args .right)
+abbrev g : tie.Start Inv-loop μ-loop → EdgeLists
+g s = edgeLists (s .args .points .now) (s .args .next .now) (s .args .of .now) (s .args .kind .now) (s .args .right)
 
 abbrev h : tie.Start Inv-loop μ-loop → Anchors
 h s = anchors (s .args .x .now) (s .args .y .now) (s .args .to-x .now) (s .args .to-y .now)

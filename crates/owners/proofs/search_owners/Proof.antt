@@ -9,7 +9,7 @@ use Rattle.table.specs.Table.{Table, table}
 use Rattle.table.specs.Passing.{contours-few}
 use Rattle.anchor.specs.Anchors.{Anchors, anchors}
 use Rattle.order.specs.HoleLists.{Room}
-use Rattle.owners.proofs.Searched.{few-holes, bounded, placed, listed, gave}
+use Rattle.owners.proofs.Searched.{few-holes, bounded, sorted-anchors, listed, gave}
 use Rattle.owners.proofs.search_owners.Statement.{statement}
 use Rattle.owners.proofs.search_owners.Tie as tie
 
@@ -67,7 +67,7 @@ slice-aggregate-contours-under-6 c = search needs
 contours-under-requires : tie.Need-contours-under-requires
 contours-under-requires c κs =
     let s = c .before .before .before .before .before .before .before .before .before .before .before .before .before .before .before .before .before .before .before .before .before in let g = c .before .before .before .before .before .before .before .before .before .before .before in let few = few-holes (t s) (s .pre .0) (s .args .clockwise) (s .pre .1) (g .gather-holes .result) (who g) (h g) (g .gather-holes .ensures) in
-    (s .pre .0, ((omega (arith, contours-few (t s) (s .pre .0)), few, few), placed (t s) (s .pre .0) (s .args .clockwise) (s .pre .1) (g .gather-holes .result) (who g) (h g) (g .gather-holes .ensures) (room g)))
+    (s .pre .0, ((omega (arith, contours-few (t s) (s .pre .0)), few, few), sorted-anchors (t s) (s .pre .0) (s .args .clockwise) (s .pre .1) (g .gather-holes .result) (who g) (h g) (g .gather-holes .ensures) (room g)))
 
 slice-aggregate-order-holes : tie.Need-slice-aggregate-order-holes
 slice-aggregate-order-holes c = search needs

@@ -10,7 +10,7 @@ use lib.Signed.{_≤ℤ_, _<ℤ_}
 use Rattle.laws.specs.Test.{pick}
 use Rattle.turn.specs.Points.{OnGrid}
 use Rattle.anchor.specs.Anchors.{Anchors, listedAnchor}
-use Rattle.candidates.specs.EdgeLists.{Lists, listedEdge}
+use Rattle.candidates.specs.EdgeLists.{EdgeLists, listedEdge}
 use Rattle.nearest.specs.Search.{offered, nearest}
 
 -- the contours that give edges: those that a list of flags does not mute
@@ -29,7 +29,7 @@ abbrev pub Sorted : List ℤ → ℕ → Type 0
 Sorted l m = (p q : ℕ) → p ≤ q → q < m → getD l p (pos 0) ≤ℤ getD l q (pos 0)
 
 -- m anchors within the bounds, in order by x
-pub record Placed (h : Anchors) (m : ℕ) : Type 0 where
+pub record SortedAnchors (h : Anchors) (m : ℕ) : Type 0 where
   pub x-room : m ≤ length (h .x)
   pub y-room : m ≤ length (h .y)
   pub to-x-room : m ≤ length (h .to-x)
@@ -50,9 +50,9 @@ abbrev pub Numbers : List ℕ → ℕ → ℕ → Type 0
 Numbers l m n = (j : ℕ) → j < m → getD l j 0 ≤ n
 
 -- edge k has been offered to m anchors
-abbrev pub Offered : Lists → Anchors → ℕ → ℕ → List ℕ → List ℕ → Type 0
+abbrev pub Offered : EdgeLists → Anchors → ℕ → ℕ → List ℕ → List ℕ → Type 0
 Offered g h m k old new = (j : ℕ) → j < m → getD new j 0 ≡ offered (listedEdge g) (listedAnchor h j) k (getD old j 0)
 
 -- the nearest of n edges under each of m anchors
-abbrev pub Nearests : Lists → List ℕ → ℕ → Anchors → ℕ → List ℕ → Type 0
+abbrev pub Nearests : EdgeLists → List ℕ → ℕ → Anchors → ℕ → List ℕ → Type 0
 Nearests g mute n h m best = (j : ℕ) → j < m → getD best j 0 ≡ nearest (listedEdge g) (giving mute) (listedAnchor h j) n
