@@ -8,12 +8,12 @@ ghost use lib.Dec.{eqb};
 ghost use lib.ListN.{length};
 ghost use Rattle.laws.specs.Test.{pick};
 ghost use Rattle.turn.specs.Points.{Grid, OnGrid};
-ghost use Rattle.table.specs.Table.{table, previousIn};
+ghost use Rattle.table.specs.Table.{Table, table, previousIn};
 ghost use Rattle.table.specs.Sound.{Sound};
 ghost use Rattle.anchor.specs.Anchor.{anchorPositionIn, anchorPointIn, lowerEnd, anchorEdgeIn};
 ghost use Rattle.anchor.specs.AnchorChecks.{holeBefore, notLeast, beforeLast, badAnchor, anchorsChecked};
 ghost use Rattle.anchor.specs.Anchored.{Paired};
-ghost use Rattle.anchor.specs.Anchors.{anchors, listedAnchor, withAnchor};
+ghost use Rattle.anchor.specs.Anchors.{Anchors, anchors, listedAnchor, withAnchor};
 
 // A hole's anchor and the other end of its anchor edge.
 pub struct Anchor {
@@ -77,8 +77,10 @@ fn anchor_fault(
     last: usize,
     c: usize,
 ) -> bool
-    requires { ⌜ (Sound (table (now points) (now first) (now len) (now kind))) × (c < length (now first)) × (last ≡ holeBefore (table (now points) (now first) (now len) (now kind)) c) ⌝ }
-    ensures { λ r. ⌜ r ≡ badAnchor (table (now (points .entry)) (now (first .entry)) (now (len .entry)) (now (kind .entry))) clockwise c ⌝ }
+    requires { ⌜ (let t : Table = table (now points) (now first) (now len) (now kind) in
+        (Sound t) × (c < length (now first)) × (last ≡ holeBefore t c)) ⌝ }
+    ensures { λ r. ⌜ (let t : Table = table (now (points .entry)) (now (first .entry)) (now (len .entry)) (now (kind .entry)) in
+        r ≡ badAnchor t clockwise c) ⌝ }
 {
     if kind[c] != 1 {
         return false;
@@ -111,7 +113,8 @@ pub fn check_anchors(
     clockwise: bool,
 ) -> Checked
     requires { ⌜ Sound (table (now points) (now first) (now len) (now kind)) ⌝ }
-    ensures { λ r. ⌜ r ≡ anchorsChecked (table (now (points .entry)) (now (first .entry)) (now (len .entry)) (now (kind .entry))) clockwise ⌝ }
+    ensures { λ r. ⌜ (let t : Table = table (now (points .entry)) (now (first .entry)) (now (len .entry)) (now (kind .entry)) in
+        r ≡ anchorsChecked t clockwise) ⌝ }
 {
     let mut last = 0;
     let mut c = 0;
@@ -167,7 +170,8 @@ fn before_anchor(from: usize, len: usize, clockwise: bool) -> usize
 // Anchor j.
 pub fn listed_anchor(x: &[i32], y: &[i32], to_x: &[i32], to_y: &[i32], j: usize) -> Anchor
     requires { ⌜ (j < length (now x)) × (j < length (now y)) × (j < length (now «to_x»)) × (j < length (now «to_y»)) ⌝ }
-    ensures { λ r. ⌜ r ≡ listedAnchor (anchors (now (x .entry)) (now (y .entry)) (now («to_x» .entry)) (now («to_y» .entry))) j ⌝ }
+    ensures { λ r. ⌜ (let h : Anchors = anchors (now (x .entry)) (now (y .entry)) (now («to_x» .entry)) (now («to_y» .entry)) in
+        r ≡ listedAnchor h j) ⌝ }
 {
     Anchor {
         at: Point { x: x[j], y: y[j] },
@@ -189,7 +193,9 @@ pub fn put_anchor(
 )
     requires { ⌜ (OnGrid (a .at)) × (OnGrid (a .to)) ⌝ }
     requires { ⌜ (j < length (now x)) × (j < length (now y)) × (j < length (now «to_x»)) × (j < length (now «to_y»)) ⌝ }
-    ensures { λ _. ⌜ anchors (now (x .exit)) (now (y .exit)) (now («to_x» .exit)) (now («to_y» .exit)) ≡ withAnchor (anchors (now (x .entry)) (now (y .entry)) (now («to_x» .entry)) (now («to_y» .entry))) j a ⌝ }
+    ensures { λ _. ⌜ (let h : Anchors = anchors (now (x .entry)) (now (y .entry)) (now («to_x» .entry)) (now («to_y» .entry)) in
+        let h′ : Anchors = anchors (now (x .exit)) (now (y .exit)) (now («to_x» .exit)) (now («to_y» .exit)) in
+        h′ ≡ withAnchor h j a) ⌝ }
 {
     let at_x = a.at.x;
     let at_y = a.at.y;

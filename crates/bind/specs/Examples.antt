@@ -5,7 +5,7 @@ use mathlib.Core.List.{[], _∷_, _++_}
 use lib.IntN.{pos}
 use Rattle.laws.specs.Lowest.{lowest}
 use Rattle.laws.specs.Count.{count}
-use Rattle.table.specs.Table.{Table, table}
+use Rattle.table.specs.Table.{Table, table, droppedOwner}
 use Rattle.table.specs.TableChecks.{tableChecked}
 use Rattle.table.specs.Examples.{e9, e10, e10One, noHull}
 use Rattle.anchor.specs.AnchorChecks.{holeBefore, anchorsChecked}
@@ -33,7 +33,7 @@ unfolding tableChecked anchorsChecked lowest count holeBefore ownersOf
 e10-one = refl
 
 -- with no hull both are dropped
-none-bound : bound noHull false (7 ∷ 7 ∷ 7 ∷ []) ≡ outcome (Bound 0 2) (65535 ∷ 65535 ∷ 7 ∷ [])
+none-bound : bound noHull false (7 ∷ 7 ∷ 7 ∷ []) ≡ outcome (Bound 0 2) (droppedOwner ∷ droppedOwner ∷ 7 ∷ [])
 unfolding tableChecked anchorsChecked lowest count holeBefore ownersOf
 none-bound = refl
 

@@ -4,7 +4,7 @@ use turn::Checked;
 ghost use mathlib.Core.Path.{_≡_};
 ghost use Prim.Native.Nat.{ℕ, _<_, _≤_};
 ghost use lib.ListN.{length, replicate};
-ghost use Rattle.table.specs.Table.{table};
+ghost use Rattle.table.specs.Table.{Table, table};
 ghost use Rattle.table.specs.Sound.{Sound};
 ghost use Rattle.anchor.specs.AnchorChecks.{bothChecked};
 ghost use Rattle.anchor.specs.Anchored.{Anchored};
@@ -51,9 +51,11 @@ fn bind_in(
     own: &mut [u16],
     owner: &mut [u16],
 ) -> Given
-    requires { ⌜ (Sound (table (now points) (now first) (now len) (now kind))) × (Anchored (table (now points) (now first) (now len) (now kind)) clockwise) ⌝ }
+    requires { ⌜ (let t : Table = table (now points) (now first) (now len) (now kind) in
+        (Sound t) × (Anchored t clockwise)) ⌝ }
     requires { ⌜ (length (now own) ≡ length (now first)) × (length (now first) ≤ length (now owner)) ⌝ }
-    ensures { λ r. ⌜ owned r (now (owner .exit)) ≡ delivered (searchedOwners (table (now (points .entry)) (now (first .entry)) (now (len .entry)) (now (kind .entry))) clockwise) (now (owner .entry)) ⌝ }
+    ensures { λ r. ⌜ (let t : Table = table (now (points .entry)) (now (first .entry)) (now (len .entry)) (now (kind .entry)) in
+        owned r (now (owner .exit)) ≡ delivered (searchedOwners t clockwise) (now (owner .entry))) ⌝ }
 {
     owners::number_hulls(kind, own);
     match owners::search_owners(points, first, len, kind, clockwise, own) {
@@ -74,8 +76,10 @@ fn bind_holes(
     clockwise: bool,
     owner: &mut [u16],
 ) -> Given
-    requires { ⌜ (Sound (table (now points) (now first) (now len) (now kind))) × (Anchored (table (now points) (now first) (now len) (now kind)) clockwise) × (length (now first) ≤ length (now owner)) ⌝ }
-    ensures { λ r. ⌜ owned r (now (owner .exit)) ≡ delivered (searchedOwners (table (now (points .entry)) (now (first .entry)) (now (len .entry)) (now (kind .entry))) clockwise) (now (owner .entry)) ⌝ }
+    requires { ⌜ (let t : Table = table (now points) (now first) (now len) (now kind) in
+        (Sound t) × (Anchored t clockwise) × (length (now first) ≤ length (now owner))) ⌝ }
+    ensures { λ r. ⌜ (let t : Table = table (now (points .entry)) (now (first .entry)) (now (len .entry)) (now (kind .entry)) in
+        owned r (now (owner .exit)) ≡ delivered (searchedOwners t clockwise) (now (owner .entry))) ⌝ }
 {
     let n = first.len();
     let mut own = [0u16; turn::MAX_LINKS];
@@ -91,8 +95,10 @@ fn bind_sound(
     clockwise: bool,
     owner: &mut [u16],
 ) -> Binding
-    requires { ⌜ (Sound (table (now points) (now first) (now len) (now kind))) × (Anchored (table (now points) (now first) (now len) (now kind)) clockwise) × (length (now first) ≤ length (now owner)) ⌝ }
-    ensures { λ r. ⌜ outcome r (now (owner .exit)) ≡ handed (table (now (points .entry)) (now (first .entry)) (now (len .entry)) (now (kind .entry))) (ownersOf (table (now (points .entry)) (now (first .entry)) (now (len .entry)) (now (kind .entry))) clockwise) (now (owner .entry)) ⌝ }
+    requires { ⌜ (let t : Table = table (now points) (now first) (now len) (now kind) in
+        (Sound t) × (Anchored t clockwise) × (length (now first) ≤ length (now owner))) ⌝ }
+    ensures { λ r. ⌜ (let t : Table = table (now (points .entry)) (now (first .entry)) (now (len .entry)) (now (kind .entry)) in
+        outcome r (now (owner .exit)) ≡ handed t (ownersOf t clockwise) (now (owner .entry))) ⌝ }
 {
     let n = first.len();
     let hulls = table::hulls_before(kind, n);
@@ -131,7 +137,8 @@ fn check(
     clockwise: bool,
     owners: usize,
 ) -> Checked
-    ensures { λ r. ⌜ r ≡ bothChecked (table (now (points .entry)) (now (first .entry)) (now (len .entry)) (now (kind .entry))) owners clockwise ⌝ }
+    ensures { λ r. ⌜ (let t : Table = table (now (points .entry)) (now (first .entry)) (now (len .entry)) (now (kind .entry)) in
+        r ≡ bothChecked t owners clockwise) ⌝ }
 {
     match table::check_table(points, first, len, kind, owners) {
         Checked::Fine => anchor::check_anchors(points, first, len, kind, clockwise),
@@ -151,7 +158,8 @@ pub fn bind(
     clockwise: bool,
     owner: &mut [u16],
 ) -> Binding
-    ensures { λ r. ⌜ outcome r (now (owner .exit)) ≡ bound (table (now (points .entry)) (now (first .entry)) (now (len .entry)) (now (kind .entry))) clockwise (now (owner .entry)) ⌝ }
+    ensures { λ r. ⌜ (let t : Table = table (now (points .entry)) (now (first .entry)) (now (len .entry)) (now (kind .entry)) in
+        outcome r (now (owner .exit)) ≡ bound t clockwise (now (owner .entry))) ⌝ }
 {
     match check(points, first, len, kind, clockwise, owner.len()) {
         Checked::Fine => bind_sound(points, first, len, kind, clockwise, owner),

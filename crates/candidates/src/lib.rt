@@ -6,7 +6,7 @@ ghost use lib.ListN.{length};
 ghost use Rattle.turn.specs.Limits.{maxLinks};
 ghost use Rattle.turn.specs.Points.{OnGrid};
 ghost use Rattle.table.specs.Table.{nextIn};
-ghost use Rattle.candidates.specs.EdgeLists.{edgeLists, listedEdge, Fit, ContourListed, Ranges, ranges, Round};
+ghost use Rattle.candidates.specs.EdgeLists.{EdgeLists, edgeLists, listedEdge, Fit, ContourListed, Ranges, ranges, Round};
 
 // Edge k, which begins at point k, with its ends the way round that makes a candidate run from left to right.
 pub fn listed_edge(
@@ -19,7 +19,8 @@ pub fn listed_edge(
     k: usize,
 ) -> Edge
     requires { ⌜ (Fit (edgeLists (now points) (now next) (now of) (now kind) right) n) × (k < n) ⌝ }
-    ensures { λ r. ⌜ (r ≡ listedEdge (edgeLists (now (points .entry)) (now (next .entry)) (now (of .entry)) (now (kind .entry)) right) k) × (OnGrid (r .left)) × (OnGrid (r .right)) ⌝ }
+    ensures { λ r. ⌜ (let g : EdgeLists = edgeLists (now (points .entry)) (now (next .entry)) (now (of .entry)) (now (kind .entry)) right in
+        (r ≡ listedEdge g k) × (OnGrid (r .left)) × (OnGrid (r .right))) ⌝ }
 {
     let c = of[k];
     let t = kind[c as usize];

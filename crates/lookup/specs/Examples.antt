@@ -3,6 +3,7 @@ use mathlib.Core.Path.{_≡_, refl}
 use mathlib.Core.List.{[], _∷_}
 use Rattle.laws.specs.Lowest.{lowest}
 use Rattle.laws.specs.Count.{count}
+use Rattle.table.specs.Table.{droppedOwner}
 use Rattle.table.specs.TableChecks.{tableChecked}
 use Rattle.table.specs.Examples.{e9, e10One, noHull}
 use Rattle.lookup.specs.declared.records.Role.the-variants.{Hull, Hole, Dropped}
@@ -30,6 +31,6 @@ e10-one : lookedUp e10One (0 ∷ 0 ∷ 0 ∷ []) 2 ≡ Found (record { first = 8
 unfolding lookedUp tableChecked lowest count
 e10-one = refl
 
-dropped : lookedUp noHull (65535 ∷ 65535 ∷ []) 1 ≡ Found (record { first = 4; len = 4; role = Dropped })
+dropped : lookedUp noHull (droppedOwner ∷ droppedOwner ∷ []) 1 ≡ Found (record { first = 4; len = 4; role = Dropped })
 unfolding lookedUp tableChecked lowest count
 dropped = refl

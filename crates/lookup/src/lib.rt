@@ -7,7 +7,7 @@ ghost use mathlib.Core.Path.{_≡_};
 ghost use mathlib.Core.List.{[]};
 ghost use Prim.Native.Nat.{ℕ, _<_};
 ghost use lib.ListN.{length};
-ghost use Rattle.table.specs.Table.{table};
+ghost use Rattle.table.specs.Table.{Table, table};
 ghost use Rattle.lookup.specs.Lookups.{ownerRight, roleOf, recordIfRight, lookedUp};
 
 pub mod records;
@@ -64,7 +64,8 @@ pub fn lookup(
     owner: &[u16],
     contour: usize,
 ) -> Lookup
-    ensures { λ r. ⌜ r ≡ lookedUp (table (now (points .entry)) (now (first .entry)) (now (len .entry)) (now (kind .entry))) (now (owner .entry)) contour ⌝ }
+    ensures { λ r. ⌜ (let t : Table = table (now (points .entry)) (now (first .entry)) (now (len .entry)) (now (kind .entry)) in
+        r ≡ lookedUp t (now (owner .entry)) contour) ⌝ }
 {
     if first.len() <= contour {
         return Lookup::Missing;

@@ -5,11 +5,11 @@ ghost use mathlib.Core.Path.{_≡_};
 ghost use Prim.Native.Nat.{ℕ, _<_, _≤_};
 ghost use lib.ListN.{length, getD};
 ghost use Rattle.turn.specs.Limits.{maxLinks};
-ghost use Rattle.table.specs.Table.{table};
+ghost use Rattle.table.specs.Table.{Table, table};
 ghost use Rattle.table.specs.Sound.{Sound};
-ghost use Rattle.anchor.specs.Anchors.{anchors, listedAnchor};
+ghost use Rattle.anchor.specs.Anchors.{Anchors, anchors, listedAnchor};
 ghost use Rattle.edges.specs.Edges.{On};
-ghost use Rattle.candidates.specs.EdgeLists.{edgeLists, listedEdge, Fit};
+ghost use Rattle.candidates.specs.EdgeLists.{EdgeLists, edgeLists, listedEdge, Fit};
 ghost use Rattle.nearest.specs.Search.{kept as kept-of, searchUnder};
 ghost use Rattle.nearest.specs.SearchLists.{giving, Flags, SortedAnchors, Sorted, Parted, Numbers, Offered, Nearests, named};
 
@@ -45,8 +45,10 @@ fn kept(
     b: u32,
 ) -> u32
     requires { ⌜ (Fit (edgeLists (now points) (now next) (now of) (now kind) right) n) × (n ≤ maxLinks) ⌝ }
-    requires { ⌜ (k < n) × (b ≤ n) × (e ≡ listedEdge (edgeLists (now points) (now next) (now of) (now kind) right) k) × (On a e) ⌝ }
-    ensures { λ r. ⌜ r ≡ kept-of (listedEdge (edgeLists (now (points .entry)) (now (next .entry)) (now (of .entry)) (now (kind .entry)) right)) a k b ⌝ }
+    requires { ⌜ (let g : EdgeLists = edgeLists (now points) (now next) (now of) (now kind) right in
+        (k < n) × (b ≤ n) × (e ≡ listedEdge g k) × (On a e)) ⌝ }
+    ensures { λ r. ⌜ (let g : EdgeLists = edgeLists (now (points .entry)) (now (next .entry)) (now (of .entry)) (now (kind .entry)) right in
+        r ≡ kept-of (listedEdge g) a k b) ⌝ }
 {
     if !edges::lies_under(a, e) {
         return b;
@@ -81,7 +83,9 @@ fn offer(
     requires { ⌜ (Fit (edgeLists (now points) (now next) (now of) (now kind) right) n) × (n ≤ maxLinks) × (k < n) ⌝ }
     requires { ⌜ SortedAnchors (anchors (now x) (now y) (now «to_x») (now «to_y»)) m ⌝ }
     requires { ⌜ (m ≤ length (now best)) × (Numbers (now best) m n) ⌝ }
-    ensures { λ _. ⌜ Offered (edgeLists (now (points .entry)) (now (next .entry)) (now (of .entry)) (now (kind .entry)) right) (anchors (now (x .entry)) (now (y .entry)) (now («to_x» .entry)) (now («to_y» .entry))) m k (now (best .entry)) (now (best .exit)) ⌝ }
+    ensures { λ _. ⌜ (let g : EdgeLists = edgeLists (now (points .entry)) (now (next .entry)) (now (of .entry)) (now (kind .entry)) right in
+        let h : Anchors = anchors (now (x .entry)) (now (y .entry)) (now («to_x» .entry)) (now («to_y» .entry)) in
+        Offered g h m k (now (best .entry)) (now (best .exit))) ⌝ }
 {
     let e = candidates::listed_edge(points, next, of, kind, right, n, k);
     let start = e.left.x;
@@ -117,10 +121,13 @@ fn nearest_edges(
     m: usize,
     best: &mut [u32],
 )
-    requires { ⌜ (Fit (edgeLists (now points) (now next) (now of) (now kind) right) n) × (n ≤ maxLinks) × (Flags (now of) (now mute) n) ⌝ }
+    requires { ⌜ (let g : EdgeLists = edgeLists (now points) (now next) (now of) (now kind) right in
+        (Fit g n) × (n ≤ maxLinks) × (Flags (now of) (now mute) n)) ⌝ }
     requires { ⌜ SortedAnchors (anchors (now x) (now y) (now «to_x») (now «to_y»)) m ⌝ }
     requires { ⌜ (m ≤ length (now best)) × ((j : ℕ) → j < m → getD (now best) j 0 ≡ 0) ⌝ }
-    ensures { λ _. ⌜ Nearests (edgeLists (now (points .entry)) (now (next .entry)) (now (of .entry)) (now (kind .entry)) right) (now (mute .entry)) n (anchors (now (x .entry)) (now (y .entry)) (now («to_x» .entry)) (now («to_y» .entry))) m (now (best .exit)) ⌝ }
+    ensures { λ _. ⌜ (let g : EdgeLists = edgeLists (now (points .entry)) (now (next .entry)) (now (of .entry)) (now (kind .entry)) right in
+        let h : Anchors = anchors (now (x .entry)) (now (y .entry)) (now («to_x» .entry)) (now («to_y» .entry)) in
+        Nearests g (now (mute .entry)) n h m (now (best .exit))) ⌝ }
 {
     let mut k = 0;
     while k < n {
@@ -171,7 +178,8 @@ fn name_contours(of: &[u32], n: usize, best: &[u32], m: usize, under: &mut [u32]
     }
 }
 
-// The search: for each of m anchors the contour, and 1, of the nearest edge under it, 0 where there is none. Candidate edges have fill above, or below; the contours that give edges are giving.
+// The search: for each of m anchors the contour, and 1, of the nearest edge under it; 0 where there is none.
+// Candidate edges have fill above, or below, as is asked; edges come from the contours that are not mute.
 pub fn contours_under(
     points: &[i32],
     first: &[u32],
@@ -190,7 +198,9 @@ pub fn contours_under(
     requires { ⌜ Sound (table (now points) (now first) (now len) (now kind)) ⌝ }
     requires { ⌜ (length (now first) ≤ length (now mute)) × (m ≤ maxLinks) × (m ≤ length (now under)) ⌝ }
     requires { ⌜ SortedAnchors (anchors (now x) (now y) (now «to_x») (now «to_y»)) m ⌝ }
-    ensures { λ _. ⌜ ((j : ℕ) → j < m → getD (now (under .exit)) j 0 ≡ searchUnder (table (now (points .entry)) (now (first .entry)) (now (len .entry)) (now (kind .entry))) above clockwise (giving (now (mute .entry))) (listedAnchor (anchors (now (x .entry)) (now (y .entry)) (now («to_x» .entry)) (now («to_y» .entry))) j)) ⌝ }
+    ensures { λ _. ⌜ (let t : Table = table (now (points .entry)) (now (first .entry)) (now (len .entry)) (now (kind .entry)) in
+        let h : Anchors = anchors (now (x .entry)) (now (y .entry)) (now («to_x» .entry)) (now («to_y» .entry)) in
+        ((j : ℕ) → j < m → getD (now (under .exit)) j 0 ≡ searchUnder t above clockwise (giving (now (mute .entry))) (listedAnchor h j))) ⌝ }
 {
     let n = points.len() / 2;
     let right = (above & !clockwise) | (!above & clockwise);

@@ -5,9 +5,9 @@ ghost use Prim.Native.Nat.{ℕ, suc, _<_, _≤_};
 ghost use lib.ListN.{length, getD};
 ghost use Rattle.turn.specs.Limits.{maxLinks};
 ghost use Rattle.turn.specs.Points.{OnGrid};
-ghost use Rattle.table.specs.Table.{table};
+ghost use Rattle.table.specs.Table.{Table, table};
 ghost use Rattle.table.specs.Sound.{Sound};
-ghost use Rattle.anchor.specs.Anchors.{anchors};
+ghost use Rattle.anchor.specs.Anchors.{Anchors, anchors};
 ghost use Rattle.order.specs.HoleOrder.{goesBefore};
 ghost use Rattle.order.specs.HoleLists.{Room, Gathered, Bounded, slotOf, Ordered};
 ghost use Rattle.order.specs.Insertion.{Inserted};
@@ -27,7 +27,9 @@ pub fn gather_holes(
 ) -> usize
     requires { ⌜ Sound (table (now points) (now first) (now len) (now kind)) ⌝ }
     requires { ⌜ Room (now who) (anchors (now x) (now y) (now «to_x») (now «to_y»)) maxLinks ⌝ }
-    ensures { λ m. ⌜ Gathered (table (now (points .entry)) (now (first .entry)) (now (len .entry)) (now (kind .entry))) clockwise (length (now (first .entry))) m (now (who .exit)) (anchors (now (x .exit)) (now (y .exit)) (now («to_x» .exit)) (now («to_y» .exit))) ⌝ }
+    ensures { λ m. ⌜ (let t : Table = table (now (points .entry)) (now (first .entry)) (now (len .entry)) (now (kind .entry)) in
+        let h : Anchors = anchors (now (x .exit)) (now (y .exit)) (now («to_x» .exit)) (now («to_y» .exit)) in
+        Gathered t clockwise (length (now (first .entry))) m (now (who .exit)) h) ⌝ }
 {
     let mut m = 0;
     let mut c = 0;
@@ -69,7 +71,8 @@ fn goes_before(a: Anchor, b: Anchor, c: u32, d: u32) -> bool
 fn insert(who: &[u32], x: &[i32], y: &[i32], to_x: &[i32], to_y: &[i32], ord: &mut [u32], j: usize)
     requires { ⌜ (Bounded (now who) (anchors (now x) (now y) (now «to_x») (now «to_y»)) (suc j)) × (j < maxLinks) ⌝ }
     requires { ⌜ (j < length (now ord)) × ((i : ℕ) → i < j → getD (now ord) i 0 < j) ⌝ }
-    ensures { λ _. ⌜ Inserted (now (ord .entry)) (now (ord .exit)) j (slotOf (anchors (now (x .entry)) (now (y .entry)) (now («to_x» .entry)) (now («to_y» .entry))) (now (who .entry)) (now (ord .entry)) j) j ⌝ }
+    ensures { λ _. ⌜ (let h : Anchors = anchors (now (x .entry)) (now (y .entry)) (now («to_x» .entry)) (now («to_y» .entry)) in
+        Inserted (now (ord .entry)) (now (ord .exit)) j (slotOf h (now (who .entry)) (now (ord .entry)) j) j) ⌝ }
 {
     let a = anchor::listed_anchor(x, y, to_x, to_y, j);
     let c = who[j];
@@ -99,8 +102,10 @@ pub fn order_holes(
     m: usize,
     ord: &mut [u32],
 )
-    requires { ⌜ (Bounded (now who) (anchors (now x) (now y) (now «to_x») (now «to_y»)) m) × (m ≤ maxLinks) × (m ≤ length (now ord)) ⌝ }
-    ensures { λ _. ⌜ Ordered (anchors (now (x .entry)) (now (y .entry)) (now («to_x» .entry)) (now («to_y» .entry))) (now (who .entry)) m (now (ord .exit)) ⌝ }
+    requires { ⌜ (let h : Anchors = anchors (now x) (now y) (now «to_x») (now «to_y») in
+        (Bounded (now who) h m) × (m ≤ maxLinks) × (m ≤ length (now ord))) ⌝ }
+    ensures { λ _. ⌜ (let h : Anchors = anchors (now (x .entry)) (now (y .entry)) (now («to_x» .entry)) (now («to_y» .entry)) in
+        Ordered h (now (who .entry)) m (now (ord .exit))) ⌝ }
 {
     let mut j = 0;
     while j < m {

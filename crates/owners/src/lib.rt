@@ -3,7 +3,7 @@ ghost use mathlib.Core.Path.{_≡_};
 ghost use Prim.Native.Nat.{ℕ, _<_, _≤_};
 ghost use lib.ListN.{length, take};
 ghost use Rattle.turn.specs.Limits.{maxLinks};
-ghost use Rattle.table.specs.Table.{table};
+ghost use Rattle.table.specs.Table.{Table, table};
 ghost use Rattle.table.specs.Sound.{Sound};
 ghost use Rattle.anchor.specs.Anchored.{Anchored};
 ghost use Rattle.order.specs.HoleOrder.{bindingOrder};
@@ -74,8 +74,10 @@ pub fn search_owners(
     clockwise: bool,
     own: &mut [u16],
 ) -> Given
-    requires { ⌜ (Sound (table (now points) (now first) (now len) (now kind))) × (Anchored (table (now points) (now first) (now len) (now kind)) clockwise) × (length (now own) ≡ length (now first)) ⌝ }
-    ensures { λ r. ⌜ owned r (now (own .exit)) ≡ giveEach (contourBelow (table (now (points .entry)) (now (first .entry)) (now (len .entry)) (now (kind .entry))) clockwise) (bindingOrder (table (now (points .entry)) (now (first .entry)) (now (len .entry)) (now (kind .entry))) clockwise) (now (own .entry)) ⌝ }
+    requires { ⌜ (let t : Table = table (now points) (now first) (now len) (now kind) in
+        (Sound t) × (Anchored t clockwise) × (length (now own) ≡ length (now first))) ⌝ }
+    ensures { λ r. ⌜ (let t : Table = table (now (points .entry)) (now (first .entry)) (now (len .entry)) (now (kind .entry)) in
+        owned r (now (own .exit)) ≡ giveEach (contourBelow t clockwise) (bindingOrder t clockwise) (now (own .entry))) ⌝ }
 {
     let mut who = [0u32; turn::MAX_LINKS];
     let mut x = [0i32; turn::MAX_LINKS];

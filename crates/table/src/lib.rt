@@ -8,7 +8,7 @@ ghost use lib.Dec.{eqb};
 ghost use lib.ListN.{length, take};
 ghost use Rattle.laws.specs.Test.{pick};
 ghost use Rattle.laws.specs.Lowest.{lowest};
-ghost use Rattle.table.specs.Table.{table, pointIn, hulls};
+ghost use Rattle.table.specs.Table.{Table, table, pointIn, hulls};
 ghost use Rattle.table.specs.TableChecks.{misfit, startIn, rangeFault, somePointFault, contourFault, badContour, tableChecked};
 
 // The owner of a hole where there is no hull.
@@ -94,7 +94,8 @@ fn contour_fault(points: &[i32], start: usize, first: u32, len: u32, kind: u8) -
 // The lowest contour that check 10 refuses, or the number of contours.
 fn bad_contour(points: &[i32], first: &[u32], len: &[u32], kind: &[u8]) -> usize
     requires { ⌜ (length (now len) ≡ length (now first)) × (length (now kind) ≡ length (now first)) ⌝ }
-    ensures { λ r. ⌜ r ≡ lowest (badContour (table (now (points .entry)) (now (first .entry)) (now (len .entry)) (now (kind .entry)))) (length (now (first .entry))) ⌝ }
+    ensures { λ r. ⌜ (let t : Table = table (now (points .entry)) (now (first .entry)) (now (len .entry)) (now (kind .entry)) in
+        r ≡ lowest (badContour t) (length (now (first .entry)))) ⌝ }
 {
     let mut start = 0;
     let mut c = 0;
@@ -116,7 +117,8 @@ pub fn check_table(
     kind: &[u8],
     owners: usize,
 ) -> Checked
-    ensures { λ r. ⌜ r ≡ tableChecked (table (now (points .entry)) (now (first .entry)) (now (len .entry)) (now (kind .entry))) owners ⌝ }
+    ensures { λ r. ⌜ (let t : Table = table (now (points .entry)) (now (first .entry)) (now (len .entry)) (now (kind .entry)) in
+        r ≡ tableChecked t owners) ⌝ }
 {
     if misfit(points.len(), first.len(), len.len(), kind.len(), owners) {
         return Checked::Refused {
