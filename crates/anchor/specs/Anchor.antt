@@ -23,8 +23,9 @@ anchorPosition t cw c = anchorPositionIn (firstOf t c) cw
 abbrev pub anchorPoint : Table → Bool → ℕ → Point
 anchorPoint t cw c = anchorPointIn (t .points) (firstOf t c) cw
 
--- Of the edges from `at` to p and to q the lower one's other end: q where it is strictly clockwise of p, seen from `at`. Every rule of binding reads an anchor edge's direction alone;
--- where neither is clockwise of the other, both have one direction (`at` is the contour's least point), and p stands for both.
+-- Of the edges from `at` to p and to q the lower one's other end: q where it is strictly clockwise of p, seen from `at`.
+-- Every rule of binding reads an anchor edge's direction alone. Where neither is clockwise of the other, both have one
+-- direction (`at` is the contour's least point), and p stands for both.
 abbrev pub lowerEnd : Point → Point → Point → Point
 lowerEnd at p q = pick (clockwise at p q) q p
 

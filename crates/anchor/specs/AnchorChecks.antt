@@ -40,6 +40,6 @@ badAnchor t cw c = isHole t c && (notLeast (t .points) (firstOf t c) (lenOf t c)
 unfoldable pub anchorsChecked : Table → Bool → Checked
 anchorsChecked t cw = refuseAt 11 (badAnchor t cw) (contourCount t) Fine
 
--- both
+-- check 10, then check 11
 abbrev pub bothChecked : Table → ℕ → Bool → Checked
 bothChecked t owners cw = followedBy (tableChecked t owners) (anchorsChecked t cw)

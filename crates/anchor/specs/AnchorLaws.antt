@@ -1,4 +1,5 @@
--- The anchor edge is the lower of the two at the anchor; and where neither is lower, both have one direction, so that the choice does not show.
+-- The anchor edge is the lower of the two at the anchor; and where neither is lower, both have one direction, so that
+-- no rule tells which was chosen.
 use Prim.Native.Nat.{ℕ, _≤_, _<_}
 use native.Mathlib.Omega.{arith}
 use mathlib.Core.Path.{_≡_, refl, sym, ap, _∙_, subst}

@@ -17,7 +17,7 @@ use Rattle.anchor.specs.declared.Anchor.{Anchor}
 use Rattle.anchor.specs.Anchor.{anchorPositionIn, anchorPointIn, lowerEnd, anchorEdgeIn, anchorEdge}
 use Rattle.anchor.specs.Anchored.{Paired}
 
--- ---- anchors
+-- ---- the position of an anchor
 pub anchor-low : (from : ℕ) (cw : Bool) → from ≤ anchorPositionIn from cw
 anchor-low from true = omega arith
 anchor-low from false = omega arith

@@ -1,4 +1,4 @@
--- The loops that write owners one by one: copies, fills, and the hulls' own numbers.
+-- The loops that write owners over the front of a buffer: copies and fills.
 use Prim.Native.Nat.{ℕ, _+_, _≤_, _<_}
 use mathlib.Core.Path.{_≡_, refl, sym, ap, _∙_}
 use mathlib.Core.List.{List}

@@ -1,4 +1,4 @@
--- The parts joined: the checks, the search over lists and the search of the definition, and the outcome.
+-- The parts joined: the checks, what the search hands on, and the outcome.
 use Prim.Native.Nat.{ℕ, _≤_}
 use mathlib.Core.Path.{_≡_, refl, sym, ap, _∙_, subst}
 use mathlib.Core.Bool.{Bool}

@@ -6,11 +6,13 @@ use Rattle.turn.specs.declared.Point.{Point}
 use Rattle.table.specs.Table.{Table, point, kindOf, contourOf, next}
 use Rattle.edges.specs.declared.Edge.{Edge}
 
--- "Candidate edges are those with fill above: walked rightward for counterclockwise output, leftward for clockwise." With fill below it is the other way round.
+-- "Candidate edges are those with fill above: walked rightward for counterclockwise output, leftward for clockwise."
+-- With fill below it is the other way round.
 abbrev pub rightward : Bool → Bool → Bool
 rightward above clockwise = (above && not clockwise) || (not above && clockwise)
 
--- An edge walked from p to q, with its contour's kind and number. It has its ends the way round that makes a candidate run from left to right: one walked the other way has its right end left of its left end, or upright over it, and spans nothing.
+-- An edge walked from p to q, with its contour's kind and number. Its ends stand the way round that makes a candidate run
+-- from left to right: an edge walked the other way has its right end left of its left end, or upright over it, and spans nothing.
 abbrev pub edgeOf : Bool → Point → Point → ℕ → ℕ → Edge
 edgeOf right p q k c = record { left = pick right p q; right = pick right q p; kind = k; contour = c }
 

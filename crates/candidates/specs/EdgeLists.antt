@@ -12,7 +12,8 @@ use Rattle.table.specs.Table.{Table, table, pointIn, firstOf, rangeEnd, contour
 use Rattle.edges.specs.declared.Edge.{Edge}
 use Rattle.candidates.specs.Candidates.{edgeOf}
 
--- Edge k begins at point k. `next` is the point after it round its contour, `of` its contour, `kind` a contour's kind; `right` says which way candidates are walked.
+-- Edge k begins at point k. `next` is the point after it round its contour, `of` its contour, `kind` a contour's kind;
+-- `right` says which way candidates are walked.
 pub record EdgeLists : Type 0 where
   pub points : List ℤ
   pub next : List ℕ

@@ -1,4 +1,5 @@
--- Gaps and slopes are fractions with a denominator above 0, compared by cross products: that is the comparison of the exact fractions, and it stays within 64 signed bits.
+-- Gaps and slopes are fractions with a denominator above 0, compared by cross products: that is the comparison of the
+-- exact fractions, and it stays within 64 signed bits.
 use Prim.Native.Nat.{_≤_, _<_}
 use mathlib.Core.Path.{_≡_, sym, ap, ap₂, _∙_}
 use mathlib.Core.Bool.{Bool}
@@ -17,7 +18,8 @@ use Rattle.anchor.specs.declared.Anchor.{Anchor}
 use Rattle.edges.specs.declared.Edge.{Edge}
 use Rattle.edges.specs.Edges.{run, rise, height, gapBound}
 
--- ---- what a height is: run times the distance from the edge's line, at the anchor's x, up to the anchor. At that x the line has the height left y + rise · (x - left x) / run.
+-- ---- what a height is: run times the distance from the edge's line, at the anchor's x, up to the anchor.
+-- At that x the line has the height left y + rise · (x - left x) / run.
 pub height-is : (a : Anchor) (e : Edge) → height a e ≡ run e *ℤ a .at .y -ℤ (run e *ℤ e .left .y +ℤ rise e *ℤ (a .at .x -ℤ e .left .x))
 height-is a e =
     ring (e .left .x ∷ e .left .y ∷ e .right .x ∷ e .right .y ∷ a .at .x ∷ a .at .y ∷ [])

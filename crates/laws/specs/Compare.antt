@@ -1,4 +1,5 @@
--- Comparisons that decide level by level (`lower`, `lowerN`), by the sign of a difference: a comparison that is strict, transitive and total at every level is so as a whole.
+-- Comparisons that decide level by level (`lower`, `lowerN`), by the sign of a difference: a comparison that is strict,
+-- transitive and total at every level is so as a whole.
 use Prim.Native.Nat.{ℕ, suc, _<_}
 use mathlib.Core.Bool.{Bool, not, _&&_, _||_, true, false}
 use lib.Dec.{ltb, T}

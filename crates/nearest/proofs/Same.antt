@@ -1,4 +1,4 @@
--- The search looks at the first n edges alone, and the lists that the code has made give a sound table's edges there.
+-- The search looks at the first n edges alone, so that what it finds among the lists is what it finds in the table.
 use Prim.Native.Nat.{ℕ, zero, suc, _+_, _-_, _≤_, _<_}
 use mathlib.Core.Path.{_≡_, refl, ap, _∙_}
 use mathlib.Core.Bool.{Bool}
@@ -20,7 +20,7 @@ use Rattle.nearest.specs.Search.{kept, offered, keep, nearest, contourUn
 use Rattle.nearest.specs.SearchLists.{giving, named, Flags, Numbers, Nearests}
 use Rattle.nearest.specs.Least.{nearest-le}
 
--- ---- edges that are the same below n give the same answer
+-- ---- edges that are equal below n give one answer
 module _ (e f : ℕ → Edge) (gives : ℕ → Bool) (a : Anchor) (n : ℕ) (same : (k : ℕ) → k < n → e k ≡ f k) where
   keep-same : (k b : ℕ) → k < n → b ≤ n → keep e gives a k b ≡ keep f gives a k b
   unfolding keep offered kept

@@ -33,6 +33,7 @@ module _ (edge : ℕ → Edge) (gives : ℕ → Bool) (a : Anchor) where
   unfoldable pub contourUnder : ℕ → ℕ
   contourUnder n = let b = nearest n in pick (eqb b 0) 0 (edge (b - 1) .contour + 1)
 
--- The search under an anchor in a table: the contour, and 1, of the nearest candidate edge, with the fill on the side that is asked for, of the contours that give edges; 0 where there is none.
+-- The search under an anchor in a table: the contour, and 1, of the nearest candidate edge; 0 where there is none.
+-- Candidates have their fill on the side that is asked for, and come from the contours that give edges.
 abbrev pub searchUnder : Table → (above clockwise : Bool) → (ℕ → Bool) → Anchor → ℕ
 searchUnder t above clockwise gives a = contourUnder (edge t (rightward above clockwise)) gives a (pointCount t)

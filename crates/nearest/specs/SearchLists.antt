@@ -1,4 +1,4 @@
--- The edges and the anchors as the code has them, in parallel lists, and what it is told of them.
+-- What the search is told of its anchors and of the contours that give edges, and what it finds, in lists.
 use Prim.Native.Nat.{ℕ, _+_, _-_, _≤_, _<_}
 use mathlib.Core.Path.{_≡_}
 use mathlib.Core.Bool.{Bool}
@@ -21,10 +21,11 @@ giving mute c = eqb (getD mute c 0) 0
 abbrev pub named : List ℕ → ℕ → ℕ
 named of b = pick (eqb b 0) 0 (getD of (b - 1) 0 + 1)
 
--- and a flag
+-- the contours of n edges have a flag
 abbrev pub Flags : List ℕ → List ℕ → ℕ → Type 0
 Flags of mute n = (k : ℕ) → k < n → getD of k 0 < length mute
 
+-- m numbers in order
 abbrev pub Sorted : List ℤ → ℕ → Type 0
 Sorted l m = (p q : ℕ) → p ≤ q → q < m → getD l p (pos 0) ≤ℤ getD l q (pos 0)
 

@@ -1,4 +1,5 @@
--- Insertion into a list, place by place, and the order that it makes: an order holds what was put in, each as often, and is in order where `first` is a strict order.
+-- Insertion into a list and the order that it makes: an order holds what was put in, each as often, and is in order
+-- where `first` is a strict order.
 use Prim.Native.Nat.{ℕ, zero, suc, _+_, _-_, _≤_, _<_}
 use mathlib.Core.Path.{_≡_, refl, sym, ap, _∙_, subst}
 use mathlib.Core.Bool.{Bool, true, false}

@@ -1,4 +1,4 @@
--- The ways out of the checks and of the lookup, one law for each, over what the code has found there.
+-- The ways out of check 10, one law for each, over what the code has found there.
 use Prim.Native.Nat.{ℕ, _≤_, _<_}
 use mathlib.Core.Path.{_≡_, sym, ap, _∙_, subst}
 use mathlib.Core.Bool.{Bool, true, false, not, _||_}

@@ -1,4 +1,4 @@
--- The contour tables of E9 and E10, and what the definitions compute of them and of tables with a fault.
+-- The contour tables of E9 and E10, and what check 10 says of them and of tables with a fault.
 use mathlib.Core.Path.{_≡_, refl}
 use mathlib.Core.List.{List, [], _∷_, _++_}
 use lib.IntN.{ℤ, pos, negsuc}

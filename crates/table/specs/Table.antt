@@ -11,7 +11,8 @@ use Rattle.laws.specs.Count.{count}
 use Rattle.turn.specs.declared.Point.{Point}
 use Rattle.turn.specs.Area.{pointsOf}
 
--- The points of all contours, x and y in turn; at a number c the other lists have contour c's first point, how many points it has, and its kind: 0 a hull, 1 a hole.
+-- The points of all contours, x and y in turn; at a number c the other lists have contour c's first point, how many
+-- points it has, and its kind: 0 a hull, 1 a hole.
 pub record Table : Type 0 where
   pub points : List ℤ
   pub first : List ℕ

@@ -1,4 +1,4 @@
--- Checks 10 and 11 of binding, each a search for the lowest place.
+-- Check 10 of binding: what is wrong with the whole table, then the lowest contour that is wrong.
 use Prim.Native.Nat.{ℕ, zero, suc, _+_, _/_, _%_}
 use mathlib.Core.Bool.{Bool, not, _||_}
 use mathlib.Core.List.{List}
@@ -34,7 +34,8 @@ abbrev pub rangeFault : (count start first len kind : ℕ) → Bool
 rangeFault count start first len kind =
     not (eqb first start) || ltb count (first + len) || ltb len 3 || ltb 1 kind
 
--- "coordinate out of range": of the contour that stands from a position up to another, the point at p is off the grid or, "round it", equal to the one before it
+-- "coordinate out of range", or "round it, with equal neighbours": of the contour that stands from a position up to
+-- another, the point at p is off the grid or equal to the one before it
 abbrev pub pointFault : List ℤ → ℕ → ℕ → ℕ → Bool
 pointFault points from to p = offGrid (pointIn points p) || not (differ (pointIn points (previousIn from to p)) (pointIn points p))
 

@@ -1,4 +1,4 @@
--- Laws of the table's definitions: points on the grid, where ranges begin, the way round a contour, anchors, and hulls counted.
+-- Laws of the table's definitions: points on the grid, where ranges begin, and the way round a contour.
 use Prim.Native.Nat.{ℕ, zero, suc, _+_, _*_, _-_, _≤_, _<_}
 use mathlib.Core.Path.{_≡_, refl, sym, subst}
 use mathlib.Core.Bool.{Bool, true, false}
