@@ -7,18 +7,21 @@ use mathlib.Core.List.{List, [], _∷_, _++_}
 use lib.Dec.{eqb}
 use lib.ListN.{length, drop, replicate, length-append, length-drop, length-replicate}
 use Rattle.laws.specs.Test.{pick, pick-ind}
+use Rattle.laws.specs.Count.{count}
 use Rattle.turn.specs.declared.Checked.{Checked}
 use Rattle.turn.specs.declared.Checked.the-variants.{Fine, Refused as AtFault}
 use Rattle.table.specs.Table.{Table, contourCount, pointCount, hulls, hullCount}
-use Rattle.table.specs.TableChecks.{tableChecked, anchorsChecked, bothChecked}
+use Rattle.table.specs.TableChecks.{tableChecked}
+use Rattle.anchor.specs.AnchorChecks.{anchorsChecked, bothChecked}
 use Rattle.turn.specs.Refusals.{first-fine}
 use Rattle.table.specs.Sound.{Sound}
 use Rattle.table.specs.Passing.{passes-sound, ranges-within}
 use Rattle.bind.specs.declared.Binding.{Binding}
 use Rattle.bind.specs.declared.Binding.the-variants.{Bound, Refused}
-use Rattle.bind.specs.declared.Given.{Given}
-use Rattle.bind.specs.declared.Given.the-variants.{All, Stuck}
-use Rattle.bind.specs.Owners.{Owned, Outcome, outcome, written, droppedOf, handedBy, handed, ownersOf, boundAfter, bound}
+use Rattle.owners.specs.declared.Given.{Given}
+use Rattle.owners.specs.declared.Given.the-variants.{All, Stuck}
+use Rattle.owners.specs.Owners.{Owned, ownersOf}
+use Rattle.bind.specs.Outcome.{Outcome, outcome, overFront, droppedOf, handedBy, handed, boundAfter, bound}
 use Rattle.print.specs.Room.{maxContours, Ranges, Printable}
 use Rattle.print.specs.Write.{Wrote}
 use Rattle.print.specs.Answer as print
@@ -28,7 +31,7 @@ abbrev printTable : Table → List ℕ → print.Table
 printTable t owner = print.table (t .points) (t .first) (t .len) (t .kind) owner
 
 hulls-few : (l : List ℕ) → hulls l ≤ length l
-unfolding hulls
+unfolding count
 hulls-few [] = omega arith
 hulls-few (k ∷ l) = pick-ind (eqb k 0) 1 0 (λ (n : ℕ). n + hulls l ≤ suc (length l)) (λ _. omega (arith, hulls-few l)) (λ _. omega (arith, hulls-few l))
 
@@ -59,14 +62,14 @@ abbrev MayPrint : Table → Binding → List ℕ → Type 0
 MayPrint t (Bound shapes dropped) owner = Printable (printTable t owner) (totalsOf t shapes dropped)
 MayPrint t (Refused number place) owner = Unit
 
-written-long : (owners buffer : List ℕ) → length buffer ≤ length (written owners buffer)
+written-long : (owners buffer : List ℕ) → length buffer ≤ length (overFront owners buffer)
 written-long owners buffer = omega (arith, length-append owners (drop (length owners) buffer), length-drop (length owners) buffer)
 
 module _ (t : Table) (cw : Bool) (buffer : List ℕ) where
   handed-may : (s : Sound t) → contourCount t ≤ length buffer → (a : Given) (owners : List ℕ)
       → MayPrint t (handedBy t a owners buffer .answer) (handedBy t a owners buffer .owner)
   handed-may s r All owners =
-      sound-printable t (written owners buffer) (hullCount t) (droppedOf t) s (omega (arith, written-long owners buffer))
+      sound-printable t (overFront owners buffer) (hullCount t) (droppedOf t) s (omega (arith, written-long owners buffer))
       (omega (arith, hulls-few (t .kind), s .kind-long))
       (dropped-few t)
   handed-may s r (Stuck c) owners = tt

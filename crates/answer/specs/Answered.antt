@@ -14,7 +14,7 @@ use Rattle.finish.specs.Finish.{Buffers, buffers}
 use Rattle.table.specs.Table.{Table, table, contourCount, pointCount}
 use Rattle.bind.specs.declared.Binding.{Binding}
 use Rattle.bind.specs.declared.Binding.the-variants.{Bound, Refused as Unbound}
-use Rattle.bind.specs.Owners.{Outcome, bound}
+use Rattle.bind.specs.Outcome.{Outcome, bound}
 use Rattle.format.specs.File.{Graph, File, graph, refusedFile, fileOf}
 use Rattle.print.specs.declared.Totals.{Totals}
 use Rattle.print.specs.Room.{maxContours}

@@ -1,18 +1,13 @@
--- The loops that write owners one by one: copies, fills, and the hulls' own numbers.
+-- The loops that write owners over the front of a buffer: copies and fills.
 use Prim.Native.Nat.{ℕ, _+_, _≤_, _<_}
 use mathlib.Core.Path.{_≡_, refl, sym, ap, _∙_}
 use mathlib.Core.List.{List}
 use native.Mathlib.Omega.{arith}
 use native.Mathlib.Numerals.{add-one}
-use native.Mathlib.Nat.{zero-add, not-suc-le-zero}
-use lib.ListN.{length, getD, set, take, length-set, replicate, length-replicate, getD-replicate}
-use lib.Seq.{paste, paste-zero, paste-suc, take-all, ext-getD}
-use borrow.Author.Tests.{eq-eqb, ne-eqb}
-use Rattle.table.specs.Table.{hulls, droppedOwner}
-use Rattle.table.specs.TableLaws.{hulls-more, no-hulls}
-use Rattle.nearest.proofs.Put.{put-below}
-use Rattle.bind.specs.Owners.{firstOwner, listOf, written}
-use Rattle.bind.specs.OwnerLaws.{list-length, list-at}
+use native.Mathlib.Nat.{zero-add}
+use lib.ListN.{length, getD, set, length-set, replicate, length-replicate, getD-replicate}
+use lib.Seq.{paste, paste-zero, paste-suc, take-all}
+use Rattle.bind.specs.Outcome.{overFront}
 
 -- ---- `copy`: the first i numbers of `from` stand in front of the old tail
 pub record Copying (old new from : List ℕ) (i : ℕ) : Type 0 where
@@ -31,7 +26,7 @@ module _ (old new from : List ℕ) (i : ℕ) (c : Copying old new from i) where
     is = let z : 0 + i ≡ i = omega arith in rw (c .is, add-one i) (ap (λ (j : ℕ). set (paste old 0 from i) j (getD from i 0)) (sym z) ∙ paste-suc old 0 from i 0 (rw z h) k);
   }
 
-  pub copy-end : length from ≤ i → new ≡ written from old
+  pub copy-end : length from ≤ i → new ≡ overFront from old
   copy-end h =
       let q : i ≡ length from = omega (arith, c .on) in
       c .is ∙ rw (q, zero-add (length from), take-all (length from) from (omega arith))
@@ -39,45 +34,3 @@ module _ (old new from : List ℕ) (i : ℕ) (c : Copying old new from i) where
 -- ---- `fill`: as a copy of n times one number
 pub fill-more : (old new : List ℕ) (n v i : ℕ) → Copying old new (replicate n v) i → i < length old → i < n → Copying old (set new i v) (replicate n v) (i + 1)
 fill-more old new n v i c h k = rw (getD-replicate n i v 0 k) at (copy-more old new (replicate n v) i c h (rw (length-replicate n v) k))
-
--- ---- `number_hulls`
-pub record Numbering (kind old new : List ℕ) (shape c : ℕ) : Type 0 where
-  pub on : c ≤ length kind
-  pub len : length new ≡ length old
-  pub shapes : shape ≡ hulls (take c kind)
-  pub few : shape ≤ c
-  pub done : (i : ℕ) → i < c → getD new i 0 ≡ firstOwner kind i
-
-pub numbering-start : (kind old : List ℕ) → Numbering kind old old 0 0
-numbering-start kind old = record { on = omega arith; len = refl; shapes = sym (no-hulls kind); few = omega arith; done = λ i h. absurd (not-suc-le-zero h) }
-
-module _ (kind old new : List ℕ) (shape c : ℕ) (n : Numbering kind old new shape c) (h : c < length kind) (r : length kind ≤ length old) where
-  pub numbering-hull : getD kind c 0 ≡ 0 → Numbering kind old (set new c shape) (shape + 1) (c + 1)
-  numbering-hull e = record {
-    on = omega arith;
-    len = length-set new c shape ∙ n .len;
-    shapes = ap (λ (s : ℕ). s + 1) (n .shapes) ∙ sym (hulls-more kind c h ∙ rw (eq-eqb _ _ e));
-    few = omega (arith, n .few);
-    done = put-below 0 (firstOwner kind) new c shape (omega (arith, n .len)) (n .shapes ∙ rw (eq-eqb _ _ e)) (n .done);
-  }
-
-  pub numbering-hole : (getD kind c 0 ≡ 0 → ⊥) → Numbering kind old (set new c droppedOwner) shape (c + 1)
-  numbering-hole e = record {
-    on = omega arith;
-    len = length-set new c droppedOwner ∙ n .len;
-    shapes = n .shapes ∙ sym (hulls-more kind c h ∙ rw (ne-eqb _ _ e) (add-nothing (hulls (take c kind))));
-    few = omega (arith, n .few);
-    done = put-below 0 (firstOwner kind) new c droppedOwner (omega (arith, n .len)) (rw (ne-eqb _ _ e)) (n .done);
-  }
-    where
-      add-nothing : (k : ℕ) → k + 0 ≡ k
-      add-nothing k = omega arith
-
-pub numbering-end : (kind old new : List ℕ) (shape c : ℕ) → Numbering kind old new shape c → length kind ≤ c → length old ≡ length kind → new ≡ listOf (firstOwner kind) (length kind)
-numbering-end kind old new shape c n h r =
-    ext-getD 0 new (listOf (firstOwner kind) (length kind)) (n .len ∙ r ∙ sym (list-length (firstOwner kind) (length kind))) each
-  where
-    each : (i : ℕ) → i < length new → getD new i 0 ≡ getD (listOf (firstOwner kind) (length kind)) i 0
-    each i l =
-        let m : i < length kind = omega (arith, n .len) in
-        n .done i (omega arith) ∙ sym (list-at (firstOwner kind) (length kind) i m)

@@ -9,12 +9,12 @@ use Rattle.laws.specs.Lowest.{lowest, some, None, some-of}
 use Rattle.turn.specs.Limits.{maxLinks}
 use Rattle.turn.specs.declared.Checked.{Checked}
 use Rattle.turn.specs.declared.Checked.the-variants.{Fine, Refused}
-use Rattle.table.specs.Table.{Table, pointCount, contourCount, firstOf, lenOf, kindOf}
-use Rattle.table.specs.TableChecks.{misfit, startIn, unended, badContour, badAnchor, tableChecked, anchorsChecked, bothChecked}
 use Rattle.turn.specs.Refusals.{followedBy}
+use Rattle.table.specs.Table.{Table, pointCount, contourCount, firstOf, lenOf, kindOf}
+use Rattle.table.specs.TableChecks.{misfit, startIn, unended, badContour, tableChecked}
 use Rattle.table.specs.Tests.{Ranged, fitting, contour-right}
-use Rattle.table.specs.Passing.{passes-sound}
-use Rattle.nearest.proofs.Same.{contours-few}
+use Rattle.table.specs.Passing.{passes-sound, contours-few}
+use Rattle.anchor.specs.AnchorChecks.{badAnchor, anchorsChecked, bothChecked}
 
 -- contours that check 10 finds right stand one after the other, each with a point or more
 module _ (t : Table) (c : ℕ) (right : None (badContour t) c) where

@@ -1,19 +1,15 @@
-// Binding: checks 10 to 12, the holes in binding's order, and the owner of every contour.
-use table::Anchor;
+// Binding: checks 10 and 11, the cases by the number of hulls, and the lent owners written on success alone.
+use owners::Given;
 use turn::Checked;
 ghost use mathlib.Core.Path.{_≡_};
-ghost use Prim.Native.Nat.{ℕ, suc, _<_, _≤_};
-ghost use lib.ListN.{length, getD, take, replicate};
-ghost use Rattle.turn.specs.Limits.{maxLinks};
-ghost use Rattle.turn.specs.Points.{OnGrid};
-ghost use Rattle.table.specs.Table.{table};
-ghost use Rattle.table.specs.TableChecks.{bothChecked};
-ghost use Rattle.table.specs.Sound.{Sound, Anchored};
-ghost use Rattle.nearest.specs.Lists.{anchors};
-ghost use Rattle.bind.specs.HoleOrder.{goesBefore, bindingOrder};
-ghost use Rattle.bind.specs.Owners.{owned, firstOwner, listOf, given, giveEach, contourBelow, searchedOwners, outcome, written, handed, ownersOf, bound};
-ghost use Rattle.bind.specs.Insertion.{Inserted};
-ghost use Rattle.bind.specs.Steps.{withAnchor, Room, Gathered, Bounded, placeOf, Ordered, giveListed, Listed, delivered};
+ghost use Prim.Native.Nat.{ℕ, _<_, _≤_};
+ghost use lib.ListN.{length, replicate};
+ghost use Rattle.table.specs.Table.{Table, table};
+ghost use Rattle.table.specs.Sound.{Sound};
+ghost use Rattle.anchor.specs.AnchorChecks.{bothChecked};
+ghost use Rattle.anchor.specs.Anchored.{Anchored};
+ghost use Rattle.owners.specs.Owners.{owned, searchedOwners, ownersOf};
+ghost use Rattle.bind.specs.Outcome.{outcome, overFront, handed, bound, delivered};
 
 // What binding answers: how many shapes there are and how many holes were dropped, or the number and the place of a refusal.
 pub enum Binding {
@@ -21,229 +17,10 @@ pub enum Binding {
     Refused { number: u32, place: u32 },
 }
 
-// Every hole has its owner, or the contour of the first that finds none.
-pub enum Given {
-    All,
-    Stuck(u32),
-}
-
-// Anchor j is a.
-fn put_anchor(a: Anchor, j: usize, x: &mut [i32], y: &mut [i32], to_x: &mut [i32], to_y: &mut [i32])
-    requires { ⌜ (OnGrid (a .at)) × (OnGrid (a .to)) ⌝ }
-    requires { ⌜ (j < length (now x)) × (j < length (now y)) × (j < length (now «to_x»)) × (j < length (now «to_y»)) ⌝ }
-    ensures { λ _. ⌜ anchors (now (x .exit)) (now (y .exit)) (now («to_x» .exit)) (now («to_y» .exit)) ≡ withAnchor (anchors (now (x .entry)) (now (y .entry)) (now («to_x» .entry)) (now («to_y» .entry))) j a ⌝ }
-{
-    let at_x = a.at.x;
-    let at_y = a.at.y;
-    let end_x = a.to.x;
-    let end_y = a.to.y;
-    x[j] = at_x;
-    y[j] = at_y;
-    to_x[j] = end_x;
-    to_y[j] = end_y;
-}
-
-// The holes in contour order: hole j's contour and its anchor. Answers how many there are.
-fn gather_holes(
-    points: &[i32],
-    first: &[u32],
-    len: &[u32],
-    kind: &[u8],
-    clockwise: bool,
-    who: &mut [u32],
-    x: &mut [i32],
-    y: &mut [i32],
-    to_x: &mut [i32],
-    to_y: &mut [i32],
-) -> usize
-    requires { ⌜ Sound (table (now points) (now first) (now len) (now kind)) ⌝ }
-    requires { ⌜ Room (now who) (anchors (now x) (now y) (now «to_x») (now «to_y»)) maxLinks ⌝ }
-    ensures { λ m. ⌜ Gathered (table (now (points .entry)) (now (first .entry)) (now (len .entry)) (now (kind .entry))) clockwise (length (now (first .entry))) m (now (who .exit)) (anchors (now (x .exit)) (now (y .exit)) (now («to_x» .exit)) (now («to_y» .exit))) ⌝ }
-{
-    let mut m = 0;
-    let mut c = 0;
-    while c < first.len() {
-        if kind[c] != 1 {
-            c += 1;
-            continue;
-        }
-        let a = table::left_bottom_segment_from(
-            points,
-            first[c] as usize,
-            len[c] as usize,
-            clockwise,
-        );
-        who[m] = c as u32;
-        put_anchor(a, m, x, y, to_x, to_y);
-        m += 1;
-        c += 1;
-    }
-    m
-}
-
-// Hole c, with the anchor a, goes before hole d, with the anchor b.
-fn goes_before(a: Anchor, b: Anchor, c: u32, d: u32) -> bool
-    requires { ⌜ (OnGrid (a .at)) × (OnGrid (a .to)) × (OnGrid (b .at)) × (OnGrid (b .to)) ⌝ }
-    ensures { λ r. ⌜ r ≡ goesBefore a b c d ⌝ }
-{
-    if turn::before(a.at, b.at) {
-        return true;
-    }
-    if turn::before(b.at, a.at) {
-        return false;
-    }
-    let angle = turn::cross_product(turn::between(a.at, a.to), turn::between(b.at, b.to));
-    (0 < angle) | (!(angle < 0) & (c < d))
-}
-
-// Hole j goes among the first j of `ord`, in front of those at the end that it goes before.
-fn insert(who: &[u32], x: &[i32], y: &[i32], to_x: &[i32], to_y: &[i32], ord: &mut [u32], j: usize)
-    requires { ⌜ (Bounded (now who) (anchors (now x) (now y) (now «to_x») (now «to_y»)) (suc j)) × (j < maxLinks) ⌝ }
-    requires { ⌜ (j < length (now ord)) × ((i : ℕ) → i < j → getD (now ord) i 0 < j) ⌝ }
-    ensures { λ _. ⌜ Inserted (now (ord .entry)) (now (ord .exit)) j (placeOf (anchors (now (x .entry)) (now (y .entry)) (now («to_x» .entry)) (now («to_y» .entry))) (now (who .entry)) (now (ord .entry)) j) j ⌝ }
-{
-    let a = nearest::anchor_at(x, y, to_x, to_y, j);
-    let c = who[j];
-    let mut p = j;
-    while 0 < p {
-        let d = ord[p - 1];
-        let i = d as usize;
-        let b = nearest::anchor_at(x, y, to_x, to_y, i);
-        if goes_before(a, b, c, who[i]) {
-            ord[p] = d;
-            p -= 1;
-        } else {
-            ord[p] = j as u32;
-            return;
-        }
-    }
-    ord[p] = j as u32;
-}
-
-// The m holes in binding's order, by their places among the holes.
-fn order_holes(
-    who: &[u32],
-    x: &[i32],
-    y: &[i32],
-    to_x: &[i32],
-    to_y: &[i32],
-    m: usize,
-    ord: &mut [u32],
-)
-    requires { ⌜ (Bounded (now who) (anchors (now x) (now y) (now «to_x») (now «to_y»)) m) × (m ≤ maxLinks) × (m ≤ length (now ord)) ⌝ }
-    ensures { λ _. ⌜ Ordered (anchors (now (x .entry)) (now (y .entry)) (now («to_x» .entry)) (now («to_y» .entry))) (now (who .entry)) m (now (ord .exit)) ⌝ }
-{
-    let mut j = 0;
-    while j < m {
-        insert(who, x, y, to_x, to_y, ord, j);
-        j += 1;
-    }
-}
-
-// The first owners: a hull's is its own number, a hole has none yet.
-fn number_hulls(kind: &[u8], own: &mut [u16])
-    requires { ⌜ (length (now own) ≡ length (now kind)) × (length (now kind) ≤ maxLinks) ⌝ }
-    ensures { λ _. ⌜ now (own .exit) ≡ listOf (firstOwner (now (kind .entry))) (length (now (kind .entry))) ⌝ }
-{
-    let mut shape: u16 = 0;
-    let mut c = 0;
-    while c < kind.len() {
-        if kind[c] == 0 {
-            own[c] = shape;
-            shape += 1;
-            c += 1;
-            continue;
-        }
-        own[c] = table::DROPPED;
-        c += 1;
-    }
-}
-
-// What the contour under a hole gives it: its owner, or none.
-fn parent(under: u32, own: &[u16]) -> u16
-    requires { ⌜ under ≤ length (now own) ⌝ }
-    ensures { λ r. ⌜ r ≡ given under (now (own .entry)) ⌝ }
-{
-    if under == 0 {
-        return table::DROPPED;
-    }
-    own[(under - 1) as usize]
-}
-
-// Each of the m holes, in the order of `ord`, gets its parent's number, until one finds none.
-fn give_owners(ord: &[u32], who: &[u32], under: &[u32], m: usize, own: &mut [u16]) -> Given
-    requires { ⌜ Listed (now ord) (now who) (now under) m (length (now own)) ⌝ }
-    ensures { λ r. ⌜ owned r (now (own .exit)) ≡ giveListed (now (who .entry)) (now (under .entry)) (take m (now (ord .entry))) (now (own .entry)) ⌝ }
-{
-    let mut i = 0;
-    while i < m {
-        let j = ord[i] as usize;
-        let c = who[j];
-        let p = parent(under[j], own);
-        if p == table::DROPPED {
-            return Given::Stuck(c);
-        }
-        own[c as usize] = p;
-        i += 1;
-    }
-    Given::All
-}
-
-// The search with two hulls or more, in arrays of its own.
-fn search_owners(
-    points: &[i32],
-    first: &[u32],
-    len: &[u32],
-    kind: &[u8],
-    clockwise: bool,
-    own: &mut [u16],
-) -> Given
-    requires { ⌜ (Sound (table (now points) (now first) (now len) (now kind))) × (Anchored (table (now points) (now first) (now len) (now kind)) clockwise) × (length (now own) ≡ length (now first)) ⌝ }
-    ensures { λ r. ⌜ owned r (now (own .exit)) ≡ giveEach (contourBelow (table (now (points .entry)) (now (first .entry)) (now (len .entry)) (now (kind .entry))) clockwise) (bindingOrder (table (now (points .entry)) (now (first .entry)) (now (len .entry)) (now (kind .entry))) clockwise) (now (own .entry)) ⌝ }
-{
-    let mut who = [0u32; turn::MAX_LINKS];
-    let mut x = [0i32; turn::MAX_LINKS];
-    let mut y = [0i32; turn::MAX_LINKS];
-    let mut to_x = [0i32; turn::MAX_LINKS];
-    let mut to_y = [0i32; turn::MAX_LINKS];
-    let m = gather_holes(
-        points,
-        first,
-        len,
-        kind,
-        clockwise,
-        &mut who,
-        &mut x,
-        &mut y,
-        &mut to_x,
-        &mut to_y,
-    );
-    let mute = [0u8; turn::MAX_LINKS];
-    let mut under = [0u32; turn::MAX_LINKS];
-    nearest::contours_under(
-        points,
-        first,
-        len,
-        kind,
-        true,
-        clockwise,
-        &mute,
-        &x,
-        &y,
-        &to_x,
-        &to_y,
-        m,
-        &mut under,
-    );
-    let mut ord = [0u32; turn::MAX_LINKS];
-    order_holes(&who, &x, &y, &to_x, &to_y, m, &mut ord);
-    give_owners(&ord, &who, &under, m, own)
-}
-
 // The numbers of `from`, in front of the old tail.
 fn copy(from: &[u16], to: &mut [u16])
     requires { ⌜ length (now from) ≤ length (now to) ⌝ }
-    ensures { λ _. ⌜ now (to .exit) ≡ written (now (from .entry)) (now (to .entry)) ⌝ }
+    ensures { λ _. ⌜ now (to .exit) ≡ overFront (now (from .entry)) (now (to .entry)) ⌝ }
 {
     let mut i = 0;
     while i < from.len() {
@@ -255,7 +32,7 @@ fn copy(from: &[u16], to: &mut [u16])
 // One number n times, in front of the old tail.
 fn fill(owner: &mut [u16], n: usize, number: u16)
     requires { ⌜ n ≤ length (now owner) ⌝ }
-    ensures { λ _. ⌜ now (owner .exit) ≡ written (replicate n number) (now (owner .entry)) ⌝ }
+    ensures { λ _. ⌜ now (owner .exit) ≡ overFront (replicate n number) (now (owner .entry)) ⌝ }
 {
     let mut i = 0;
     while i < n {
@@ -274,12 +51,14 @@ fn bind_in(
     own: &mut [u16],
     owner: &mut [u16],
 ) -> Given
-    requires { ⌜ (Sound (table (now points) (now first) (now len) (now kind))) × (Anchored (table (now points) (now first) (now len) (now kind)) clockwise) ⌝ }
+    requires { ⌜ (let t : Table = table (now points) (now first) (now len) (now kind) in
+        (Sound t) × (Anchored t clockwise)) ⌝ }
     requires { ⌜ (length (now own) ≡ length (now first)) × (length (now first) ≤ length (now owner)) ⌝ }
-    ensures { λ r. ⌜ owned r (now (owner .exit)) ≡ delivered (searchedOwners (table (now (points .entry)) (now (first .entry)) (now (len .entry)) (now (kind .entry))) clockwise) (now (owner .entry)) ⌝ }
+    ensures { λ r. ⌜ (let t : Table = table (now (points .entry)) (now (first .entry)) (now (len .entry)) (now (kind .entry)) in
+        owned r (now (owner .exit)) ≡ delivered (searchedOwners t clockwise) (now (owner .entry))) ⌝ }
 {
-    number_hulls(kind, own);
-    match search_owners(points, first, len, kind, clockwise, own) {
+    owners::number_hulls(kind, own);
+    match owners::search_owners(points, first, len, kind, clockwise, own) {
         Given::Stuck(c) => Given::Stuck(c),
         Given::All => {
             copy(own, owner);
@@ -297,8 +76,10 @@ fn bind_holes(
     clockwise: bool,
     owner: &mut [u16],
 ) -> Given
-    requires { ⌜ (Sound (table (now points) (now first) (now len) (now kind))) × (Anchored (table (now points) (now first) (now len) (now kind)) clockwise) × (length (now first) ≤ length (now owner)) ⌝ }
-    ensures { λ r. ⌜ owned r (now (owner .exit)) ≡ delivered (searchedOwners (table (now (points .entry)) (now (first .entry)) (now (len .entry)) (now (kind .entry))) clockwise) (now (owner .entry)) ⌝ }
+    requires { ⌜ (let t : Table = table (now points) (now first) (now len) (now kind) in
+        (Sound t) × (Anchored t clockwise) × (length (now first) ≤ length (now owner))) ⌝ }
+    ensures { λ r. ⌜ (let t : Table = table (now (points .entry)) (now (first .entry)) (now (len .entry)) (now (kind .entry)) in
+        owned r (now (owner .exit)) ≡ delivered (searchedOwners t clockwise) (now (owner .entry))) ⌝ }
 {
     let n = first.len();
     let mut own = [0u16; turn::MAX_LINKS];
@@ -314,8 +95,10 @@ fn bind_sound(
     clockwise: bool,
     owner: &mut [u16],
 ) -> Binding
-    requires { ⌜ (Sound (table (now points) (now first) (now len) (now kind))) × (Anchored (table (now points) (now first) (now len) (now kind)) clockwise) × (length (now first) ≤ length (now owner)) ⌝ }
-    ensures { λ r. ⌜ outcome r (now (owner .exit)) ≡ handed (table (now (points .entry)) (now (first .entry)) (now (len .entry)) (now (kind .entry))) (ownersOf (table (now (points .entry)) (now (first .entry)) (now (len .entry)) (now (kind .entry))) clockwise) (now (owner .entry)) ⌝ }
+    requires { ⌜ (let t : Table = table (now points) (now first) (now len) (now kind) in
+        (Sound t) × (Anchored t clockwise) × (length (now first) ≤ length (now owner))) ⌝ }
+    ensures { λ r. ⌜ (let t : Table = table (now (points .entry)) (now (first .entry)) (now (len .entry)) (now (kind .entry)) in
+        outcome r (now (owner .exit)) ≡ handed t (ownersOf t clockwise) (now (owner .entry))) ⌝ }
 {
     let n = first.len();
     let hulls = table::hulls_before(kind, n);
@@ -354,10 +137,11 @@ fn check(
     clockwise: bool,
     owners: usize,
 ) -> Checked
-    ensures { λ r. ⌜ r ≡ bothChecked (table (now (points .entry)) (now (first .entry)) (now (len .entry)) (now (kind .entry))) owners clockwise ⌝ }
+    ensures { λ r. ⌜ (let t : Table = table (now (points .entry)) (now (first .entry)) (now (len .entry)) (now (kind .entry)) in
+        r ≡ bothChecked t owners clockwise) ⌝ }
 {
     match table::check_table(points, first, len, kind, owners) {
-        Checked::Fine => table::check_anchors(points, first, len, kind, clockwise),
+        Checked::Fine => anchor::check_anchors(points, first, len, kind, clockwise),
         Checked::Refused { number, place } => Checked::Refused {
             number: number,
             place: place,
@@ -374,7 +158,8 @@ pub fn bind(
     clockwise: bool,
     owner: &mut [u16],
 ) -> Binding
-    ensures { λ r. ⌜ outcome r (now (owner .exit)) ≡ bound (table (now (points .entry)) (now (first .entry)) (now (len .entry)) (now (kind .entry))) clockwise (now (owner .entry)) ⌝ }
+    ensures { λ r. ⌜ (let t : Table = table (now (points .entry)) (now (first .entry)) (now (len .entry)) (now (kind .entry)) in
+        outcome r (now (owner .exit)) ≡ bound t clockwise (now (owner .entry))) ⌝ }
 {
     match check(points, first, len, kind, clockwise, owner.len()) {
         Checked::Fine => bind_sound(points, first, len, kind, clockwise, owner),

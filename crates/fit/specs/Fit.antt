@@ -25,13 +25,14 @@ use Rattle.scan.specs.Visits.{scanned}
 use Rattle.extract.specs.Extract.{Extracted, extractedAs, afterScan, afterChecks, extracted}
 use Rattle.finish.specs.Finish.{Buffers}
 use Rattle.tour.specs.ThreePoints.{finished}
-use Rattle.table.specs.Table.{Table, table, firstOf, endOf, contourCount, point, isHole}
-use Rattle.table.specs.Anchor.{anchorPoint}
-use Rattle.table.specs.TableChecks.{tableChecked, anchorsChecked}
+use Rattle.table.specs.Table.{Table, table, firstOf, rangeEnd, contourCount, point, isHole}
+use Rattle.anchor.specs.Anchor.{anchorPoint}
+use Rattle.table.specs.TableChecks.{tableChecked}
+use Rattle.anchor.specs.AnchorChecks.{anchorsChecked}
 use Rattle.turn.specs.declared.Checked.the-variants as check
-use Rattle.table.specs.Sound.{Anchored}
+use Rattle.anchor.specs.Anchored.{Anchored}
 use Rattle.table.specs.Passing.{passes-sound}
-use Rattle.table.specs.Anchoring.{passes-anchored}
+use Rattle.anchor.specs.Anchoring.{passes-anchored}
 use Rattle.fit.specs.Places.{tableOf, walkAt, noWalk, origin, firsts-length, lens-length, lens-at, kinds-at, point-at}
 use Rattle.fit.specs.Sizes.{table-sound, at-walks, three, links-in}
 use Rattle.fit.specs.Anchors.{AllBegin, Led, scan-begins}
@@ -89,7 +90,7 @@ module _ (g : Lent) (top st : List ℕ) (r : Room) (e : checked g top st r ≡ c
       low true n = omega arith
       low false n = omega arith
 
-  least : (c p : ℕ) → c < contourCount t → isHole t c ≡ true → firstOf t c ≤ p → p < endOf t c → before (point t p) (anchorPoint t cw c) ≡ false
+  least : (c p : ℕ) → c < contourCount t → isHole t c ≡ true → firstOf t c ≤ p → p < rangeEnd t c → before (point t p) (anchorPoint t cw c) ≡ false
   least c p h k low high =
       let i = in-table c h in
       let n : getD (lens ks) c 0 ≡ length (walkAt ks c .steps) = lens-at ks c in

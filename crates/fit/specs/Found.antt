@@ -10,24 +10,25 @@ use lib.Dec.{eqb, ltb}
 use borrow.Author.Tests.{eq-eqb, eqb-true, eqb-false, lt-ltb}
 use Rattle.laws.specs.Test.{pick}
 use Rattle.table.specs.Table.{Table, contourCount, kindOf, hullCount, shapeOf, hulls, droppedOwner}
-use Rattle.table.specs.TableLaws.{hulls-more}
-use Rattle.table.specs.TableChecks.{tableChecked, anchorsChecked, bothChecked}
+use Rattle.table.specs.TableChecks.{tableChecked}
+use Rattle.anchor.specs.AnchorChecks.{anchorsChecked, bothChecked}
 use Rattle.turn.specs.Refusals.{first-fine}
 use Rattle.turn.specs.declared.Checked.{Checked}
 use Rattle.turn.specs.declared.Checked.the-variants.{Fine, Refused}
 use Rattle.table.specs.Sound.{Sound}
 use Rattle.table.specs.Passing.{passes-sound}
-use Rattle.table.specs.Lookups.{ownerRight, recordOf, lookedUp}
-use Rattle.table.specs.LookupLaws.{found-record}
-use Rattle.table.specs.declared.records.Lookup.the-variants.{Found}
+use Rattle.lookup.specs.Lookups.{ownerRight, recordOf, lookedUp}
+use Rattle.lookup.specs.LookupLaws.{found-record}
+use Rattle.lookup.specs.declared.records.Lookup.the-variants.{Found}
 use Rattle.bind.specs.declared.Binding.the-variants as binding
-use Rattle.bind.specs.declared.Given.{Given}
-use Rattle.bind.specs.declared.Given.the-variants.{All, Stuck}
-use Rattle.bind.specs.Owners.{Owned, owned, given, giveEach, firstOwner, listOf, searchedOwners, ownersOf, contourBelow, Outcome, outcome, written, handed, handedBy, boundAfter, bound}
-use Rattle.bind.specs.HoleOrder.{bindingOrder}
-use Rattle.bind.specs.OrderLaws.{each-once}
-use Rattle.bind.specs.OwnerLaws.{list-length, list-at, hulls-most, owners-below}
-use Rattle.bind.specs.Insertion.{times}
+use Rattle.owners.specs.declared.Given.{Given}
+use Rattle.owners.specs.declared.Given.the-variants.{All, Stuck}
+use Rattle.owners.specs.Owners.{Owned, owned, given, giveEach, firstOwner, tabulate, searchedOwners, ownersOf, contourBelow}
+use Rattle.bind.specs.Outcome.{Outcome, outcome, overFront, handed, handedBy, boundAfter, bound}
+use Rattle.order.specs.HoleOrder.{bindingOrder}
+use Rattle.order.specs.OrderLaws.{each-once}
+use Rattle.owners.specs.OwnerLaws.{tabulate-length, tabulate-at, owners-below}
+use Rattle.laws.specs.Count.{count, count-more, count-most}
 
 -- ---- giving leaves the owners of contours that are not gone through
 split : {x y : List ℕ} {r q : Given} → owned r x ≡ owned q y → (r ≡ q) × (x ≡ y)
@@ -38,10 +39,10 @@ zero-one x = omega arith
 
 pub record Left (l old new : List ℕ) : Type 0 where
   pub long : length new ≡ length old
-  pub same : (c : ℕ) → times c l ≡ 0 → getD new c 0 ≡ getD old c 0
+  pub same : (c : ℕ) → count c l ≡ 0 → getD new c 0 ≡ getD old c 0
 
 left : (under : ℕ → ℕ) (l old new : List ℕ) → giveEach under l old ≡ owned All new → Left l old new
-unfolding giveEach times
+unfolding giveEach count
 left under [] old new e = let q = split e in record { long = ap length (sym (q .1)); same = λ c h. ap (λ (x : List ℕ). getD x c 0) (sym (q .1)) }
 left under (d ∷ l) old new e = go (eqb (given (under d) old) droppedOwner) e (left under l (set old d (given (under d) old)) new)
   where
@@ -71,8 +72,8 @@ module _ (t : Table) (s : Sound t) (cw : Bool) (l : List ℕ) where
   -- up to a hull, itself among them, there is one hull more than before it
   counted : (c : ℕ) → c < contourCount t → kindOf t c ≡ 0 → shapeOf t c + 1 ≤ hullCount t
   counted c h k =
-      let m : hulls (take (c + 1) (t .kind)) ≡ hulls (take c (t .kind)) + 1 = hulls-more (t .kind) c (rw (s .kind-long) h) ∙ rw (eq-eqb (kindOf t c) 0 k) in
-      omega (arith, m, hulls-most (c + 1) (t .kind))
+      let m : hulls (take (c + 1) (t .kind)) ≡ hulls (take c (t .kind)) + 1 = count-more 0 (t .kind) c (rw (s .kind-long) h) ∙ rw (eq-eqb (kindOf t c) 0 k) in
+      omega (arith, m, count-most 0 (c + 1) (t .kind))
 
   -- a hull's owner is its own number; a hole's is below the hull count, or 65,535 with no hulls
   right-of : (c o : ℕ) → (kindOf t c ≡ 0 → o ≡ shapeOf t c) → ((kindOf t c ≡ 0 → ⊥) → hullCount t ≡ 0 → o ≡ droppedOwner) → ((kindOf t c ≡ 0 → ⊥) → (hullCount t ≡ 0 → ⊥) → o < hullCount t)
@@ -84,10 +85,10 @@ module _ (t : Table) (s : Sound t) (cw : Bool) (l : List ℕ) where
       by false e true f = eq-eqb o droppedOwner (b (eqb-false _ _ e) (eqb-true _ _ f))
       by false e false f = lt-ltb o (hullCount t) (d (eqb-false _ _ e) (eqb-false _ _ f))
 
-  searched : searchedOwners t cw ≡ owned All l → Left (bindingOrder t cw) (listOf (firstOwner (t .kind)) (contourCount t)) l
-  searched e = left (contourBelow t cw) (bindingOrder t cw) (listOf (firstOwner (t .kind)) (contourCount t)) l e
+  searched : searchedOwners t cw ≡ owned All l → Left (bindingOrder t cw) (tabulate (firstOwner (t .kind)) (contourCount t)) l
+  searched e = left (contourBelow t cw) (bindingOrder t cw) (tabulate (firstOwner (t .kind)) (contourCount t)) l e
 
-  not-hole : (c : ℕ) → kindOf t c ≡ 0 → times c (bindingOrder t cw) ≡ 0
+  not-hole : (c : ℕ) → kindOf t c ≡ 0 → count c (bindingOrder t cw) ≡ 0
   not-hole c k = each-once t cw c ∙ rw (k) (off (ltb c (contourCount t)))
     where
       off : (b : Bool) → _≡_ {A = ℕ} (pick (b && false) 1 0) 0
@@ -95,7 +96,7 @@ module _ (t : Table) (s : Sound t) (cw : Bool) (l : List ℕ) where
       off false = refl
 
   hull-own : searchedOwners t cw ≡ owned All l → (c : ℕ) → c < contourCount t → kindOf t c ≡ 0 → getD l c 0 ≡ shapeOf t c
-  hull-own e c h k = searched e .same c (not-hole c k) ∙ list-at (firstOwner (t .kind)) (contourCount t) c h ∙ rw (eq-eqb (kindOf t c) 0 k)
+  hull-own e c h k = searched e .same c (not-hole c k) ∙ tabulate-at (firstOwner (t .kind)) (contourCount t) c h ∙ rw (eq-eqb (kindOf t c) 0 k)
 
   pub owners-right : ownersOf t cw ≡ owned All l → Right t l
   unfolding ownersOf
@@ -131,7 +132,7 @@ module _ (t : Table) (s : Sound t) (cw : Bool) (l : List ℕ) where
           clash x a b = omega arith
       go false f false k q =
           record {
-            long = searched q .long ∙ list-length (firstOwner (t .kind)) (contourCount t);
+            long = searched q .long ∙ tabulate-length (firstOwner (t .kind)) (contourCount t);
             right = λ c h. right-of c (getD l c 0) (hull-own q c h) (λ i j. absurd (eqb-false _ _ f j)) (λ i j. all-below e (positive j) c h);
           }
         where
@@ -145,10 +146,10 @@ module _ (t : Table) (cw : Bool) (buffer owner : List ℕ) (shapes dropped : ℕ
   by-checked (Refused number place) q h = let z = ap (λ (x : Outcome). x .answer) h in let x : _≡_ {A = ℕ} 0 1 = cc in absurd (zero-one x)
   by-checked Fine q h = (q, h)
 
-  by-given : (w : Owned) → outcome (binding.Bound shapes dropped) owner ≡ handed t w buffer → (w .answer ≡ All) × (owner ≡ written (w .owners) buffer)
+  by-given : (w : Owned) → outcome (binding.Bound shapes dropped) owner ≡ handed t w buffer → (w .answer ≡ All) × (owner ≡ overFront (w .owners) buffer)
   by-given w h = go (w .answer) refl h
     where
-      go : (a : Given) → w .answer ≡ a → outcome (binding.Bound shapes dropped) owner ≡ handedBy t a (w .owners) buffer → (w .answer ≡ All) × (owner ≡ written (w .owners) buffer)
+      go : (a : Given) → w .answer ≡ a → outcome (binding.Bound shapes dropped) owner ≡ handedBy t a (w .owners) buffer → (w .answer ≡ All) × (owner ≡ overFront (w .owners) buffer)
       go All q h = (q, ap (λ (x : Outcome). x .owner) h)
       go (Stuck c) q h = let z = ap (λ (x : Outcome). x .answer) h in let x : _≡_ {A = ℕ} 0 1 = cc in absurd (zero-one x)
 
@@ -168,5 +169,5 @@ module _ (t : Table) (cw : Bool) (buffer owner : List ℕ) (shapes dropped : ℕ
         owned = ap (λ x. ownerRight (kindOf t c) x (shapeOf t c) (hullCount t)) o ∙ r .right c l;
       })
     where
-      long : (x : List ℕ) → owner ≡ written x buffer → length x ≡ contourCount t → contourCount t ≤ length buffer → length owner ≡ length buffer
+      long : (x : List ℕ) → owner ≡ overFront x buffer → length x ≡ contourCount t → contourCount t ≤ length buffer → length owner ≡ length buffer
       long x e h k = ap length e ∙ length-append x (drop (length x) buffer) ∙ omega (arith, length-drop (length x) buffer)

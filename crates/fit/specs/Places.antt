@@ -10,7 +10,7 @@ use lib.IntN.{ℤ, pos}
 use Rattle.laws.specs.Test.{pick}
 use Rattle.turn.specs.declared.Point.{Point}
 use Rattle.graph.specs.Graph.{Graph}
-use Rattle.table.specs.Table.{Table, table, pointAt}
+use Rattle.table.specs.Table.{Table, table, pointIn}
 use Rattle.walk.specs.Walk.{Walk, left, points}
 use Rattle.keep.specs.Outcome.{lens, firsts, kinds, allPoints, coordinates, sum, kept}
 
@@ -28,7 +28,7 @@ noWalk = record { hole = false; steps = [] }
 abbrev pub walkAt : List Walk → ℕ → Walk
 walkAt ks c = getD ks c noWalk
 
-pub coordinates-at : (l : List Point) (p : ℕ) → pointAt (coordinates l) p ≡ getD l p origin
+pub coordinates-at : (l : List Point) (p : ℕ) → pointIn (coordinates l) p ≡ getD l p origin
 coordinates-at [] p = refl
 coordinates-at (q ∷ l) zero = refl
 coordinates-at (q ∷ l) (suc p) =
@@ -114,5 +114,5 @@ module _ (g : Graph) where
 
   -- point i of contour c
   pub point-at : (ks : List Walk) (c i : ℕ) → c < length ks → i < length (walkAt ks c .steps)
-      → pointAt (tableOf g ks .points) (getD (tableOf g ks .first) c 0 + i) ≡ getD (points g (walkAt ks c)) i origin
+      → pointIn (tableOf g ks .points) (getD (tableOf g ks .first) c 0 + i) ≡ getD (points g (walkAt ks c)) i origin
   point-at ks c i h l = coordinates-at (allPoints g ks) (getD (firsts 0 (lens ks)) c 0 + i) ∙ all-at ks c i h l

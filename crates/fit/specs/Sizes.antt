@@ -26,7 +26,7 @@ use Rattle.keep.specs.Ledger.{coordinates-length, all-points-length}
 use Rattle.scan.specs.Visits.{scanned}
 use Rattle.tour.specs.Statement.{Closed, Line, nodeLeft}
 use Rattle.tour.specs.ThreePoints.{finished}
-use Rattle.table.specs.Table.{Table, firstOf, endOf, lenOf, contourCount, pointCount, point, next, nextIn}
+use Rattle.table.specs.Table.{Table, firstOf, rangeEnd, lenOf, contourCount, pointCount, point, next, nextIn}
 use Rattle.table.specs.TableChecks.{startIn}
 use Rattle.table.specs.TableLaws.{next-inside, next-last}
 use Rattle.table.specs.Sound.{Sound}
@@ -135,7 +135,7 @@ module _ (g : Lent) (top st : List ℕ) (r : Room) (e : checked g top st r ≡ F
   in-table : (c : ℕ) → c < contourCount t → c < length ks
   in-table c h = rw many at h
 
-  neighbour : (c p : ℕ) → c < contourCount t → firstOf t c ≤ p → p < endOf t c → differ (point t p) (point t (next t c p)) ≡ true
+  neighbour : (c p : ℕ) → c < contourCount t → firstOf t c ≤ p → p < rangeEnd t c → differ (point t p) (point t (next t c p)) ≡ true
   neighbour c p h low high =
       let k = in-table c h in
       let n : lenOf t c ≡ length (walkAt ks c .steps) = lens-at ks c in
@@ -143,21 +143,21 @@ module _ (g : Lent) (top st : List ℕ) (r : Room) (e : checked g top st r ≡ F
       let at : firstOf t c + (p - firstOf t c) ≡ p = omega arith in
       let here : point t p ≡ getD (points G (walkAt ks c)) (p - firstOf t c) origin = ap (point t) (sym at) ∙ point-at G ks c (p - firstOf t c) k i in
       let d = round (walkAt ks c) (at-walks c k) (p - firstOf t c) i in
-      elim (ℕ-discrete (p + 1) (endOf t c)) [
-        | yes q ↦ ap₂ differ here (ap (point t) (next-last (firstOf t c) (endOf t c) p q ∙ zero-more (firstOf t c)) ∙ point-at G ks c 0 k (omega arith)) ∙ d .1 (omega (arith, n))
-        | no m ↦ ap₂ differ here (ap (point t) (next-inside (firstOf t c) (endOf t c) p (less m) ∙ one-more) ∙ point-at G ks c (suc (p - firstOf t c)) k (inside m n)) ∙ d .0 (inside m n)
+      elim (ℕ-discrete (p + 1) (rangeEnd t c)) [
+        | yes q ↦ ap₂ differ here (ap (point t) (next-last (firstOf t c) (rangeEnd t c) p q ∙ zero-more (firstOf t c)) ∙ point-at G ks c 0 k (omega arith)) ∙ d .1 (omega (arith, n))
+        | no m ↦ ap₂ differ here (ap (point t) (next-inside (firstOf t c) (rangeEnd t c) p (less m) ∙ one-more) ∙ point-at G ks c (suc (p - firstOf t c)) k (inside m n)) ∙ d .0 (inside m n)
       ]
     where
       zero-more : (x : ℕ) → x ≡ x + 0
       zero-more x = omega arith
 
-      less : (p + 1 ≡ endOf t c → ⊥) → p + 1 < endOf t c
+      less : (p + 1 ≡ rangeEnd t c → ⊥) → p + 1 < rangeEnd t c
       less m = omega arith
 
       one-more : p + 1 ≡ firstOf t c + suc (p - firstOf t c)
       one-more = omega arith
 
-      inside : (p + 1 ≡ endOf t c → ⊥) → lenOf t c ≡ length (walkAt ks c .steps) → suc (p - firstOf t c) < length (walkAt ks c .steps)
+      inside : (p + 1 ≡ rangeEnd t c → ⊥) → lenOf t c ≡ length (walkAt ks c .steps) → suc (p - firstOf t c) < length (walkAt ks c .steps)
       inside m n = omega arith
 
   pub table-sound : Sound t

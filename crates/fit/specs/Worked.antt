@@ -14,7 +14,7 @@ use Rattle.extract.specs.Examples.{nines, fan, fanTops, e1, e2, e3, e4, e5, e6,
 use Rattle.table.specs.Table.{Table}
 use Rattle.table.specs.Examples.{e9, e10, e10One}
 use Rattle.bind.specs.declared.Binding.the-variants as binding
-use Rattle.bind.specs.Owners.{Outcome, outcome, bound}
+use Rattle.bind.specs.Outcome.{Outcome, outcome, bound}
 use Rattle.bind.specs.Examples.{e9-bound, e10-bound, e10-one}
 
 -- a graph that is lent to extraction, with all that is then answered and left in the lent buffers; or a table that is lent to binding

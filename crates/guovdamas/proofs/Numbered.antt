@@ -6,7 +6,7 @@ use Rattle.scan.specs.declared.Extraction.{Extraction}
 use Rattle.extract.specs.Extract.{Extracted, extractedAs}
 use Rattle.finish.specs.Finish.{Buffers}
 use Rattle.bind.specs.declared.Binding.{Binding}
-use Rattle.bind.specs.Owners.{Outcome, outcome}
+use Rattle.bind.specs.Outcome.{Outcome, outcome}
 use Rattle.guovdamas.specs.declared.GuovdamasBinding.{GuovdamasBinding}
 use Rattle.guovdamas.specs.declared.GuovdamasExtraction.{GuovdamasExtraction}
 use Rattle.guovdamas.specs.Numbers.{extractionOf, extracting, numberedExtracted, bindingOf, binding, numberedBound}

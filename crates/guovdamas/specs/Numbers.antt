@@ -6,15 +6,15 @@ use Rattle.scan.specs.declared.Extraction.{Extraction}
 use Rattle.scan.specs.declared.Extraction.the-variants.{Done, Refused}
 use Rattle.extract.specs.Extract.{Extracted}
 use Rattle.finish.specs.Finish.{Buffers}
-use Rattle.table.specs.Lookups.{roleOwner}
-use Rattle.table.specs.declared.records.Role.{Role}
-use Rattle.table.specs.declared.records.Role.the-variants.{Hull, Hole, Dropped}
-use Rattle.table.specs.declared.records.ContourRecord.{ContourRecord}
-use Rattle.table.specs.declared.records.Lookup.{Lookup}
-use Rattle.table.specs.declared.records.Lookup.the-variants.{Found, Missing}
+use Rattle.lookup.specs.Lookups.{roleOwner}
+use Rattle.lookup.specs.declared.records.Role.{Role}
+use Rattle.lookup.specs.declared.records.Role.the-variants.{Hull, Hole, Dropped}
+use Rattle.lookup.specs.declared.records.ContourRecord.{ContourRecord}
+use Rattle.lookup.specs.declared.records.Lookup.{Lookup}
+use Rattle.lookup.specs.declared.records.Lookup.the-variants.{Found, Missing}
 use Rattle.bind.specs.declared.Binding.{Binding}
 use Rattle.bind.specs.declared.Binding.the-variants.{Bound, Refused as Unbound}
-use Rattle.bind.specs.Owners.{Outcome}
+use Rattle.bind.specs.Outcome.{Outcome}
 use Rattle.guovdamas.specs.declared.GuovdamasExtraction.{GuovdamasExtraction}
 use Rattle.guovdamas.specs.declared.GuovdamasBinding.{GuovdamasBinding}
 use Rattle.guovdamas.specs.declared.GuovdamasRecord.{GuovdamasRecord}

@@ -1,15 +1,15 @@
 // The static library: extraction, binding and lookup, with numbers and slices only, for Rust and C. include/guovdamas.h is its header.
 use bind::Binding;
-use table::records::ContourRecord;
-use table::records::Lookup;
-use table::records::Role;
+use lookup::records::ContourRecord;
+use lookup::records::Lookup;
+use lookup::records::Role;
 use walk::Extraction;
 ghost use mathlib.Core.Path.{_≡_};
 ghost use Rattle.graph.specs.Graph.{lent};
 ghost use Rattle.walk.specs.Extract.{buffers, extracted};
 ghost use Rattle.table.specs.Table.{table};
-ghost use Rattle.table.specs.Lookups.{roleOwner, lookedUp};
-ghost use Rattle.bind.specs.Owners.{bound};
+ghost use Rattle.lookup.specs.Lookups.{roleOwner, lookedUp};
+ghost use Rattle.bind.specs.Outcome.{bound};
 ghost use Rattle.guovdamas.specs.Numbers.{extractionOf, bindingOf, foundRecord, recordOf, roleNumber, extracting, numberedExtracted, binding, numberedBound};
 
 // What extraction answers: document 01's number and place, 0 and 0 when done; the counts and the signed doubled totals, all 0 after a refusal.
@@ -217,5 +217,5 @@ pub extern "C" fn guovdamas_lookup(
 ) -> GuovdamasRecord
     ensures { λ r. ⌜ r ≡ recordOf (lookedUp (table (now (points .entry)) (now (first .entry)) (now (len .entry)) (now (kind .entry))) (now (owner .entry)) contour) ⌝ }
 {
-    record_of(table::lookup(points, first, len, kind, owner, contour))
+    record_of(lookup::lookup(points, first, len, kind, owner, contour))
 }

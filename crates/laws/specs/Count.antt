@@ -25,9 +25,26 @@ unfolding count
 count-append x [] t = sym (zero-add _)
 count-append x (y ∷ s) t = simp (count-append x s t, add-assoc)
 
+pub count-snoc : (x y : ℕ) (l : List ℕ) → count x (l ++ (y ∷ [])) ≡ count x l + pick (eqb y x) 1 0
+unfolding count
+count-snoc x y l = count-append x l (y ∷ []) ∙ simp add-zero
+
 pub count-more : (x : ℕ) (l : List ℕ) (k : ℕ) → k < length l → count x (take (k + 1) l) ≡ count x (take k l) + pick (eqb (getD l k 0) x) 1 0
 unfolding count
 count-more x l k h = simp (add-one, take-suc l k 0 h, count-append, add-zero)
+
+-- ---- of a part and of the whole
+pub count-none : (x : ℕ) (l : List ℕ) → count x (take 0 l) ≡ 0
+unfolding count
+count-none x [] = refl
+count-none x (y ∷ l) = refl
+
+pub count-most : (x k : ℕ) (l : List ℕ) → count x (take k l) ≤ count x l
+unfolding count
+count-most x zero [] = omega arith
+count-most x zero (y ∷ l) = omega arith
+count-most x (suc k) [] = omega arith
+count-most x (suc k) (y ∷ l) = omega (arith, count-most x k l)
 
 -- ---- what is counted is a member, and stands at a place
 pub counted-in : (x : ℕ) (l : List ℕ) → 1 ≤ count x l → List·Memᴰ x l

@@ -10,3 +10,4 @@ pub mod Bounds
 pub mod Unique
 pub mod Lists
 pub mod Count
+pub mod Compare

@@ -11,8 +11,10 @@ use mir.Syntax.{w32}
 use mir.Val.{toZ, ofZ}
 use mir.ValLaws.{toZ-ofZ}
 use Rattle.laws.specs.Order.{lin}
-use Rattle.nearest.specs.Lists.{Sorted, Parted}
-use Rattle.nearest.specs.Compare.{lt-yes, lt-no}
+use Rattle.laws.specs.Compare.{lt-yes, lt-no}
+use Rattle.laws.specs.Bounds.{same32}
+use Rattle.turn.specs.Points.{Coord}
+use Rattle.nearest.specs.SearchLists.{Sorted, Parted}
 
 pub record Bracket (l : List ℤ) (m : ℕ) (x : ℤ) (low high : ℕ) : Type 0 where
   pub low-le : low ≤ high
@@ -58,3 +60,6 @@ seen-lt z y h t = lt-yes z y (rw (num z h) at t)
 
 pub seen-ge : (z y : ℤ) → mag z < 2 ^ 31 → ltZ (toZ w32 (ofZ w32 z)) y ≡ false → y ≤ℤ z
 seen-ge z y h t = lt-no z y (rw (num z h) at t)
+
+pub coord32 : (z : ℤ) → Coord z → toZ w32 (ofZ w32 z) ≡ z
+coord32 z h = same32 z (omega arith)

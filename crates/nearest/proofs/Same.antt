@@ -1,4 +1,4 @@
--- The search looks at the first n edges alone, and the lists that the code has made give a sound table's edges there.
+-- The search looks at the first n edges alone, so that what it finds among the lists is what it finds in the table.
 use Prim.Native.Nat.{ℕ, zero, suc, _+_, _-_, _≤_, _<_}
 use mathlib.Core.Path.{_≡_, refl, ap, _∙_}
 use mathlib.Core.Bool.{Bool}
@@ -6,19 +6,21 @@ use mathlib.Core.List.{List}
 use native.Mathlib.Omega.{arith}
 use lib.ListN.{length, getD}
 use lib.Dec.{eqb}
-use borrow.Author.Tests.{ne-eqb}
 use Rattle.laws.specs.Test.{pick}
-use Rattle.turn.specs.Limits.{maxLinks}
-use Rattle.table.specs.declared.Anchor.{Anchor}
-use Rattle.table.specs.Table.{Table, pointCount, contourCount, firstOf, endOf, contourOf, next}
-use Rattle.table.specs.Passing.{located, sound-follows, few-contours, next-within}
+use Rattle.table.specs.Table.{Table, pointCount, contourCount}
+use Rattle.table.specs.Passing.{located}
 use Rattle.table.specs.Sound.{Sound}
-use Rattle.nearest.specs.declared.Edge.{Edge}
-use Rattle.nearest.specs.Search.{kept, offered, keep, nearest, contourUnder, edge}
-use Rattle.nearest.specs.Lists.{Lists, lists, listedEdge, Anchors, anchorAt, giving, named, Fit, Flags, Numbers, Ranges, ranges, Round, Nearests}
-use Rattle.nearest.proofs.Offers.{nearest-le, contour-is}
+use Rattle.anchor.specs.declared.Anchor.{Anchor}
+use Rattle.anchor.specs.Anchors.{Anchors, listedAnchor}
+use Rattle.edges.specs.declared.Edge.{Edge}
+use Rattle.candidates.specs.Candidates.{edge}
+use Rattle.candidates.specs.EdgeLists.{EdgeLists, edgeLists, listedEdge, ranges, Round}
+use Rattle.candidates.specs.EdgeListLaws.{listed-contour, of-is, edges-same}
+use Rattle.nearest.specs.Search.{kept, offered, keep, nearest, contourUnder}
+use Rattle.nearest.specs.SearchLists.{giving, named, Flags, Numbers, Nearests}
+use Rattle.nearest.specs.Least.{nearest-le}
 
--- ---- edges that are the same below n give the same answer
+-- ---- edges that are equal below n give one answer
 module _ (e f : ℕ → Edge) (gives : ℕ → Bool) (a : Anchor) (n : ℕ) (same : (k : ℕ) → k < n → e k ≡ f k) where
   keep-same : (k b : ℕ) → k < n → b ≤ n → keep e gives a k b ≡ keep f gives a k b
   unfolding keep offered kept
@@ -42,76 +44,26 @@ module _ (e f : ℕ → Edge) (gives : ℕ → Bool) (a : Anchor) (n : ℕ) (sam
       named-same (nearest e gives a n) (nearest-le e gives a n)
       ∙ ap (λ (b : ℕ). pick (eqb b 0) 0 (f (b - 1) .contour + 1)) (up-to n (omega arith))
 
--- ---- the ranges of a sound table
-module _ (t : Table) (s : Sound t) where
-  pub contours-few : contourCount t ≤ maxLinks
-  contours-few = omega (arith, few-contours t s (contourCount t) (omega arith), s .ends, s .few)
-
-  pub ranges-of : Ranges (t .first) (t .len)
-  ranges-of = record {
-    same = s .len-long;
-    few = contours-few;
-    follow = sound-follows t s;
-    within = λ c h. omega (arith, s .within c h, s .few);
-  }
-
 -- ---- the lists that the code has made
 module _ (t : Table) (s : Sound t) (next′ of : List ℕ) (r : Round (ranges (t .first) (t .len)) (contourCount t) next′ of) where
-  of-is : (k : ℕ) → k < pointCount t → getD of k 0 ≡ contourOf t k
-  of-is k l = let h = located t s k l in r .of-is (contourOf t k) k (h .below) (h .from) (h .to)
-
-  next-is : (k : ℕ) → k < pointCount t → getD next′ k 0 ≡ next t (contourOf t k) k
-  next-is k l = let h = located t s k l in r .next-is (contourOf t k) k (h .below) (h .from) (h .to)
-
   pub flags : (mute : List ℕ) → contourCount t ≤ length mute → Flags of mute (pointCount t)
-  flags mute h k l = rw (of-is k l) (omega (arith, located t s k l .below))
-
-  pub of-few : (k : ℕ) → k < pointCount t → getD of k 0 < maxLinks
-  of-few k l = rw (of-is k l) (omega (arith, located t s k l .below, contours-few t s))
-
-  next-below : (k : ℕ) → k < pointCount t → next t (contourOf t k) k < pointCount t
-  next-below k l =
-      let h = located t s k l in
-      omega (arith, next-within (firstOf t (contourOf t k)) (endOf t (contourOf t k)) k (h .from) (h .to) .1, s .within (contourOf t k) (h .below))
+  flags mute h k l = rw (of-is t s next′ of r k l) (omega (arith, located t s k l .below))
 
   module _ (right : Bool) where
-    abbrev g : Lists
-    g = lists (t .points) next′ of (t .kind) right
-
-    edges-same : (k : ℕ) → k < pointCount t → listedEdge g k ≡ edge t right k
-    unfolding listedEdge edge
-    edges-same k l = rw (of-is k l, next-is k l)
-
-    pub fit : maxLinks ≤ length next′ → maxLinks ≤ length of → Fit g (pointCount t)
-    fit n o = record {
-      room = omega (arith, s .whole);
-      grid = s .grid;
-      next-room = omega (arith, s .few);
-      of-room = omega (arith, s .few);
-      next = λ k l. rw (next-is k l) (next-below k l);
-      kind = λ k l. rw (of-is k l) (omega (arith, located t s k l .below, s .kind-long));
-    }
+    abbrev g : EdgeLists
+    g = edgeLists (t .points) next′ of (t .kind) right
 
     module _ (mute : List ℕ) (h : Anchors) (m : ℕ) (best : List ℕ) (n : Nearests g mute (pointCount t) h m best) where
       pub best-numbers : Numbers best m (pointCount t)
-      best-numbers j l = rw (n j l) (nearest-le (listedEdge g) (giving mute) (anchorAt h j) (pointCount t))
+      best-numbers j l = rw (n j l) (nearest-le (listedEdge g) (giving mute) (listedAnchor h j) (pointCount t))
 
       listed : (a : Anchor) (b : ℕ) → b ≡ nearest (listedEdge g) (giving mute) a (pointCount t) → named of b ≡ contourUnder (listedEdge g) (giving mute) a (pointCount t)
       unfolding contourUnder
-      listed a b e = rw (← e, contour-is g (b - 1))
+      listed a b e = rw (← e, listed-contour g (b - 1))
 
       -- what the search answers
       pub searched : (under : List ℕ) → ((j : ℕ) → j < m → getD under j 0 ≡ named of (getD best j 0))
-          → (j : ℕ) → j < m → getD under j 0 ≡ contourUnder (edge t right) (giving mute) (anchorAt h j) (pointCount t)
+          → (j : ℕ) → j < m → getD under j 0 ≡ contourUnder (edge t right) (giving mute) (listedAnchor h j) (pointCount t)
       searched under u j l =
-          u j l ∙ listed (anchorAt h j) (getD best j 0) (n j l)
-          ∙ answer-same (listedEdge g) (edge t right) (giving mute) (anchorAt h j) (pointCount t) edges-same
-
--- ---- the search answers a contour of the table, and 1, or 0
-pub under-few : (t : Table) → Sound t → (right : Bool) (gives : ℕ → Bool) (a : Anchor) → contourUnder (edge t right) gives a (pointCount t) ≤ contourCount t
-unfolding contourUnder edge
-under-few t s right gives a = go (nearest (edge t right) gives a (pointCount t)) (nearest-le (edge t right) gives a (pointCount t))
-  where
-    go : (b : ℕ) → b ≤ pointCount t → pick (eqb b 0) 0 (contourOf t (b - 1) + 1) ≤ contourCount t
-    go zero l = omega arith
-    go (suc b) l = let q : suc b - 1 ≡ b = omega arith in rw (ne-eqb (suc b) 0 (λ z. omega arith), q) (omega (arith, located t s b l .below))
+          u j l ∙ listed (listedAnchor h j) (getD best j 0) (n j l)
+          ∙ answer-same (listedEdge g) (edge t right) (giving mute) (listedAnchor h j) (pointCount t) (edges-same t s next′ of r right)

@@ -1,51 +1,24 @@
--- `nearer` is a strict order of the candidate edges up to their contour; and what `nearest` names counts, and no edge that counts is nearer.
-use Prim.Native.Nat.{ℕ, zero, suc, _+_, _-_, _<_}
+-- What `nearest` names counts, and no edge that counts is nearer; and the search answers a contour of the table, or none.
+use Prim.Native.Nat.{ℕ, zero, suc, _+_, _-_, _<_, _≤_}
 use mathlib.Core.Path.{_≡_, refl, sym, _∙_, subst}
-use mathlib.Core.Bool.{Bool, true, false, _&&_}
+use mathlib.Core.Bool.{Bool, true, false, _&&_, _||_}
 use native.Mathlib.Omega.{arith}
-use native.Mathlib.Nat.{le-refl}
 use native.Mathlib.Numerals.{add-one}
 use native.Mathlib.Decide.{decLe}
-use lib.Dec.{T, eqb, ltb, ltb→lt, lt→ltb}
-use borrow.Author.Tests.{ne-eqb, le-ltb, ltb-false}
-use lib.IntN.{ℤ, pos, _*ℤ_}
-use lib.Signed.{ltZ, leZ, _<ℤ_, _≤ℤ_}
-use Rattle.laws.specs.Test.{pick, is-true, true-is, true≢false, not-true, and-true}
-use Rattle.laws.specs.Order.{lin, sub-pos}
-use Rattle.table.specs.declared.Anchor.{Anchor}
-use Rattle.nearest.specs.declared.Edge.{Edge}
-use Rattle.nearest.specs.Edges.{run, rise, spans, height, liesUnder, winsTie, nearer}
+use lib.Dec.{eqb}
+use borrow.Author.Tests.{ne-eqb}
+use lib.IntN.{pos}
+use lib.Signed.{_<ℤ_}
+use Rattle.laws.specs.Test.{pick, is-true, true-is, true≢false, not-true, and-true, pick-ind}
+use Rattle.table.specs.Table.{Table, pointCount, contourCount, contourOf, next}
+use Rattle.table.specs.Passing.{located}
+use Rattle.table.specs.Sound.{Sound}
+use Rattle.anchor.specs.declared.Anchor.{Anchor}
+use Rattle.edges.specs.declared.Edge.{Edge}
+use Rattle.edges.specs.Edges.{run, spans, liesUnder, nearer}
+use Rattle.edges.specs.Nearer.{nearer-trans, nearer-same, nearer-neither, spans-runs}
+use Rattle.candidates.specs.Candidates.{edge}
 use Rattle.nearest.specs.Search.{kept, offered, keep, nearest, contourUnder}
-use Rattle.nearest.specs.Compare.{lt-yes, le-yes, lower-trans, lowerN-trans, lower-same, lowerN-same, lower-neither, lowerN-neither}
-use Rattle.nearest.specs.Gaps.{rising, falling}
-
--- ---- a strict order of the edges that run to the right
-pub nearer-trans : (a : Anchor) (e f g : Edge) → pos 0 <ℤ run e → pos 0 <ℤ run f → pos 0 <ℤ run g → T (nearer a e f) → T (nearer a f g) → T (nearer a e g)
-unfolding nearer winsTie
-nearer-trans a e f g he hf hg =
-    lower-trans (height a e *ℤ run f) (height a f *ℤ run e) (height a f *ℤ run g) (height a g *ℤ run f) (height a e *ℤ run g) (height a g *ℤ run e) _ _ _
-    (rising (height a e) (run e) (height a f) (run f) (height a g) (run g) he hf hg)
-    (lower-trans (rise f *ℤ run e) (rise e *ℤ run f) (rise g *ℤ run f) (rise f *ℤ run g) (rise g *ℤ run e) (rise e *ℤ run g) _ _ _
-    (falling (rise e) (run e) (rise f) (run f) (rise g) (run g) he hf hg)
-    (lowerN-trans (e .kind) (f .kind) (g .kind) _ _ _
-    (λ p q. lt→ltb (e .contour) (g .contour) (l p q))))
-  where
-    l : T (ltb (e .contour) (f .contour)) → T (ltb (f .contour) (g .contour)) → e .contour < g .contour
-    l p q = omega (arith, ltb→lt (e .contour) (f .contour) p, ltb→lt (f .contour) (g .contour) q)
-
-pub nearer-same : (a : Anchor) (e : Edge) → nearer a e e ≡ false
-unfolding nearer winsTie
-nearer-same a e =
-    lower-same (height a e *ℤ run e) _ ∙ lower-same (rise e *ℤ run e) _ ∙ lowerN-same (e .kind) _ ∙ le-ltb (e .contour) (e .contour) (le-refl (e .contour))
-
--- of two edges neither of which is nearer, both are of one contour
-pub nearer-neither : (a : Anchor) (e f : Edge) → nearer a e f ≡ false → nearer a f e ≡ false → e .contour ≡ f .contour
-unfolding nearer winsTie
-nearer-neither a e f p q =
-    let gap = lower-neither (height a e *ℤ run f) (height a f *ℤ run e) _ _ p q in
-    let slope = lower-neither (rise f *ℤ run e) (rise e *ℤ run f) _ _ (gap .1) (gap .2) in
-    let kind = lowerN-neither (e .kind) (f .kind) _ _ (slope .1) (slope .2) in
-    omega (arith, ltb-false (e .contour) (f .contour) (kind .1), ltb-false (f .contour) (e .contour) (kind .2))
 
 -- ---- the search
 module _ (edge : ℕ → Edge) (gives : ℕ → Bool) (a : Anchor) where
@@ -68,15 +41,6 @@ abbrev pub Best : (ℕ → Edge) → (ℕ → Bool) → Anchor → ℕ → ℕ �
 Best edge gives a n zero = None edge gives a n
 Best edge gives a n (suc b) = Nearest edge gives a n b
 
--- an edge that spans an anchor runs to the right
-pub spans-runs : (x : ℤ) (e : Edge) → spans x e ≡ true → pos 0 <ℤ run e
-spans-runs x e s =
-    let b = and-true (leZ (e .left .x) x) (ltZ x (e .right .x)) s in
-    sub-pos (e .left .x) (e .right .x) (between (le-yes _ _ (b .0)) (lt-yes _ _ (b .1)))
-  where
-    between : e .left .x ≤ℤ x → x <ℤ e .right .x → e .left .x <ℤ e .right .x
-    between p q = omega lin
-
 below-suc : (P : ℕ → Type 0) (i : ℕ) → ((k : ℕ) → k < i → P k) → P i → (k : ℕ) → k < suc i → P k
 below-suc P i h p k l = go (decLe (suc k) i)
   where
@@ -91,17 +55,17 @@ pick-skip true true false w x b e = refl
 pick-skip true false u w x b e = refl
 pick-skip false s u w x b e = refl
 
-pick-won : (g s u w : Bool) (x b : ℕ) → g && (s && u) ≡ true → w ≡ true → x ≡ pick g (pick s (pick (u && w) x b) b) b
-pick-won true true true w x b e f = rw f
-pick-won true true false w x b e f = absurd (true≢false e refl)
-pick-won true false u w x b e f = absurd (true≢false e refl)
-pick-won false s u w x b e f = absurd (true≢false e refl)
+pick-takes : (g s u w : Bool) (x b : ℕ) → g && (s && u) ≡ true → w ≡ true → x ≡ pick g (pick s (pick (u && w) x b) b) b
+pick-takes true true true w x b e f = rw f
+pick-takes true true false w x b e f = absurd (true≢false e refl)
+pick-takes true false u w x b e f = absurd (true≢false e refl)
+pick-takes false s u w x b e f = absurd (true≢false e refl)
 
-pick-lost : (g s u w : Bool) (x b : ℕ) → w ≡ false → b ≡ pick g (pick s (pick (u && w) x b) b) b
-pick-lost true true true w x b f = rw f
-pick-lost true true false w x b f = refl
-pick-lost true false u w x b f = refl
-pick-lost false s u w x b f = refl
+pick-stays : (g s u w : Bool) (x b : ℕ) → w ≡ false → b ≡ pick g (pick s (pick (u && w) x b) b) b
+pick-stays true true true w x b f = rw f
+pick-stays true true false w x b f = refl
+pick-stays true false u w x b f = refl
+pick-stays false s u w x b f = refl
 
 module _ (edge : ℕ → Edge) (gives : ℕ → Bool) (a : Anchor) where
   counts-runs : (k : ℕ) → counts edge gives a k ≡ true → pos 0 <ℤ run (edge k)
@@ -127,8 +91,8 @@ module _ (edge : ℕ → Edge) (gives : ℕ → Bool) (a : Anchor) where
     }
 
     -- it is nearer
-    won : counts edge gives a n ≡ true → (b : ℕ) → nearer a (edge n) (edge b) ≡ true → Nearest edge gives a n b → Nearest edge gives a (suc n) n
-    won c b w r = record {
+    takes-over : counts edge gives a n ≡ true → (b : ℕ) → nearer a (edge n) (edge b) ≡ true → Nearest edge gives a n b → Nearest edge gives a (suc n) n
+    takes-over c b w r = record {
       one = omega arith;
       counted = c;
       least = below-suc (λ k. counts edge gives a k ≡ true → nearer a (edge k) (edge n) ≡ false) n (λ k m t. not-true _ (λ v. farther k m t v)) (λ t. nearer-same a (edge n));
@@ -141,8 +105,8 @@ module _ (edge : ℕ → Edge) (gives : ℕ → Bool) (a : Anchor) where
             (r .least k m t)
 
     -- it is not
-    lost : (b : ℕ) → nearer a (edge n) (edge b) ≡ false → Nearest edge gives a n b → Nearest edge gives a (suc n) b
-    lost b w r = record {
+    stays : (b : ℕ) → nearer a (edge n) (edge b) ≡ false → Nearest edge gives a n b → Nearest edge gives a (suc n) b
+    stays b w r = record {
       one = omega (arith, r .one);
       counted = r .counted;
       least = below-suc (λ k. counts edge gives a k ≡ true → nearer a (edge k) (edge b) ≡ false) n (r .least) (λ t. w);
@@ -155,14 +119,14 @@ module _ (edge : ℕ → Edge) (gives : ℕ → Bool) (a : Anchor) where
         next : (b : ℕ) → counts edge gives a n ≡ true → (w : Bool) → nearer a (edge n) (edge b) ≡ w → Nearest edge gives a n b → Best edge gives a (suc n) (keep edge gives a n (suc b))
         next b c true e r =
             let q : suc b - 1 ≡ b = omega arith in
-            subst (Best edge gives a (suc n)) (sym (add-one n) ∙ pick-won (gives (edge n .contour)) (spans (a .at .x) (edge n)) (liesUnder a (edge n)) _ (n + 1) (suc b) c (rw (ne-eqb (suc b) 0 (λ z. omega arith), q) e)) (won c b e r)
+            subst (Best edge gives a (suc n)) (sym (add-one n) ∙ pick-takes (gives (edge n .contour)) (spans (a .at .x) (edge n)) (liesUnder a (edge n)) _ (n + 1) (suc b) c (rw (ne-eqb (suc b) 0 (λ z. omega arith), q) e)) (takes-over c b e r)
         next b c false e r =
             let q : suc b - 1 ≡ b = omega arith in
-            subst (Best edge gives a (suc n)) (pick-lost (gives (edge n .contour)) (spans (a .at .x) (edge n)) (liesUnder a (edge n)) _ (n + 1) (suc b) (rw (ne-eqb (suc b) 0 (λ z. omega arith), q) e)) (lost b e r)
+            subst (Best edge gives a (suc n)) (pick-stays (gives (edge n .contour)) (spans (a .at .x) (edge n)) (liesUnder a (edge n)) _ (n + 1) (suc b) (rw (ne-eqb (suc b) 0 (λ z. omega arith), q) e)) (stays b e r)
 
         go : (c : Bool) → counts edge gives a n ≡ c → (b : ℕ) → Best edge gives a n b → Best edge gives a (suc n) (keep edge gives a n b)
         go false c b r = subst (Best edge gives a (suc n)) (pick-skip (gives (edge n .contour)) (spans (a .at .x) (edge n)) (liesUnder a (edge n)) _ (n + 1) b c) (skip c b r)
-        go true c zero r = subst (Best edge gives a (suc n)) (sym (add-one n) ∙ pick-won (gives (edge n .contour)) (spans (a .at .x) (edge n)) (liesUnder a (edge n)) _ (n + 1) 0 c refl) (first c r)
+        go true c zero r = subst (Best edge gives a (suc n)) (sym (add-one n) ∙ pick-takes (gives (edge n .contour)) (spans (a .at .x) (edge n)) (liesUnder a (edge n)) _ (n + 1) 0 c refl) (first c r)
         go true c (suc b) r = next b c (nearer a (edge n) (edge b)) refl r
 
   pub best : (n : ℕ) → Best edge gives a n (nearest edge gives a n)
@@ -192,3 +156,23 @@ module _ (edge : ℕ → Edge) (gives : ℕ → Bool) (a : Anchor) where
   pub none-under : (n : ℕ) → None edge gives a n → contourUnder edge gives a n ≡ 0
   unfolding contourUnder
   none-under n s = none-answers n (nearest edge gives a n) (best n) s
+
+-- ---- the nearest of k edges: its number and 1, or 0
+pub nearest-le : (edge : ℕ → Edge) (gives : ℕ → Bool) (a : Anchor) (k : ℕ) → nearest edge gives a k ≤ k
+unfolding nearest keep offered kept
+nearest-le edge gives a zero = omega arith
+nearest-le edge gives a (suc k) =
+    let r = nearest-le edge gives a k in
+    pick-ind (gives (edge k .contour)) (offered edge a k (nearest edge gives a k)) (nearest edge gives a k) (λ (b : ℕ). b ≤ suc k)
+    (λ _. pick-ind (spans (a .at .x) (edge k)) (kept edge a k (nearest edge gives a k)) (nearest edge gives a k) (λ (b : ℕ). b ≤ suc k)
+    (λ _. pick-ind (liesUnder a (edge k) && (eqb (nearest edge gives a k) 0 || nearer a (edge k) (edge (nearest edge gives a k - 1)))) (k + 1) (nearest edge gives a k) (λ (b : ℕ). b ≤ suc k)
+    (λ _. omega arith) (λ _. omega arith)) (λ _. omega arith)) (λ _. omega arith)
+
+-- ---- the search answers a contour of the table, and 1, or 0
+pub under-few : (t : Table) → Sound t → (right : Bool) (gives : ℕ → Bool) (a : Anchor) → contourUnder (edge t right) gives a (pointCount t) ≤ contourCount t
+unfolding contourUnder edge
+under-few t s right gives a = go (nearest (edge t right) gives a (pointCount t)) (nearest-le (edge t right) gives a (pointCount t))
+  where
+    go : (b : ℕ) → b ≤ pointCount t → pick (eqb b 0) 0 (contourOf t (b - 1) + 1) ≤ contourCount t
+    go zero l = omega arith
+    go (suc b) l = let q : suc b - 1 ≡ b = omega arith in rw (ne-eqb (suc b) 0 (λ z. omega arith), q) (omega (arith, located t s b l .below))

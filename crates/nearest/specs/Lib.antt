@@ -1,7 +1,4 @@
 -- The definitions that the contracts cite, then the laws of them.
-pub mod Edges
 pub mod Search
-pub mod Lists
-pub mod Compare
-pub mod Gaps
+pub mod SearchLists
 pub mod Least

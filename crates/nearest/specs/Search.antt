@@ -1,25 +1,13 @@
 -- The search under an anchor: the nearest of the candidate edges that span it and lie under it.
 use Prim.Native.Nat.{ℕ, zero, suc, _+_, _-_}
-use mathlib.Core.Bool.{Bool, not, _&&_, _||_}
+use mathlib.Core.Bool.{Bool, _&&_, _||_}
 use lib.Dec.{eqb}
 use Rattle.laws.specs.Test.{pick}
-use Rattle.turn.specs.declared.Point.{Point}
-use Rattle.table.specs.Table.{Table, point, pointCount, kindOf, contourOf, next}
-use Rattle.nearest.specs.declared.Edge.{Edge}
-use Rattle.table.specs.declared.Anchor.{Anchor}
-use Rattle.nearest.specs.Edges.{spans, liesUnder, nearer}
-
--- "Candidate edges are those with fill above: walked rightward for counterclockwise output, leftward for clockwise." With fill below it is the other way round.
-abbrev pub rightward : Bool → Bool → Bool
-rightward above clockwise = (above && not clockwise) || (not above && clockwise)
-
--- An edge walked from p to q, with its contour's kind and number. It has its ends the way round that makes a candidate run from left to right: one walked the other way has its right end left of its left end, or upright over it, and spans nothing.
-abbrev pub edgeOf : Bool → Point → Point → ℕ → ℕ → Edge
-edgeOf right p q k c = record { left = pick right p q; right = pick right q p; kind = k; contour = c }
-
--- edge k of a table: from point k to the next one round its contour
-unfoldable pub edge : Table → Bool → ℕ → Edge
-edge t right k = let c = contourOf t k in edgeOf right (point t k) (point t (next t c k)) (kindOf t c) c
+use Rattle.table.specs.Table.{Table, pointCount}
+use Rattle.anchor.specs.declared.Anchor.{Anchor}
+use Rattle.edges.specs.declared.Edge.{Edge}
+use Rattle.edges.specs.Edges.{spans, liesUnder, nearer}
+use Rattle.candidates.specs.Candidates.{rightward, edge}
 
 -- ---- what one edge does to the best so far, b: an edge's number and 1, or 0 where there is none
 module _ (edge : ℕ → Edge) (a : Anchor) where
@@ -45,6 +33,7 @@ module _ (edge : ℕ → Edge) (gives : ℕ → Bool) (a : Anchor) where
   unfoldable pub contourUnder : ℕ → ℕ
   contourUnder n = let b = nearest n in pick (eqb b 0) 0 (edge (b - 1) .contour + 1)
 
--- The search under an anchor in a table: the contour, and 1, of the nearest candidate edge, with the fill on the side that is asked for, of the contours that give edges; 0 where there is none.
+-- The search under an anchor in a table: the contour, and 1, of the nearest candidate edge; 0 where there is none.
+-- Candidates have their fill on the side that is asked for, and come from the contours that give edges.
 abbrev pub searchUnder : Table → (above clockwise : Bool) → (ℕ → Bool) → Anchor → ℕ
 searchUnder t above clockwise gives a = contourUnder (edge t (rightward above clockwise)) gives a (pointCount t)

@@ -1,140 +1,17 @@
-// The nearest edge under a point: candidate edges, what lies under an anchor, and the search, driven by edges.
-use table::Anchor;
-use turn::Point;
-use turn::Vector;
+// The search for the nearest edge under each of many anchors, driven by edges.
+use anchor::Anchor;
+use edges::Edge;
 ghost use mathlib.Core.Path.{_≡_};
 ghost use Prim.Native.Nat.{ℕ, _<_, _≤_};
 ghost use lib.ListN.{length, getD};
-ghost use lib.IntN.{natAbs, _*ℤ_};
 ghost use Rattle.turn.specs.Limits.{maxLinks};
-ghost use Rattle.turn.specs.Points.{OnGrid, Short, productBound, span};
-ghost use Rattle.table.specs.Table.{table, nextIn};
+ghost use Rattle.table.specs.Table.{Table, table};
 ghost use Rattle.table.specs.Sound.{Sound};
-ghost use Rattle.nearest.specs.Edges.{height, liesUnder, winsTie, nearer, On, gapBound};
+ghost use Rattle.anchor.specs.Anchors.{Anchors, anchors, listedAnchor};
+ghost use Rattle.edges.specs.Edges.{On};
+ghost use Rattle.candidates.specs.EdgeLists.{EdgeLists, edgeLists, listedEdge, Fit};
 ghost use Rattle.nearest.specs.Search.{kept as kept-of, searchUnder};
-ghost use Rattle.nearest.specs.Lists.{lists, listedEdge, anchors, anchorAt, giving, Fit, Flags, Placed, Sorted, Parted, Numbers, Offered, Nearests, named, Linked, Ranges, ranges, Round};
-
-// An edge from its left end to its right end, with its contour's kind (0 hull, 1 hole) and number.
-pub struct Edge {
-    pub left: Point,
-    pub right: Point,
-    pub kind: u8,
-    pub contour: u32,
-}
-
-// The vertical gap from the edge up to the anchor, times the edge's run.
-fn height_over(a: Anchor, e: Edge) -> i64
-    requires { ⌜ On a e ⌝ }
-    ensures { λ r. ⌜ (r ≡ height a e) × (natAbs r ≤ productBound) ⌝ }
-{
-    turn::turn_of(e.left, e.right, a.at)
-}
-
-// The anchor is strictly above the edge, or on it with its anchor edge strictly counterclockwise of it.
-fn lies_under(a: Anchor, e: Edge) -> bool
-    requires { ⌜ On a e ⌝ }
-    ensures { λ r. ⌜ r ≡ liesUnder a e ⌝ }
-{
-    let h = height_over(a, e);
-    if 0 < h {
-        return true;
-    }
-    if h < 0 {
-        return false;
-    }
-    0 < turn::cross_product(turn::between(e.left, e.right), turn::between(a.at, a.to))
-}
-
-// A height, or a rise, times a run: below 2^61.
-fn scaled(h: i64, run: i64) -> i64
-    requires { ⌜ (natAbs h ≤ productBound) × (natAbs run ≤ span) ⌝ }
-    ensures { λ r. ⌜ (r ≡ h *ℤ run) × (natAbs r ≤ gapBound) ⌝ }
-{
-    h * run
-}
-
-// Of two edges with one gap: the greatest slope, then hulls before holes, then the lower number.
-fn wins_tie(u: Vector, v: Vector, kind: u8, other_kind: u8, contour: u32, other: u32) -> bool
-    requires { ⌜ (Short u) × (Short v) ⌝ }
-    ensures { λ r. ⌜ r ≡ winsTie u v kind «other_kind» contour other ⌝ }
-{
-    let slope = scaled(u.y, v.x);
-    let other_slope = scaled(v.y, u.x);
-    if other_slope < slope {
-        return true;
-    }
-    if slope < other_slope {
-        return false;
-    }
-    (kind < other_kind) | (!(other_kind < kind) & (contour < other))
-}
-
-// e is nearer to the anchor than f: by the gaps as fractions, then as `wins_tie` says.
-fn is_nearer(a: Anchor, e: Edge, f: Edge) -> bool
-    requires { ⌜ (On a e) × (On a f) ⌝ }
-    ensures { λ r. ⌜ r ≡ nearer a e f ⌝ }
-{
-    let u = turn::between(e.left, e.right);
-    let v = turn::between(f.left, f.right);
-    let gap = scaled(height_over(a, e), v.x);
-    let other_gap = scaled(height_over(a, f), u.x);
-    if gap < other_gap {
-        return true;
-    }
-    if other_gap < gap {
-        return false;
-    }
-    wins_tie(u, v, e.kind, f.kind, e.contour, f.contour)
-}
-
-// Edge k, which begins at point k, with its ends the way round that makes a candidate run from left to right.
-fn edge_at(
-    points: &[i32],
-    next: &[u32],
-    of: &[u32],
-    kind: &[u8],
-    right: bool,
-    n: usize,
-    k: usize,
-) -> Edge
-    requires { ⌜ (Fit (lists (now points) (now next) (now of) (now kind) right) n) × (k < n) ⌝ }
-    ensures { λ r. ⌜ (r ≡ listedEdge (lists (now (points .entry)) (now (next .entry)) (now (of .entry)) (now (kind .entry)) right) k) × (OnGrid (r .left)) × (OnGrid (r .right)) ⌝ }
-{
-    let c = of[k];
-    let t = kind[c as usize];
-    let j = next[k] as usize;
-    let p = table::point_at(points, k);
-    let q = table::point_at(points, j);
-    if right {
-        Edge {
-            left: p,
-            right: q,
-            kind: t,
-            contour: c,
-        }
-    } else {
-        Edge {
-            left: q,
-            right: p,
-            kind: t,
-            contour: c,
-        }
-    }
-}
-
-// Anchor j.
-pub fn anchor_at(x: &[i32], y: &[i32], to_x: &[i32], to_y: &[i32], j: usize) -> Anchor
-    requires { ⌜ (j < length (now x)) × (j < length (now y)) × (j < length (now «to_x»)) × (j < length (now «to_y»)) ⌝ }
-    ensures { λ r. ⌜ r ≡ anchorAt (anchors (now (x .entry)) (now (y .entry)) (now («to_x» .entry)) (now («to_y» .entry))) j ⌝ }
-{
-    Anchor {
-        at: Point { x: x[j], y: y[j] },
-        to: Point {
-            x: to_x[j],
-            y: to_y[j],
-        },
-    }
-}
+ghost use Rattle.nearest.specs.SearchLists.{giving, Flags, SortedAnchors, Sorted, Parted, Numbers, Offered, Nearests, named};
 
 // The first of m numbers in order that is not below x.
 fn first_from(l: &[i32], m: usize, x: i32) -> usize
@@ -167,18 +44,24 @@ fn kept(
     k: usize,
     b: u32,
 ) -> u32
-    requires { ⌜ (Fit (lists (now points) (now next) (now of) (now kind) right) n) × (n ≤ maxLinks) ⌝ }
-    requires { ⌜ (k < n) × (b ≤ n) × (e ≡ listedEdge (lists (now points) (now next) (now of) (now kind) right) k) × (On a e) ⌝ }
-    ensures { λ r. ⌜ r ≡ kept-of (listedEdge (lists (now (points .entry)) (now (next .entry)) (now (of .entry)) (now (kind .entry)) right)) a k b ⌝ }
+    requires { ⌜ (Fit (edgeLists (now points) (now next) (now of) (now kind) right) n) × (n ≤ maxLinks) ⌝ }
+    requires { ⌜ (let g : EdgeLists = edgeLists (now points) (now next) (now of) (now kind) right in
+        (k < n) × (b ≤ n) × (e ≡ listedEdge g k) × (On a e)) ⌝ }
+    ensures { λ r. ⌜ (let g : EdgeLists = edgeLists (now (points .entry)) (now (next .entry)) (now (of .entry)) (now (kind .entry)) right in
+        r ≡ kept-of (listedEdge g) a k b) ⌝ }
 {
-    if !lies_under(a, e) {
+    if !edges::lies_under(a, e) {
         return b;
     }
     if b == 0 {
         return k as u32 + 1;
     }
-    let f = edge_at(points, next, of, kind, right, n, (b - 1) as usize);
-    if is_nearer(a, e, f) { k as u32 + 1 } else { b }
+    let f = candidates::listed_edge(points, next, of, kind, right, n, (b - 1) as usize);
+    if edges::is_nearer(a, e, f) {
+        k as u32 + 1
+    } else {
+        b
+    }
 }
 
 // Edge k is offered to every anchor that it spans. They stand together: the anchors are in order by x.
@@ -197,12 +80,14 @@ fn offer(
     best: &mut [u32],
     k: usize,
 )
-    requires { ⌜ (Fit (lists (now points) (now next) (now of) (now kind) right) n) × (n ≤ maxLinks) × (k < n) ⌝ }
-    requires { ⌜ Placed (anchors (now x) (now y) (now «to_x») (now «to_y»)) m ⌝ }
+    requires { ⌜ (Fit (edgeLists (now points) (now next) (now of) (now kind) right) n) × (n ≤ maxLinks) × (k < n) ⌝ }
+    requires { ⌜ SortedAnchors (anchors (now x) (now y) (now «to_x») (now «to_y»)) m ⌝ }
     requires { ⌜ (m ≤ length (now best)) × (Numbers (now best) m n) ⌝ }
-    ensures { λ _. ⌜ Offered (lists (now (points .entry)) (now (next .entry)) (now (of .entry)) (now (kind .entry)) right) (anchors (now (x .entry)) (now (y .entry)) (now («to_x» .entry)) (now («to_y» .entry))) m k (now (best .entry)) (now (best .exit)) ⌝ }
+    ensures { λ _. ⌜ (let g : EdgeLists = edgeLists (now (points .entry)) (now (next .entry)) (now (of .entry)) (now (kind .entry)) right in
+        let h : Anchors = anchors (now (x .entry)) (now (y .entry)) (now («to_x» .entry)) (now («to_y» .entry)) in
+        Offered g h m k (now (best .entry)) (now (best .exit))) ⌝ }
 {
-    let e = edge_at(points, next, of, kind, right, n, k);
+    let e = candidates::listed_edge(points, next, of, kind, right, n, k);
     let start = e.left.x;
     let end = e.right.x;
     if end <= start {
@@ -213,7 +98,7 @@ fn offer(
         if end <= x[j] {
             return;
         }
-        let a = anchor_at(x, y, to_x, to_y, j);
+        let a = anchor::listed_anchor(x, y, to_x, to_y, j);
         let b = best[j];
         best[j] = kept(points, next, of, kind, right, n, a, e, k, b);
         j += 1;
@@ -236,10 +121,13 @@ fn nearest_edges(
     m: usize,
     best: &mut [u32],
 )
-    requires { ⌜ (Fit (lists (now points) (now next) (now of) (now kind) right) n) × (n ≤ maxLinks) × (Flags (now of) (now mute) n) ⌝ }
-    requires { ⌜ Placed (anchors (now x) (now y) (now «to_x») (now «to_y»)) m ⌝ }
+    requires { ⌜ (let g : EdgeLists = edgeLists (now points) (now next) (now of) (now kind) right in
+        (Fit g n) × (n ≤ maxLinks) × (Flags (now of) (now mute) n)) ⌝ }
+    requires { ⌜ SortedAnchors (anchors (now x) (now y) (now «to_x») (now «to_y»)) m ⌝ }
     requires { ⌜ (m ≤ length (now best)) × ((j : ℕ) → j < m → getD (now best) j 0 ≡ 0) ⌝ }
-    ensures { λ _. ⌜ Nearests (lists (now (points .entry)) (now (next .entry)) (now (of .entry)) (now (kind .entry)) right) (now (mute .entry)) n (anchors (now (x .entry)) (now (y .entry)) (now («to_x» .entry)) (now («to_y» .entry))) m (now (best .exit)) ⌝ }
+    ensures { λ _. ⌜ (let g : EdgeLists = edgeLists (now (points .entry)) (now (next .entry)) (now (of .entry)) (now (kind .entry)) right in
+        let h : Anchors = anchors (now (x .entry)) (now (y .entry)) (now («to_x» .entry)) (now («to_y» .entry)) in
+        Nearests g (now (mute .entry)) n h m (now (best .exit))) ⌝ }
 {
     let mut k = 0;
     while k < n {
@@ -290,46 +178,8 @@ fn name_contours(of: &[u32], n: usize, best: &[u32], m: usize, under: &mut [u32]
     }
 }
 
-// The point after point k, round a contour that stands from a position up to another.
-fn follows(k: usize, from: usize, to: usize) -> u32
-    requires { ⌜ (from ≤ k) × (k < to) × (to ≤ maxLinks) ⌝ }
-    ensures { λ r. ⌜ r ≡ nextIn from to k ⌝ }
-{
-    if k + 1 == to {
-        from as u32
-    } else {
-        k as u32 + 1
-    }
-}
-
-// The points from..to are contour c's.
-fn link_contour(next: &mut [u32], of: &mut [u32], c: u32, from: usize, to: usize)
-    requires { ⌜ (from ≤ to) × (to ≤ maxLinks) × (to ≤ length (now next)) × (to ≤ length (now of)) ⌝ }
-    ensures { λ _. ⌜ Linked c from to (now (next .entry)) (now (of .entry)) (now (next .exit)) (now (of .exit)) ⌝ }
-{
-    let mut k = from;
-    while k < to {
-        of[k] = c;
-        next[k] = follows(k, from, to);
-        k += 1;
-    }
-}
-
-// For every point the one after it round its contour, and its contour.
-fn link(first: &[u32], len: &[u32], next: &mut [u32], of: &mut [u32])
-    requires { ⌜ (Ranges (now first) (now len)) × (maxLinks ≤ length (now next)) × (maxLinks ≤ length (now of)) ⌝ }
-    ensures { λ _. ⌜ Round (ranges (now (first .entry)) (now (len .entry))) (length (now (first .entry))) (now (next .exit)) (now (of .exit)) ⌝ }
-{
-    let mut c = 0;
-    while c < first.len() {
-        let from = first[c] as usize;
-        let to = from + len[c] as usize;
-        link_contour(next, of, c as u32, from, to);
-        c += 1;
-    }
-}
-
-// The search: for each of m anchors the contour, and 1, of the nearest edge under it, 0 where there is none. Candidate edges have fill above, or below; the contours that give edges are giving.
+// The search: for each of m anchors the contour, and 1, of the nearest edge under it; 0 where there is none.
+// Candidate edges have fill above, or below, as is asked; edges come from the contours that are not mute.
 pub fn contours_under(
     points: &[i32],
     first: &[u32],
@@ -347,15 +197,17 @@ pub fn contours_under(
 )
     requires { ⌜ Sound (table (now points) (now first) (now len) (now kind)) ⌝ }
     requires { ⌜ (length (now first) ≤ length (now mute)) × (m ≤ maxLinks) × (m ≤ length (now under)) ⌝ }
-    requires { ⌜ Placed (anchors (now x) (now y) (now «to_x») (now «to_y»)) m ⌝ }
-    ensures { λ _. ⌜ ((j : ℕ) → j < m → getD (now (under .exit)) j 0 ≡ searchUnder (table (now (points .entry)) (now (first .entry)) (now (len .entry)) (now (kind .entry))) above clockwise (giving (now (mute .entry))) (anchorAt (anchors (now (x .entry)) (now (y .entry)) (now («to_x» .entry)) (now («to_y» .entry))) j)) ⌝ }
+    requires { ⌜ SortedAnchors (anchors (now x) (now y) (now «to_x») (now «to_y»)) m ⌝ }
+    ensures { λ _. ⌜ (let t : Table = table (now (points .entry)) (now (first .entry)) (now (len .entry)) (now (kind .entry)) in
+        let h : Anchors = anchors (now (x .entry)) (now (y .entry)) (now («to_x» .entry)) (now («to_y» .entry)) in
+        ((j : ℕ) → j < m → getD (now (under .exit)) j 0 ≡ searchUnder t above clockwise (giving (now (mute .entry))) (listedAnchor h j))) ⌝ }
 {
     let n = points.len() / 2;
     let right = (above & !clockwise) | (!above & clockwise);
     let mut next = [0u32; turn::MAX_LINKS];
     let mut of = [0u32; turn::MAX_LINKS];
     let mut best = [0u32; turn::MAX_LINKS];
-    link(first, len, &mut next, &mut of);
+    candidates::list_edges(first, len, &mut next, &mut of);
     nearest_edges(
         points,
         &next,

@@ -1,3 +1,3 @@
--- Laws that several proofs cite.
+-- What the proofs cite beside the laws of specs/.
 mod Places
 mod Answers

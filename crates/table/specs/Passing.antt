@@ -11,23 +11,23 @@ use lib.IntN.{pos}
 use lib.ListN.{length, getD}
 use borrow.Author.Tests.{lt-ltb, le-ltb}
 use Rattle.laws.specs.Lowest.{lowest, some, found}
+use Rattle.laws.specs.Fails.{Iff, then, both, ne-fails, or-fails, some-fails}
 use Rattle.turn.specs.Limits.{maxLinks}
 use Rattle.turn.specs.Points.{differ, Coord, OnGrid, Grid}
 use Rattle.turn.specs.declared.Checked.the-variants.{Fine}
-use Rattle.table.specs.Table.{Table, pointCount, point, contourCount, firstOf, lenOf, endOf, kindOf, contourOf, nextIn, previousIn, next}
+use Rattle.turn.specs.Refusals.{refuses}
+use Rattle.table.specs.Table.{Table, pointCount, point, contourCount, firstOf, lenOf, rangeEnd, kindOf, contourOf, nextIn, previousIn, next}
 use Rattle.table.specs.TableChecks.{misfit, startIn, unended, badContour, tableChecked}
 use Rattle.table.specs.TableLaws.{start-next, next-inside, next-last, previous-first, previous-inside}
-use Rattle.laws.specs.Fails.{Iff, then, both, ne-fails, or-fails, some-fails}
 use Rattle.table.specs.Tests.{fitting, Ranged, Placed, contour-right}
-use Rattle.turn.specs.Refusals.{refuses}
-use Rattle.table.specs.Sound.{Sound, Paired}
+use Rattle.table.specs.Sound.{Sound}
 
 -- ---- where points stand
 -- the point at position p is contour c's
 pub record Located (t : Table) (p c : ℕ) : Type 0 where
   pub below : c < contourCount t
   pub from : firstOf t c ≤ p
-  pub to : p < endOf t c
+  pub to : p < rangeEnd t c
 
 -- ranges that follow each other from 0
 abbrev Follow : Table → Type 0
@@ -44,19 +44,19 @@ module _ (t : Table) (f : Follow t) where
       go (no m) k = k (omega (arith, f n h))
 
   -- a range ends before a later one begins
-  pub apart : (c b : ℕ) → c < contourCount t → b < c → endOf t b ≤ firstOf t c
+  pub apart : (c b : ℕ) → c < contourCount t → b < c → rangeEnd t b ≤ firstOf t c
   apart zero b h l = absurd (not-suc-le-zero l)
   apart (suc c) b h l = go (ℕ-discrete b c) (λ m. apart c b (omega arith) m)
     where
-      go : Dec (b ≡ c) → (b < c → endOf t b ≤ firstOf t c) → endOf t b ≤ firstOf t (suc c)
+      go : Dec (b ≡ c) → (b < c → rangeEnd t b ≤ firstOf t c) → rangeEnd t b ≤ firstOf t (suc c)
       go (yes e) k = rw (e, f (suc c) h) (omega arith)
       go (no n) k = omega (arith, k (omega arith), f (suc c) h)
 
   -- no position is in two ranges
   pub contour-is : (p c : ℕ) → Located t p c → contourOf t p ≡ c
   contour-is p c l =
-      found (λ b. ltb p (endOf t b)) (contourCount t) c (l .below)
-      (λ b m. le-ltb p (endOf t b) (omega (arith, apart c b (l .below) m, l .from))) (lt-ltb p (endOf t c) (l .to))
+      found (λ b. ltb p (rangeEnd t b)) (contourCount t) c (l .below)
+      (λ b m. le-ltb p (rangeEnd t b) (omega (arith, apart c b (l .below) m, l .from))) (lt-ltb p (rangeEnd t c) (l .to))
 
 -- ---- round a contour the position after the one before is the position itself, and the other way
 pub next-previous : (from to p : ℕ) → from ≤ p → p < to → nextIn from to (previousIn from to p) ≡ p
@@ -98,7 +98,7 @@ previous-within from to p h l = go (ℕ-discrete p from)
 abbrev Right : Table → ℕ → Type 0
 Right t c =
     (Ranged (pointCount t) (startIn (t .first) (t .len) c) (firstOf t c) (lenOf t c) (kindOf t c))
-    × ((k : ℕ) → k < lenOf t c → Placed (t .points) (firstOf t c) (endOf t c) (firstOf t c + k))
+    × ((k : ℕ) → k < lenOf t c → Placed (t .points) (firstOf t c) (rangeEnd t c) (firstOf t c + k))
 
 abbrev Fitting : Table → ℕ → Type 0
 Fitting t owners =
@@ -122,10 +122,10 @@ module _ (t : Table) (owners : ℕ) (h : Parts t owners) where
   follow : Follow t
   follow c l = h .1 c l .0 .consecutive
 
-  placed-at : (p c : ℕ) → Located t p c → Placed (t .points) (firstOf t c) (endOf t c) p
+  placed-at : (p c : ℕ) → Located t p c → Placed (t .points) (firstOf t c) (rangeEnd t c) p
   placed-at p c l =
       let e : firstOf t c + (p - firstOf t c) ≡ p = omega (arith, l .from) in
-      subst (λ (q : ℕ). Placed (t .points) (firstOf t c) (endOf t c) q) e (h .1 c (l .below) .1 (p - firstOf t c) (omega (arith, l .from, l .to)))
+      subst (λ (q : ℕ). Placed (t .points) (firstOf t c) (rangeEnd t c) q) e (h .1 c (l .below) .1 (p - firstOf t c) (omega (arith, l .from, l .to)))
 
   on-grid-at : (p : ℕ) → p < pointCount t → OnGrid (point t p)
   on-grid-at p l = go (cover t follow (contourCount t) p (omega arith) (rw (h .0 .1) l))
@@ -154,9 +154,9 @@ module _ (t : Table) (owners : ℕ) (h : Parts t owners) where
     kinds = λ c l. h .1 c l .0 .known;
     grid = gridded;
     neighbours = λ c p l m n.
-        let w = next-within (firstOf t c) (endOf t c) p m n in
+        let w = next-within (firstOf t c) (rangeEnd t c) p m n in
         let q = placed-at (next t c p) c (record { below = l; from = w .0; to = w .1 }) .apart in
-        subst (λ (x : ℕ). differ (point t x) (point t (next t c p)) ≡ true) (previous-next (firstOf t c) (endOf t c) p m n) q;
+        subst (λ (x : ℕ). differ (point t x) (point t (next t c p)) ≡ true) (previous-next (firstOf t c) (rangeEnd t c) p m n) q;
   }
 
 pub sound-follows : (t : Table) → Sound t → Follow t
@@ -181,12 +181,12 @@ module _ (t : Table) (owners : ℕ) (s : Sound t) (r : contourCount t ≤ owners
       at k m =
           (s .grid ((firstOf t c + k) * 2) (omega (arith, s .within c l, s .whole)), s .grid ((firstOf t c + k) * 2 + 1) (omega (arith, s .within c l, s .whole)))
 
-      round : (k : ℕ) → k < lenOf t c → differ (point t (previousIn (firstOf t c) (endOf t c) (firstOf t c + k))) (point t (firstOf t c + k)) ≡ true
+      round : (k : ℕ) → k < lenOf t c → differ (point t (previousIn (firstOf t c) (rangeEnd t c) (firstOf t c + k))) (point t (firstOf t c + k)) ≡ true
       round k m =
           let p = firstOf t c + k in
-          let w = previous-within (firstOf t c) (endOf t c) p (omega arith) (omega arith) in
-          subst (λ (x : ℕ). differ (point t (previousIn (firstOf t c) (endOf t c) p)) (point t x) ≡ true) (next-previous (firstOf t c) (endOf t c) p (omega arith) (omega arith))
-          (s .neighbours c (previousIn (firstOf t c) (endOf t c) p) l (w .0) (w .1))
+          let w = previous-within (firstOf t c) (rangeEnd t c) p (omega arith) (omega arith) in
+          subst (λ (x : ℕ). differ (point t (previousIn (firstOf t c) (rangeEnd t c) p)) (point t x) ≡ true) (next-previous (firstOf t c) (rangeEnd t c) p (omega arith) (omega arith))
+          (s .neighbours c (previousIn (firstOf t c) (rangeEnd t c) p) l (w .0) (w .1))
 
   parts-of : Parts t owners
   parts-of = ((((((s .len-long, s .kind-long), r), s .few), omega (arith, s .whole)), s .ends), right)
@@ -203,9 +203,9 @@ pub few-contours : (t : Table) → Sound t → (n : ℕ) → n ≤ contourCount 
 few-contours t s zero h = omega arith
 few-contours t s (suc n) h = omega (arith, few-contours t s n (omega arith), s .long n h, sound-follows t s n h)
 
--- a contour's points are within the list
-pub ranges-within : (t : Table) → Sound t → (c : ℕ) → c < contourCount t → endOf t c * 2 ≤ length (t .points)
-ranges-within t s c l = omega (arith, s .within c l, s .whole)
+pub contours-few : (t : Table) → Sound t → contourCount t ≤ maxLinks
+contours-few t s = omega (arith, few-contours t s (contourCount t) (omega arith), s .ends, s .few)
 
-pub paired : (t : Table) → Sound t → Paired (t .points) (t .first)
-paired t s c l = omega (arith, ranges-within t s c l, s .long c l)
+-- a contour's points are within the list
+pub ranges-within : (t : Table) → Sound t → (c : ℕ) → c < contourCount t → rangeEnd t c * 2 ≤ length (t .points)
+ranges-within t s c l = omega (arith, s .within c l, s .whole)

@@ -1,16 +1,18 @@
 -- The contour table as it is lent, and what its lists say of a point, of a contour and of the way round it.
-use Prim.Native.Nat.{ℕ, zero, suc, _+_, _*_, _-_, _/_}
+use Prim.Native.Nat.{ℕ, _+_, _*_, _-_, _/_}
 use mathlib.Core.Bool.{Bool}
-use mathlib.Core.List.{List, [], _∷_}
+use mathlib.Core.List.{List}
 use lib.Dec.{eqb, ltb}
 use lib.IntN.{ℤ, pos}
 use lib.ListN.{length, getD, take, drop}
 use Rattle.laws.specs.Test.{pick}
 use Rattle.laws.specs.Lowest.{lowest}
+use Rattle.laws.specs.Count.{count}
 use Rattle.turn.specs.declared.Point.{Point}
 use Rattle.turn.specs.Area.{pointsOf}
 
--- The points of all contours, x and y in turn; at a number c the other lists have contour c's first point, how many points it has, and its kind: 0 a hull, 1 a hole.
+-- The points of all contours, x and y in turn; at a number c the other lists have contour c's first point, how many
+-- points it has, and its kind: 0 a hull, 1 a hole.
 pub record Table : Type 0 where
   pub points : List ℤ
   pub first : List ℕ
@@ -21,16 +23,16 @@ abbrev pub table : List ℤ → List ℕ → List ℕ → List ℕ → Table
 table points first len kind = record { points = points; first = first; len = len; kind = kind }
 
 -- ---- points, by their position in the list
-abbrev pub pointAt : List ℤ → ℕ → Point
-pointAt l p = record { x = getD l (p * 2) (pos 0); y = getD l (p * 2 + 1) (pos 0) }
+abbrev pub pointIn : List ℤ → ℕ → Point
+pointIn l p = record { x = getD l (p * 2) (pos 0); y = getD l (p * 2 + 1) (pos 0) }
 
 abbrev pub pointCount : Table → ℕ
 pointCount t = length (t .points) / 2
 
 abbrev pub point : Table → ℕ → Point
-point t p = pointAt (t .points) p
+point t p = pointIn (t .points) p
 
--- ---- contours, by their number: contour c's points stand from `firstOf t c` up to `endOf t c`
+-- ---- contours, by their number: contour c's points stand from `firstOf t c` up to `rangeEnd t c`
 abbrev pub contourCount : Table → ℕ
 contourCount t = length (t .first)
 
@@ -40,8 +42,8 @@ firstOf t c = getD (t .first) c 0
 abbrev pub lenOf : Table → ℕ → ℕ
 lenOf t c = getD (t .len) c 0
 
-abbrev pub endOf : Table → ℕ → ℕ
-endOf t c = firstOf t c + lenOf t c
+abbrev pub rangeEnd : Table → ℕ → ℕ
+rangeEnd t c = firstOf t c + lenOf t c
 
 abbrev pub kindOf : Table → ℕ → ℕ
 kindOf t c = getD (t .kind) c 0
@@ -52,7 +54,7 @@ contour t c = take (lenOf t c) (drop (firstOf t c) (pointsOf (t .points)))
 
 -- the contour of the point at position p: the lowest that ends after it
 abbrev pub contourOf : Table → ℕ → ℕ
-contourOf t p = lowest (λ c. ltb p (endOf t c)) (contourCount t)
+contourOf t p = lowest (λ c. ltb p (rangeEnd t c)) (contourCount t)
 
 -- ---- round a contour: after the last point comes the first
 abbrev pub nextIn : ℕ → ℕ → ℕ → ℕ
@@ -62,10 +64,10 @@ abbrev pub previousIn : ℕ → ℕ → ℕ → ℕ
 previousIn from to p = pick (eqb p from) (to - 1) (p - 1)
 
 abbrev pub next : Table → ℕ → ℕ → ℕ
-next t c p = nextIn (firstOf t c) (endOf t c) p
+next t c p = nextIn (firstOf t c) (rangeEnd t c) p
 
 abbrev pub previous : Table → ℕ → ℕ → ℕ
-previous t c p = previousIn (firstOf t c) (endOf t c) p
+previous t c p = previousIn (firstOf t c) (rangeEnd t c) p
 
 -- ---- hulls and holes
 abbrev pub isHull : Table → ℕ → Bool
@@ -75,9 +77,8 @@ abbrev pub isHole : Table → ℕ → Bool
 isHole t c = eqb (kindOf t c) 1
 
 -- how many hulls a list of kinds has
-unfoldable pub hulls : List ℕ → ℕ
-hulls [] = 0
-hulls (k ∷ l) = pick (eqb k 0) 1 0 + hulls l
+abbrev pub hulls : List ℕ → ℕ
+hulls kinds = count 0 kinds
 
 abbrev pub hullCount : Table → ℕ
 hullCount t = hulls (t .kind)
@@ -85,11 +86,6 @@ hullCount t = hulls (t .kind)
 -- "its own shape number (hulls counted from 0)": how many hulls stand before contour c
 abbrev pub shapeOf : Table → ℕ → ℕ
 shapeOf t c = hulls (take c (t .kind))
-
--- the last hole before contour c, as its number and 1; 0 where there is none
-unfoldable pub holeBefore : Table → ℕ → ℕ
-holeBefore t zero = 0
-holeBefore t (suc c) = let earlier = holeBefore t c in pick (isHole t c) (suc c) earlier
 
 -- "a dropped hole's [owner is] 65,535"
 abbrev pub droppedOwner : ℕ

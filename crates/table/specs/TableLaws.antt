@@ -1,29 +1,25 @@
--- Laws of the table's definitions: points on the grid, where ranges begin, the way round a contour, anchors, and hulls counted.
+-- Laws of the table's definitions: points on the grid, where ranges begin, and the way round a contour.
 use Prim.Native.Nat.{ℕ, zero, suc, _+_, _*_, _-_, _≤_, _<_}
-use mathlib.Core.Path.{_≡_, refl, sym, ap, ap₂, _∙_, subst}
+use mathlib.Core.Path.{_≡_, refl, sym, subst}
 use mathlib.Core.Bool.{Bool, true, false}
-use mathlib.Core.List.{List, [], _∷_, _++_}
+use mathlib.Core.List.{List}
 use native.Mathlib.Omega.{arith}
 use native.Mathlib.Numerals.{add-one}
-use native.Mathlib.Nat.{zero-add, add-zero, add-assoc, not-suc-le-zero}
-use lib.Dec.{eqb}
+use native.Mathlib.Nat.{not-suc-le-zero}
 use lib.IntN.{ℤ}
-use lib.ListN.{length, getD, take}
-use lib.Seq.{take-suc}
+use lib.ListN.{length, getD}
 use borrow.Author.Tests.{eq-eqb, ne-eqb}
 use Rattle.laws.specs.Test.{pick}
 use Rattle.turn.specs.declared.Point.{Point}
 use Rattle.turn.specs.Points.{OnGrid, Grid}
-use Rattle.table.specs.declared.Anchor.{Anchor}
-use Rattle.table.specs.Table.{pointAt, nextIn, previousIn, hulls}
+use Rattle.table.specs.Table.{pointIn, nextIn, previousIn}
 use Rattle.table.specs.TableChecks.{startIn}
-use Rattle.table.specs.Anchor.{anchorIn, anchorAt, lowerEnd, anchorEdgeIn}
 
 -- ---- points
-pub grid-point : (points : List ℤ) (p : ℕ) → Grid points → p * 2 + 1 < length points → OnGrid (pointAt points p)
+pub grid-point : (points : List ℤ) (p : ℕ) → Grid points → p * 2 + 1 < length points → OnGrid (pointIn points p)
 grid-point points p g h = (g (p * 2) (omega arith), g (p * 2 + 1) h)
 
-pub grid-read : (points : List ℤ) (p : ℕ) (q : Point) → q ≡ pointAt points p → Grid points → p * 2 + 1 < length points → OnGrid q
+pub grid-read : (points : List ℤ) (p : ℕ) (q : Point) → q ≡ pointIn points p → Grid points → p * 2 + 1 < length points → OnGrid q
 grid-read points p q e g h = subst (λ (x : Point). OnGrid x) (sym e) (grid-point points p g h)
 
 -- ---- where ranges begin
@@ -47,57 +43,7 @@ previous-first from to = rw (eq-eqb from from refl)
 pub previous-inside : (from to p : ℕ) → from < p → previousIn from to p ≡ p - 1
 previous-inside from to p h = let n : p ≡ from → ⊥ = λ q. omega arith in rw (ne-eqb p from n)
 
--- ---- anchors
-pub anchor-low : (from : ℕ) (cw : Bool) → from ≤ anchorIn from cw
-anchor-low from true = omega arith
-anchor-low from false = omega arith
-
-pub anchor-high : (from : ℕ) (cw : Bool) → anchorIn from cw ≤ from + 1
-anchor-high from true = omega arith
-anchor-high from false = omega arith
-
--- what stands on both sides of the anchor, in a contour of three points or more
-pub after-anchor : (from len : ℕ) (cw : Bool) → 3 ≤ len → nextIn from (from + len) (anchorIn from cw) ≡ anchorIn from cw + 1
-after-anchor from len cw h = next-inside from (from + len) (anchorIn from cw) (omega (arith, anchor-high from cw))
-
-pub before-anchor : (from len : ℕ) (cw : Bool) → previousIn from (from + len) (anchorIn from cw) ≡ pick cw from (from + len - 1)
-before-anchor from len true = previous-inside from (from + len) (from + 1) (omega arith) ∙ l from
-  where
-    l : (from : ℕ) → from + 1 - 1 ≡ from
-    l from = omega arith
-before-anchor from len false = ap (previousIn from (from + len)) (add-zero from) ∙ previous-first from (from + len)
-
-pub before-anchor-within : (from len : ℕ) (cw : Bool) → 3 ≤ len → previousIn from (from + len) (anchorIn from cw) < from + len
-before-anchor-within from len true h = rw (before-anchor from len true) (omega arith)
-before-anchor-within from len false h = rw (before-anchor from len false) (omega arith)
-
--- the anchor edge from its parts
-module _ (points : List ℤ) (from len : ℕ) (cw : Bool) (h : 3 ≤ len) (at n p to : Point) (a : at ≡ anchorAt points from cw)
-    (i : n ≡ pointAt points (anchorIn from cw + 1)) (j : p ≡ pointAt points (previousIn from (from + len) (anchorIn from cw))) (e : to ≡ lowerEnd at n p) where
-  to-is : to ≡ anchorEdgeIn points from (from + len) cw .to
-  to-is =
-      e ∙ ap (λ (x : Point). lowerEnd x n p) a
-      ∙ ap₂ (lowerEnd (anchorAt points from cw)) (i ∙ ap (pointAt points) (sym (after-anchor from len cw h))) j
-
-  pub edge-is : _≡_ {A = Anchor} (record { at = at; to = to }) (anchorEdgeIn points from (from + len) cw)
-  edge-is = λ k. record { at = a k; to = to-is k }
-
--- ---- hulls
-hulls-append : (s t : List ℕ) → hulls (s ++ t) ≡ hulls s + hulls t
-unfolding hulls
-hulls-append [] t = sym (zero-add _)
-hulls-append (k ∷ s) t = simp (hulls-append s t, add-assoc)
-
--- one contour more
-pub hulls-more : (l : List ℕ) (k : ℕ) → k < length l → hulls (take (k + 1) l) ≡ hulls (take k l) + pick (eqb (getD l k 0) 0) 1 0
-unfolding hulls
-hulls-more l k h = simp (add-one, take-suc l k 0 h, hulls-append, add-zero)
-
-pub no-hulls : (l : List ℕ) → hulls (take 0 l) ≡ 0
-unfolding hulls
-no-hulls [] = refl
-no-hulls (k ∷ l) = refl
-
+-- ---- one hull more, or none
 pub bit-small : (b : Bool) → pick b 1 0 ≤ 1
 bit-small true = omega arith
 bit-small false = omega arith

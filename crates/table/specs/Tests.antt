@@ -1,20 +1,15 @@
 -- What each test of check 10 says, both ways: it fails exactly where the plain fact holds.
 use Prim.Native.Nat.{ℕ, _+_, _/_, _%_, _≤_, _<_}
-use native.Mathlib.Omega.{arith}
-use mathlib.Core.Path.{_≡_, refl}
-use mathlib.Core.Bool.{Bool, true, false, not}
+use mathlib.Core.Path.{_≡_}
+use mathlib.Core.Bool.{true}
 use mathlib.Core.List.{List}
 use lib.IntN.{ℤ}
 use lib.ListN.{length}
-use Rattle.laws.specs.Test.{pick, true≢false}
-use Rattle.laws.specs.Fails.{Iff, Fails, then, lt-fails, ne-fails, not-fails, or-fails, some-fails}
-use Rattle.turn.specs.declared.Point.{Point}
+use Rattle.laws.specs.Fails.{Fails, then, lt-fails, ne-fails, not-fails, or-fails, some-fails}
 use Rattle.turn.specs.Limits.{maxLinks}
 use Rattle.turn.specs.PointOrder.{on-grid}
 use Rattle.turn.specs.Points.{differ, OnGrid}
-use Rattle.turn.specs.declared.Checked.{Checked}
-use Rattle.turn.specs.declared.Checked.the-variants.{Fine, Refused}
-use Rattle.table.specs.Table.{pointAt, previousIn}
+use Rattle.table.specs.Table.{pointIn, previousIn}
 use Rattle.table.specs.TableChecks.{misfit, rangeFault, pointFault, somePointFault, contourFault}
 
 -- ---- the parts of check 10
@@ -38,12 +33,12 @@ ranged count start first len kind =
 
 -- a point of a contour is on the grid and not the one before it
 pub record Placed (points : List ℤ) (from to p : ℕ) : Type 0 where
-  pub grid : OnGrid (pointAt points p)
-  pub apart : differ (pointAt points (previousIn from to p)) (pointAt points p) ≡ true
+  pub grid : OnGrid (pointIn points p)
+  pub apart : differ (pointIn points (previousIn from to p)) (pointIn points p) ≡ true
 
 placed : (points : List ℤ) (from to p : ℕ) → Fails (pointFault points from to p) (Placed points from to p)
 placed points from to p =
-    then (or-fails (on-grid (pointAt points p)) (not-fails _))
+    then (or-fails (on-grid (pointIn points p)) (not-fails _))
     (record { to = λ h. record { grid = h .0; apart = h .1 }; from = λ h. (h .grid, h .apart) })
 
 pub all-placed : (points : List ℤ) (from len : ℕ) → Fails (somePointFault points from len) ((k : ℕ) → k < len → Placed points from (from + len) (from + k))

@@ -1,10 +1,10 @@
 -- `bind_in`: the owners that were found, or nothing written.
 use native.Mathlib.Omega.{arith}
 use mathlib.Core.Path.{sym, _∙_}
-use Rattle.table.specs.Table.{Table, table}
-use Rattle.nearest.proofs.Same.{contours-few}
-use Rattle.bind.proofs.Whole.{deliver-stuck, deliver-all}
 use borrow.Author.Needs.{needs}
+use Rattle.table.specs.Table.{Table, table}
+use Rattle.table.specs.Passing.{contours-few}
+use Rattle.bind.proofs.Whole.{deliver-stuck, deliver-all}
 use Rattle.bind.proofs.bind_in.Statement.{statement}
 use Rattle.bind.proofs.bind_in.Tie as tie
 

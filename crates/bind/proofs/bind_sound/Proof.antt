@@ -1,10 +1,10 @@
 -- `bind_sound`: no hull, one hull, and the search with its two ways out.
 use native.Mathlib.Omega.{arith}
 use mathlib.Core.Path.{_∙_}
-use Rattle.table.specs.Table.{Table, table}
-use Rattle.nearest.proofs.Same.{contours-few}
-use Rattle.bind.proofs.Whole.{hull-count, bound-none, bound-one, bound-all, bound-stuck}
 use borrow.Author.Needs.{needs}
+use Rattle.table.specs.Table.{Table, table}
+use Rattle.table.specs.Passing.{contours-few}
+use Rattle.bind.proofs.Whole.{hull-count, bound-none, bound-one, bound-all, bound-stuck}
 use Rattle.bind.proofs.bind_sound.Statement.{statement}
 use Rattle.bind.proofs.bind_sound.Tie as tie
 

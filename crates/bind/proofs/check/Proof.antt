@@ -1,9 +1,9 @@
 -- `check`: check 11 is asked of tables that check 10 has passed.
 use mathlib.Core.Path.{sym, _∙_}
+use borrow.Author.Needs.{needs}
 use Rattle.table.specs.Table.{Table, table}
 use Rattle.table.specs.Passing.{passes-sound}
 use Rattle.bind.proofs.Whole.{both-fine, both-at}
-use borrow.Author.Needs.{needs}
 use Rattle.bind.proofs.check.Statement.{statement}
 use Rattle.bind.proofs.check.Tie as tie
 

@@ -3,11 +3,13 @@ use native.Mathlib.Omega.{arith}
 use Prim.Native.Nat.{ℕ}
 use lib.ListN.{getD-replicate}
 use mathlib.Core.Bool.{Bool}
-use Rattle.table.specs.Table.{Table, table}
-use Rattle.nearest.specs.Search.{rightward}
-use Rattle.nearest.specs.Lists.{Anchors, anchors}
-use Rattle.nearest.proofs.Same.{ranges-of, fit, flags, of-few, best-numbers, searched}
 use borrow.Author.Needs.{needs}
+use Rattle.turn.specs.Limits.{maxLinks}
+use Rattle.table.specs.Table.{Table, table}
+use Rattle.anchor.specs.Anchors.{Anchors, anchors}
+use Rattle.candidates.specs.Candidates.{rightward}
+use Rattle.candidates.specs.EdgeListLaws.{ranges-of, fit, of-few}
+use Rattle.nearest.proofs.Same.{flags, best-numbers, searched}
 use Rattle.nearest.proofs.contours_under.Statement.{statement}
 use Rattle.nearest.proofs.contours_under.Tie as tie
 
@@ -20,14 +22,14 @@ h s = anchors (s .args .x .now) (s .args .y .now) (s .args .to-x .now) (s .args 
 abbrev right : tie.Start → Bool
 right s = rightward (s .args .above) (s .args .clockwise)
 
-slice-aggregate-link : tie.Need-slice-aggregate-link
-slice-aggregate-link c = search needs
+slice-aggregate-list-edges : tie.Need-slice-aggregate-list-edges
+slice-aggregate-list-edges c = search needs
 
-slice-aggregate-link-2 : tie.Need-slice-aggregate-link-2
-slice-aggregate-link-2 c = search needs
+slice-aggregate-list-edges-2 : tie.Need-slice-aggregate-list-edges-2
+slice-aggregate-list-edges-2 c = search needs
 
-link-requires : tie.Need-link-requires
-link-requires c κs = let s = c .before .before .before .before .before .before .before in (ranges-of (t s) (s .pre .0), omega arith, omega arith)
+list-edges-requires : tie.Need-list-edges-requires
+list-edges-requires c κs = let s = c .before .before .before .before .before .before .before in (ranges-of (t s) (s .pre .0), omega arith, omega arith)
 
 slice-aggregate-nearest-edges : tie.Need-slice-aggregate-nearest-edges
 slice-aggregate-nearest-edges c = search needs
@@ -40,13 +42,13 @@ slice-aggregate-nearest-edges-3 c = search needs
 
 nearest-edges-requires : tie.Need-nearest-edges-requires
 nearest-edges-requires c κs =
-    let s = c .before .before .before .before .before .before .before .before .before .before .before .before .before in let l = c .before .before .before .before .before .link in let p = s .pre .1 in (
+    let s = c .before .before .before .before .before .before .before .before .before .before .before .before .before in let l = c .before .before .before .before .before .list-edges in let p = s .pre .1 in (
       (
         fit (t s) (s .pre .0) (l .last .1 .1 .0) (l .last .1 .1 .1 .0) (l .ensures) (right s) (omega (arith, l .kept .1 .1 .0)) (omega (arith, l .kept .1 .1 .1 .0)),
         s .pre .0 .few,
         flags (t s) (s .pre .0) (l .last .1 .1 .0) (l .last .1 .1 .1 .0) (l .ensures) (s .args .mute .now) (p .0 .0),
       ),
-      (p .1, (p .0 .1, λ j h. getD-replicate {A = ℕ} 4096 j 0 0 (omega (arith, p .0 .1)))),
+      (p .1, (p .0 .1, λ j h. getD-replicate {A = ℕ} maxLinks j 0 0 (omega (arith, p .0 .1)))),
     )
 
 slice-aggregate-name-contours : tie.Need-slice-aggregate-name-contours
@@ -57,7 +59,7 @@ slice-aggregate-name-contours-2 c = search needs
 
 name-contours-requires : tie.Need-name-contours-requires
 name-contours-requires c κs =
-    let s = c .before .before .before .before .before .before .before .before .before .before .before .before .before .before .before .before .before .before in let l = c .before .before .before .before .before .before .before .before .before .before .link in let e = c .before .before .before .before .nearest-edges in let p = s .pre .1 in (
+    let s = c .before .before .before .before .before .before .before .before .before .before .before .before .before .before .before .before .before .before in let l = c .before .before .before .before .before .before .before .before .before .before .list-edges in let e = c .before .before .before .before .nearest-edges in let p = s .pre .1 in (
       (omega (arith, l .kept .1 .1 .1 .0, s .pre .0 .few), of-few (t s) (s .pre .0) (l .last .1 .1 .0) (l .last .1 .1 .1 .0) (l .ensures)),
       (omega (arith, e .kept .1 .1 .1 .1 .1 .1 .1 .1 .1 .1 .1 .1 .0, p .0 .1), p .0 .2, best-numbers (t s) (s .pre .0) (l .last .1 .1 .0) (l .last .1 .1 .1 .0) (l .ensures) (right s) (s .args .mute .now) (h s) (s .args .m) (e .last .1 .1 .1 .1 .1 .1 .1 .1 .1 .1 .1 .1 .0) (e .ensures)),
     )
@@ -67,16 +69,16 @@ same-length c = search needs
 
 returns : tie.Need-returns
 returns c =
-    let s = c .before .before .before .before .before .before .before .before .before .before .before .before .before .before .before .before .before .before .before .before .before in let l = c .before .before .before .before .before .before .before .before .before .before .before .before .before .link in let e = c .before .before .before .before .before .before .before .nearest-edges in let u = c .before .before .name-contours in
+    let s = c .before .before .before .before .before .before .before .before .before .before .before .before .before .before .before .before .before .before .before .before .before in let l = c .before .before .before .before .before .before .before .before .before .before .before .before .before .list-edges in let e = c .before .before .before .before .before .before .before .nearest-edges in let u = c .before .before .name-contours in
     searched (t s) (s .pre .0) (l .last .1 .1 .0) (l .last .1 .1 .1 .0) (l .ensures) (right s) (s .args .mute .now) (h s) (s .args .m) (e .last .1 .1 .1 .1 .1 .1 .1 .1 .1 .1 .1 .1 .0) (e .ensures) (u .last .1 .1 .1 .1 .0) (u .ensures)
 
 pub contours-under-spec : {M : Type 1} → statement M
 contours-under-spec =
     tie.close
     (tie.spec
-    slice-aggregate-link
-    slice-aggregate-link-2
-    link-requires
+    slice-aggregate-list-edges
+    slice-aggregate-list-edges-2
+    list-edges-requires
     slice-aggregate-nearest-edges
     slice-aggregate-nearest-edges-2
     slice-aggregate-nearest-edges-3

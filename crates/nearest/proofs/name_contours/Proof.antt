@@ -2,11 +2,10 @@
 use native.Mathlib.Omega.{arith}
 use mathlib.Core.Path.{_≡_, refl}
 use Prim.Native.Nat.{ℕ, _-_, _≤_, _<_}
-use lib.ListN.{length, getD}
-use lib.ListN.{length-set}
+use lib.ListN.{length, getD, length-set}
 use borrow.Author.Count.{below-none}
-use Rattle.nearest.specs.Lists.{named}
-use Rattle.nearest.proofs.Put.{put-below}
+use Rattle.laws.specs.Lists.{put-below}
+use Rattle.nearest.specs.SearchLists.{named}
 use Rattle.nearest.proofs.name_contours.Statement.{statement}
 use Rattle.nearest.proofs.name_contours.Tie as tie
 

@@ -1,13 +1,14 @@
 -- `nearest_edges`: edge by edge, as `Rounds` says.
 use native.Mathlib.Omega.{arith}
 use Prim.Native.Nat.{_-_}
-use Rattle.nearest.specs.Lists.{lists, anchors}
+use Rattle.anchor.specs.Anchors.{anchors}
+use Rattle.candidates.specs.EdgeLists.{edgeLists}
 use Rattle.nearest.proofs.Offers.{Rounds, rounds-start, rounds-numbers, rounds-mute, rounds-again, rounds-end}
 use Rattle.nearest.proofs.nearest_edges.Statement.{statement}
 use Rattle.nearest.proofs.nearest_edges.Tie as tie
 
 abbrev Inv-loop : tie.InvT-loop
-Inv-loop points next of kind right n mute x y to-x to-y m best₀ k₀ best k = Rounds (lists points next of kind right) mute n (anchors x y to-x to-y) m best₀ best k
+Inv-loop points next of kind right n mute x y to-x to-y m best₀ k₀ best k = Rounds (edgeLists points next of kind right) mute n (anchors x y to-x to-y) m best₀ best k
 
 abbrev μ-loop : tie.MeasureT-loop
 μ-loop points next of kind right n mute x y to-x to-y m best₀ k₀ best k = n - k

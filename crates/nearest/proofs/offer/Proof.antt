@@ -2,28 +2,29 @@
 use native.Mathlib.Omega.{arith}
 use Prim.Native.Nat.{_-_}
 use lib.ListN.{getD}
-use Rattle.nearest.specs.Lists.{Lists, lists, Anchors, anchors}
+use Rattle.anchor.specs.Anchors.{Anchors, anchors}
+use Rattle.candidates.specs.EdgeLists.{EdgeLists, edgeLists}
 use Rattle.nearest.proofs.Offers.{Offering, Held, held, kept-at, offer-back, offer-start, offer-past, offer-more, offer-end}
 use Rattle.nearest.proofs.offer.Statement.{statement}
 use Rattle.nearest.proofs.offer.Tie as tie
 
 abbrev Inv-loop : tie.InvT-loop
-Inv-loop points next of kind right n x y to-x to-y m best₀ k e start end j₀ best j = Offering (lists points next of kind right) (anchors x y to-x to-y) k best₀ best j₀ j
+Inv-loop points next of kind right n x y to-x to-y m best₀ k e start end j₀ best j = Offering (edgeLists points next of kind right) (anchors x y to-x to-y) k best₀ best j₀ j
 
 abbrev μ-loop : tie.MeasureT-loop
 μ-loop points next of kind right n x y to-x to-y m best₀ k e start end j₀ best j = m - j
 
-abbrev g : tie.Start Inv-loop μ-loop → Lists
-g s = lists (s .args .points .now) (s .args .next .now) (s .args .of .now) (s .args .kind .now) (s .args .right)
+abbrev g : tie.Start Inv-loop μ-loop → EdgeLists
+g s = edgeLists (s .args .points .now) (s .args .next .now) (s .args .of .now) (s .args .kind .now) (s .args .right)
 
 abbrev h : tie.Start Inv-loop μ-loop → Anchors
 h s = anchors (s .args .x .now) (s .args .y .now) (s .args .to-x .now) (s .args .to-y .now)
 
-held-at : (c : tie.After-edge-at Inv-loop μ-loop) → Held (g (c .before .before .before .before .before)) (c .before .before .before .before .before .args .k) (c .edge-at .result)
-held-at c = let e = c .edge-at .ensures in held _ _ _ (e .0) (e .1) (e .2)
+held-at : (c : tie.After-listed-edge Inv-loop μ-loop) → Held (g (c .before .before .before .before .before)) (c .before .before .before .before .before .args .k) (c .listed-edge .result)
+held-at c = let e = c .listed-edge .ensures in held _ _ _ (e .0) (e .1) (e .2)
 
-edge-at-requires : tie.Need-edge-at-requires Inv-loop μ-loop
-edge-at-requires c κs = let s = c .before .before .before .before in (s .pre .0 .0, s .pre .0 .2)
+listed-edge-requires : tie.Need-listed-edge-requires Inv-loop μ-loop
+listed-edge-requires c κs = let s = c .before .before .before .before in (s .pre .0 .0, s .pre .0 .2)
 
 returns : tie.Need-returns Inv-loop μ-loop
 returns c = let s = c .before .before .before .before .before .before .before .before in offer-back (g s) (h s) _ _ _ (held-at (c .before .before .before)) (c .if1 .taken) (s .args .best .now)
@@ -46,8 +47,8 @@ same-length c = c .before .before .before .loop .inv .len
 returns-2 : tie.Need-returns-2 Inv-loop μ-loop
 returns-2 c = let s = c .before .before .before .before .before .before .before .before .before .before .before .before .before in offer-past (g s) (h s) _ _ _ _ (s .pre .1 .0) (held-at (c .before .before .before .before .before .before .before .before)) (c .before .before .before .before .first-from .ensures) _ _ _ (c .before .before .before .loop .inv) (c .if2 .taken) (c .before .if22 .given)
 
-anchor-at-requires : tie.Need-anchor-at-requires Inv-loop μ-loop
-anchor-at-requires c κs = let s = c .before .before .before .before .before .before .before .before .before .before .before .before .before in let p = s .pre .1 .0 in (omega (arith, p .x-room), omega (arith, p .y-room), omega (arith, p .to-x-room), omega (arith, p .to-y-room))
+listed-anchor-requires : tie.Need-listed-anchor-requires Inv-loop μ-loop
+listed-anchor-requires c κs = let s = c .before .before .before .before .before .before .before .before .before .before .before .before .before in let p = s .pre .1 .0 in (omega (arith, p .x-room), omega (arith, p .y-room), omega (arith, p .to-x-room), omega (arith, p .to-y-room))
 
 mul-b : tie.Need-mul-b Inv-loop μ-loop
 mul-b c = let s = c .before .before .before .before .before .before .before .before .before .before .before .before .before .before in omega (arith, s .good, s .pre .1 .0 .x-room)
@@ -57,8 +58,8 @@ slice-read-b c = let s = c .before .before .before .before .before .before .befo
 
 kept-requires : tie.Need-kept-requires Inv-loop μ-loop
 kept-requires c κs =
-    let s = c .before .before .before .before .before .before .before .before .before .before .before .before .before .before .before in let l = c .before .before .before .before .before .loop in let t = c .before .before .before .before .loop-test .taken in let p = s .pre .1 .0 in let e = c .before .before .before .before .before .before .before .before .before .before .edge-at in
-    ((s .pre .0 .0, s .pre .0 .1), (s .pre .0 .2, rw (l .inv .rest (l .j) (omega arith)) (s .pre .1 .1 .1 (l .j) t), e .ensures .0, rw (c .before .anchor-at .ensures) (p .at (l .j) t, p .to (l .j) t, e .ensures .1, e .ensures .2)))
+    let s = c .before .before .before .before .before .before .before .before .before .before .before .before .before .before .before in let l = c .before .before .before .before .before .loop in let t = c .before .before .before .before .loop-test .taken in let p = s .pre .1 .0 in let e = c .before .before .before .before .before .before .before .before .before .before .listed-edge in
+    ((s .pre .0 .0, s .pre .0 .1), (s .pre .0 .2, rw (l .inv .rest (l .j) (omega arith)) (s .pre .1 .1 .1 (l .j) t), e .ensures .0, rw (c .before .listed-anchor .ensures) (p .at (l .j) t, p .to (l .j) t, e .ensures .1, e .ensures .2)))
 
 mul-best : tie.Need-mul-best Inv-loop μ-loop
 mul-best c = let s = c .before .before .before .before .before .before .before .before .before .before .before .before .before .before .before .before in omega (arith, s .good, s .pre .1 .0 .x-room)
@@ -76,7 +77,7 @@ loop-again : tie.Need-loop-again Inv-loop μ-loop
 loop-again c =
     let s = c .before .before .before .before .before .before .before .before .before .before .before .before .before .before .before .before in let l = c .before .before .before .before .before .before .loop in
     offer-more (g s) (h s) _ _ _ _ (s .pre .1 .0) (held-at (c .before .before .before .before .before .before .before .before .before .before .before)) (c .before .before .before .before .before .before .before .first-from .ensures) _ _ _ (l .inv) (c .kept .result) (c .before .before .before .before .before .loop-test .taken) (s .pre .1 .1 .0) (c .before .before .before .if2 .left) (c .before .before .before .before .if22 .given)
-    (kept-at (g s) (h s) _ (l .j) (c .before .before .anchor-at .result) _ (getD (l .best) (l .j) 0) (c .before .before .anchor-at .ensures) (c .kept .ensures))
+    (kept-at (g s) (h s) _ (l .j) (c .before .before .listed-anchor .result) _ (getD (l .best) (l .j) 0) (c .before .before .listed-anchor .ensures) (c .kept .ensures))
 
 same-length-2 : tie.Need-same-length-2 Inv-loop μ-loop
 same-length-2 c = c .before .loop .inv .len
@@ -90,7 +91,7 @@ offer-spec =
     (tie.spec
     Inv-loop
     μ-loop
-    edge-at-requires
+    listed-edge-requires
     returns
     first-from-requires
     loop-holds
@@ -98,7 +99,7 @@ offer-spec =
     shared-slice-copy-out-if2
     same-length
     returns-2
-    anchor-at-requires
+    listed-anchor-requires
     mul-b
     slice-read-b
     kept-requires

@@ -3,10 +3,10 @@ use mathlib.Core.Path.{_≡_, sym, _∙_}
 use denote.Ref.{now}
 use mathlib.Core.Bool.{false}
 use lib.ListN.{length}
+use borrow.Author.Needs.{needs}
 use Rattle.table.specs.Table.{table}
 use Rattle.table.specs.Tests.{fitting}
 use Rattle.table.proofs.Answers.{fit, table-misfit, table-unended, table-bad, table-fine}
-use borrow.Author.Needs.{needs}
 use Rattle.table.proofs.check_table.Statement.{statement}
 use Rattle.table.proofs.check_table.Tie as tie
 

@@ -4,9 +4,9 @@ use native.Mathlib.Omega.{arith}
 use Prim.Native.Nat.{_/_}
 use lib.ListN.{length}
 use denote.Ref.{now}
+use borrow.Author.Needs.{needs}
 use Rattle.table.specs.Tests.{Ranged, ranged}
 use Rattle.table.proofs.Places.{true-or, or-rest}
-use borrow.Author.Needs.{needs}
 use Rattle.table.proofs.contour_fault.Statement.{statement}
 use Rattle.table.proofs.contour_fault.Tie as tie
 

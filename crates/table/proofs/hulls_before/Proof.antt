@@ -5,8 +5,9 @@ use native.Mathlib.Omega.{arith}
 use lib.Dec.{eqb}
 use lib.ListN.{getD, take}
 use Rattle.laws.specs.Test.{pick}
+use Rattle.laws.specs.Count.{count-none, count-more}
 use Rattle.table.specs.Table.{hulls}
-use Rattle.table.specs.TableLaws.{hulls-more, bit-small, no-hulls}
+use Rattle.table.specs.TableLaws.{bit-small}
 use Rattle.table.proofs.hulls_before.Statement.{statement}
 use Rattle.table.proofs.hulls_before.Tie as tie
 
@@ -17,7 +18,7 @@ abbrev μ-loop : tie.MeasureT-loop
 μ-loop kind n count₀ c₀ count c = n - c
 
 loop-holds : tie.Need-loop-holds Inv-loop μ-loop
-loop-holds c = (omega arith, omega arith, sym (no-hulls (c .before .args .kind .now)))
+loop-holds c = (omega arith, omega arith, sym (count-none 0 (c .before .args .kind .now)))
 
 shared-slice-read-one-more-if-hull : tie.Need-shared-slice-read-one-more-if-hull Inv-loop μ-loop
 shared-slice-read-one-more-if-hull c = omega arith
@@ -36,7 +37,7 @@ loop-again c =
     let l = c .before .before .before .loop in
     let s = c .before .before .before .before .before .args in
     let e = c .one-more-if-hull .ensures in
-    (omega arith, omega (arith, bit-small (eqb (getD (s .kind .now) (l .c) 0) 0)), e ∙ ap (λ x. x + pick (eqb (getD (s .kind .now) (l .c) 0) 0) 1 0) (l .inv .2) ∙ sym (hulls-more (s .kind .now) (l .c) (omega arith)))
+    (omega arith, omega (arith, bit-small (eqb (getD (s .kind .now) (l .c) 0) 0)), e ∙ ap (λ x. x + pick (eqb (getD (s .kind .now) (l .c) 0) 0) 1 0) (l .inv .2) ∙ sym (count-more 0 (s .kind .now) (l .c) (omega arith)))
 
 returns : tie.Need-returns Inv-loop μ-loop
 returns c =

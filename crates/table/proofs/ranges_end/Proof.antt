@@ -3,8 +3,8 @@ use mathlib.Core.Path.{sym, _∙_}
 use native.Mathlib.Omega.{arith}
 use denote.Ref.{now}
 use lib.ListN.{length}
-use Rattle.table.specs.TableLaws.{start-last}
 use borrow.Author.Needs.{needs}
+use Rattle.table.specs.TableLaws.{start-last}
 use Rattle.table.proofs.ranges_end.Statement.{statement}
 use Rattle.table.proofs.ranges_end.Tie as tie
 

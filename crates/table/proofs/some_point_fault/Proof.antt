@@ -7,37 +7,37 @@ use borrow.Author.Needs.{needs}
 use borrow.Author.Count.{below-none, below-more}
 use denote.Ref.{now}
 use Rattle.laws.specs.Lowest.{None, some-yes, some-no}
-use Rattle.table.specs.Table.{pointAt, previousIn}
+use Rattle.table.specs.Table.{pointIn, previousIn}
 use Rattle.table.specs.TableChecks.{pointFault}
 use Rattle.table.proofs.Places.{previous-start, previous-later, fault-at}
 use Rattle.table.proofs.some_point_fault.Statement.{statement}
 use Rattle.table.proofs.some_point_fault.Tie as tie
 
 abbrev Inv-loop : tie.InvT-loop
-Inv-loop points from len last₀ k₀ last k = (k ≤ len) × (last ≡ pointAt points (previousIn from (from + len) (from + k))) × None (λ i. pointFault points from (from + len) (from + i)) k
+Inv-loop points from len last₀ k₀ last k = (k ≤ len) × (last ≡ pointIn points (previousIn from (from + len) (from + k))) × None (λ i. pointFault points from (from + len) (from + i)) k
 
 abbrev μ-loop : tie.MeasureT-loop
 μ-loop points from len last₀ k₀ last k = len - k
 
-add-point-at : tie.Need-add-point-at Inv-loop μ-loop
-add-point-at c = omega arith
+add-point-in : tie.Need-add-point-in Inv-loop μ-loop
+add-point-in c = omega arith
 
-sub-point-at : tie.Need-sub-point-at Inv-loop μ-loop
-sub-point-at c = omega arith
+sub-point-in : tie.Need-sub-point-in Inv-loop μ-loop
+sub-point-in c = omega arith
 
-point-at-requires : tie.Need-point-at-requires Inv-loop μ-loop
-point-at-requires c κs = omega arith
+point-in-requires : tie.Need-point-in-requires Inv-loop μ-loop
+point-in-requires c κs = omega arith
 
 loop-holds : tie.Need-loop-holds Inv-loop μ-loop
 loop-holds c =
     let a = c .before .args in
-    (omega arith, c .point-at .ensures ∙ ap (pointAt (now (a .points))) (sym (previous-start (a .from) (a .from + a .len))), below-none _)
+    (omega arith, c .point-in .ensures ∙ ap (pointIn (now (a .points))) (sym (previous-start (a .from) (a .from + a .len))), below-none _)
 
-add-point-at-2 : tie.Need-add-point-at-2 Inv-loop μ-loop
-add-point-at-2 c = omega arith
+add-point-in-2 : tie.Need-add-point-in-2 Inv-loop μ-loop
+add-point-in-2 c = omega arith
 
-point-at-requires-2 : tie.Need-point-at-requires-2 Inv-loop μ-loop
-point-at-requires-2 c κs = omega arith
+point-in-requires-2 : tie.Need-point-in-requires-2 Inv-loop μ-loop
+point-in-requires-2 c κs = omega arith
 
 off-grid-requires : tie.Need-off-grid-requires Inv-loop μ-loop
 off-grid-requires c κs = search needs
@@ -53,7 +53,7 @@ here :
 here c =
     let a = c .before .before .before .before .before .before .args in
     let l = c .before .before .before .before .loop in
-    let p = c .before .before .point-at2 in
+    let p = c .before .before .point-in2 in
     fault-at (now (a .points)) (a .from) (a .from + a .len) (l .k) (l .last) (p .result) (l .inv .1) (p .ensures) _ _ (c .before .off-grid .ensures) (c .differ .ensures)
 
 returns : tie.Need-returns Inv-loop μ-loop
@@ -72,8 +72,8 @@ loop-again : tie.Need-loop-again Inv-loop μ-loop
 loop-again c =
     let a = c .before .before .before .before .before .before .before .args in
     let l = c .before .before .before .before .before .loop in
-    let p = c .before .before .before .point-at2 in
-    (omega arith, p .ensures ∙ ap (pointAt (now (a .points))) (sym (previous-later (a .from) (a .from + a .len) (l .k))), below-more _ _ (l .inv .2) (sym (here (c .before)) ∙ c .if1 .left))
+    let p = c .before .before .before .point-in2 in
+    (omega arith, p .ensures ∙ ap (pointIn (now (a .points))) (sym (previous-later (a .from) (a .from + a .len) (l .k))), below-more _ _ (l .inv .2) (sym (here (c .before)) ∙ c .if1 .left))
 
 returns-2 : tie.Need-returns-2 Inv-loop μ-loop
 returns-2 c =
@@ -86,12 +86,12 @@ some-point-fault-spec =
     (tie.spec
     Inv-loop
     μ-loop
-    add-point-at
-    sub-point-at
-    point-at-requires
+    add-point-in
+    sub-point-in
+    point-in-requires
     loop-holds
-    add-point-at-2
-    point-at-requires-2
+    add-point-in-2
+    point-in-requires-2
     off-grid-requires
     differ-requires
     returns

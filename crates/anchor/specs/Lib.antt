@@ -1,0 +1,9 @@
+-- The definitions that the contracts cite, then the laws of them.
+pub mod Anchor
+pub mod AnchorChecks
+pub mod Anchors
+pub mod Anchored
+pub mod Examples
+pub mod AnchorPositions
+pub mod Anchoring
+pub mod AnchorLaws

@@ -1,0 +1,84 @@
+// Candidate edges: every edge of a table, listed by its points, with its ends as candidates have them.
+use edges::Edge;
+ghost use mathlib.Core.Path.{_≡_};
+ghost use Prim.Native.Nat.{ℕ, _<_, _≤_};
+ghost use lib.ListN.{length};
+ghost use Rattle.turn.specs.Limits.{maxLinks};
+ghost use Rattle.turn.specs.Points.{OnGrid};
+ghost use Rattle.table.specs.Table.{nextIn};
+ghost use Rattle.candidates.specs.EdgeLists.{EdgeLists, edgeLists, listedEdge, Fit, ContourListed, Ranges, ranges, Round};
+
+// Edge k, which begins at point k, with its ends the way round that makes a candidate run from left to right.
+pub fn listed_edge(
+    points: &[i32],
+    next: &[u32],
+    of: &[u32],
+    kind: &[u8],
+    right: bool,
+    n: usize,
+    k: usize,
+) -> Edge
+    requires { ⌜ (Fit (edgeLists (now points) (now next) (now of) (now kind) right) n) × (k < n) ⌝ }
+    ensures { λ r. ⌜ (let g : EdgeLists = edgeLists (now (points .entry)) (now (next .entry)) (now (of .entry)) (now (kind .entry)) right in
+        (r ≡ listedEdge g k) × (OnGrid (r .left)) × (OnGrid (r .right))) ⌝ }
+{
+    let c = of[k];
+    let t = kind[c as usize];
+    let j = next[k] as usize;
+    let p = table::point_in(points, k);
+    let q = table::point_in(points, j);
+    if right {
+        Edge {
+            left: p,
+            right: q,
+            kind: t,
+            contour: c,
+        }
+    } else {
+        Edge {
+            left: q,
+            right: p,
+            kind: t,
+            contour: c,
+        }
+    }
+}
+
+// The point after point k, round a contour that stands from a position up to another.
+fn follows(k: usize, from: usize, to: usize) -> u32
+    requires { ⌜ (from ≤ k) × (k < to) × (to ≤ maxLinks) ⌝ }
+    ensures { λ r. ⌜ r ≡ nextIn from to k ⌝ }
+{
+    if k + 1 == to {
+        from as u32
+    } else {
+        k as u32 + 1
+    }
+}
+
+// The points from..to are contour c's.
+fn list_contour(next: &mut [u32], of: &mut [u32], c: u32, from: usize, to: usize)
+    requires { ⌜ (from ≤ to) × (to ≤ maxLinks) × (to ≤ length (now next)) × (to ≤ length (now of)) ⌝ }
+    ensures { λ _. ⌜ ContourListed c from to (now (next .entry)) (now (of .entry)) (now (next .exit)) (now (of .exit)) ⌝ }
+{
+    let mut k = from;
+    while k < to {
+        of[k] = c;
+        next[k] = follows(k, from, to);
+        k += 1;
+    }
+}
+
+// For every point the one after it round its contour, and its contour.
+pub fn list_edges(first: &[u32], len: &[u32], next: &mut [u32], of: &mut [u32])
+    requires { ⌜ (Ranges (now first) (now len)) × (maxLinks ≤ length (now next)) × (maxLinks ≤ length (now of)) ⌝ }
+    ensures { λ _. ⌜ Round (ranges (now (first .entry)) (now (len .entry))) (length (now (first .entry))) (now (next .exit)) (now (of .exit)) ⌝ }
+{
+    let mut c = 0;
+    while c < first.len() {
+        let from = first[c] as usize;
+        let to = from + len[c] as usize;
+        list_contour(next, of, c as u32, from, to);
+        c += 1;
+    }
+}

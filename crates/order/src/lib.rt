@@ -1,0 +1,115 @@
+// Binding's order of the holes: the holes gathered with their anchors, and put in order by insertion.
+use anchor::Anchor;
+ghost use mathlib.Core.Path.{_≡_};
+ghost use Prim.Native.Nat.{ℕ, suc, _<_, _≤_};
+ghost use lib.ListN.{length, getD};
+ghost use Rattle.turn.specs.Limits.{maxLinks};
+ghost use Rattle.turn.specs.Points.{OnGrid};
+ghost use Rattle.table.specs.Table.{Table, table};
+ghost use Rattle.table.specs.Sound.{Sound};
+ghost use Rattle.anchor.specs.Anchors.{Anchors, anchors};
+ghost use Rattle.order.specs.HoleOrder.{goesBefore};
+ghost use Rattle.order.specs.HoleLists.{Room, Gathered, Bounded, slotOf, Ordered};
+ghost use Rattle.order.specs.Insertion.{Inserted};
+
+// The holes in contour order: hole j's contour and its anchor. Answers how many there are.
+pub fn gather_holes(
+    points: &[i32],
+    first: &[u32],
+    len: &[u32],
+    kind: &[u8],
+    clockwise: bool,
+    who: &mut [u32],
+    x: &mut [i32],
+    y: &mut [i32],
+    to_x: &mut [i32],
+    to_y: &mut [i32],
+) -> usize
+    requires { ⌜ Sound (table (now points) (now first) (now len) (now kind)) ⌝ }
+    requires { ⌜ Room (now who) (anchors (now x) (now y) (now «to_x») (now «to_y»)) maxLinks ⌝ }
+    ensures { λ m. ⌜ (let t : Table = table (now (points .entry)) (now (first .entry)) (now (len .entry)) (now (kind .entry)) in
+        let h : Anchors = anchors (now (x .exit)) (now (y .exit)) (now («to_x» .exit)) (now («to_y» .exit)) in
+        Gathered t clockwise (length (now (first .entry))) m (now (who .exit)) h) ⌝ }
+{
+    let mut m = 0;
+    let mut c = 0;
+    while c < first.len() {
+        if kind[c] != 1 {
+            c += 1;
+            continue;
+        }
+        let a = anchor::left_bottom_segment_from(
+            points,
+            first[c] as usize,
+            len[c] as usize,
+            clockwise,
+        );
+        who[m] = c as u32;
+        anchor::put_anchor(a, m, x, y, to_x, to_y);
+        m += 1;
+        c += 1;
+    }
+    m
+}
+
+// Hole c, with the anchor a, goes before hole d, with the anchor b.
+fn goes_before(a: Anchor, b: Anchor, c: u32, d: u32) -> bool
+    requires { ⌜ (OnGrid (a .at)) × (OnGrid (a .to)) × (OnGrid (b .at)) × (OnGrid (b .to)) ⌝ }
+    ensures { λ r. ⌜ r ≡ goesBefore a b c d ⌝ }
+{
+    if turn::before(a.at, b.at) {
+        return true;
+    }
+    if turn::before(b.at, a.at) {
+        return false;
+    }
+    let angle = turn::cross_product(turn::between(a.at, a.to), turn::between(b.at, b.to));
+    (0 < angle) | (!(angle < 0) & (c < d))
+}
+
+// Hole j goes among the first j of `ord`, in front of those at the end that it goes before.
+fn insert(who: &[u32], x: &[i32], y: &[i32], to_x: &[i32], to_y: &[i32], ord: &mut [u32], j: usize)
+    requires { ⌜ (Bounded (now who) (anchors (now x) (now y) (now «to_x») (now «to_y»)) (suc j)) × (j < maxLinks) ⌝ }
+    requires { ⌜ (j < length (now ord)) × ((i : ℕ) → i < j → getD (now ord) i 0 < j) ⌝ }
+    ensures { λ _. ⌜ (let h : Anchors = anchors (now (x .entry)) (now (y .entry)) (now («to_x» .entry)) (now («to_y» .entry)) in
+        Inserted (now (ord .entry)) (now (ord .exit)) j (slotOf h (now (who .entry)) (now (ord .entry)) j) j) ⌝ }
+{
+    let a = anchor::listed_anchor(x, y, to_x, to_y, j);
+    let c = who[j];
+    let mut p = j;
+    while 0 < p {
+        let d = ord[p - 1];
+        let i = d as usize;
+        let b = anchor::listed_anchor(x, y, to_x, to_y, i);
+        if goes_before(a, b, c, who[i]) {
+            ord[p] = d;
+            p -= 1;
+        } else {
+            ord[p] = j as u32;
+            return;
+        }
+    }
+    ord[p] = j as u32;
+}
+
+// The m holes in binding's order, by their places among the holes.
+pub fn order_holes(
+    who: &[u32],
+    x: &[i32],
+    y: &[i32],
+    to_x: &[i32],
+    to_y: &[i32],
+    m: usize,
+    ord: &mut [u32],
+)
+    requires { ⌜ (let h : Anchors = anchors (now x) (now y) (now «to_x») (now «to_y») in
+        (Bounded (now who) h m) × (m ≤ maxLinks) × (m ≤ length (now ord))) ⌝ }
+    ensures { λ _. ⌜ (let h : Anchors = anchors (now (x .entry)) (now (y .entry)) (now («to_x» .entry)) (now («to_y» .entry)) in
+        Ordered h (now (who .entry)) m (now (ord .exit))) ⌝ }
+{
+    let mut j = 0;
+    while j < m {
+        insert(who, x, y, to_x, to_y, ord, j);
+        j += 1;
+    }
+}

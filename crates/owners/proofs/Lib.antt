@@ -1,0 +1,4 @@
+-- What the proofs cite beside the laws of specs/.
+mod Numbering
+mod Gives
+mod Searched
