@@ -1,7 +1,8 @@
 //! Cases as data: tables of inputs under tests/tables, what each asks, and what is answered.
 //!
-//! A table is a text that a person can read (tests/tables/README.md has its words). [`tables::read`] reads one, [`Case::ask`] puts
-//! a case to the reading or to the library, and [`Outcome`] is one answer with every lent buffer before and after, byte for byte.
+//! A table is a text that a person can read (tests/tables/README.md has its words). [`tables::read`] reads one,
+//! [`Case::ask`] puts a case to the reading or to the library, and [`Outcome`] is one answer with every lent buffer before
+//! and after, byte for byte.
 
 pub mod input;
 pub mod made;

@@ -39,7 +39,7 @@ fn words(list: &[i64]) -> Vec<String> {
     runs.flat_map(shown).collect()
 }
 
-/// A long list: its length, its ends, its sum, and the sum of the sums up to each number, which tells an order from another.
+/// A long list: its length, its ends, its sum, and the sum of the sums on the way to it, which tells an order from another.
 fn shortened(list: &[i64]) -> String {
     let (sum, again) = list.iter().fold((0i64, 0i64), |(sum, again), n| (sum + n, again + sum + n));
     let (head, tail) = (words(&list[..END]).join(" "), words(&list[list.len() - END..]).join(" "));

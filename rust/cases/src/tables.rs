@@ -6,7 +6,7 @@ use reading::Side;
 use reading::geometry::Point;
 use reading::graph::Graph;
 use std::collections::BTreeMap;
-use std::fmt::{Debug, Write};
+use std::fmt::Write;
 use std::path::PathBuf;
 use std::str::FromStr;
 
@@ -30,10 +30,8 @@ pub fn answers(cases: &[Case], side: Side) -> String {
     let mut out = String::new();
     for case in cases {
         writeln!(out, "{}", case.title).expect("strings take all");
-        for line in
-            case.ask(side).iter().flat_map(|outcome| outcome.to_string().lines().map(String::from).collect::<Vec<_>>())
-        {
-            writeln!(out, "  {line}").expect("strings take all");
+        for outcome in case.ask(side) {
+            outcome.to_string().lines().for_each(|line| writeln!(out, "  {line}").expect("strings take all"));
         }
         out.push('\n');
     }
@@ -65,6 +63,9 @@ impl Words<'_> {
 
     fn points(&self, from: usize) -> Vec<Point> {
         let numbers: Vec<i32> = self.numbers(from);
+        if numbers.len() % 2 == 1 {
+            self.fault("a point lacks its y");
+        }
         (0..numbers.len() / 2).map(|position| Point::in_list(&numbers, position)).collect()
     }
 }
@@ -178,9 +179,12 @@ fn list(input: &mut Input, line: &Words<'_>) {
 }
 
 /// `set LIST AT VALUE`, `give LIST VALUE..`, `fill LIST COUNT VALUE`, `add LIST VALUE..`, `cut LIST LENGTH`
-fn change<T: Clone + Debug + FromStr>(list: &mut Vec<T>, line: &Words<'_>) {
+fn change<T: Clone + FromStr>(list: &mut Vec<T>, line: &Words<'_>) {
     match line.word(0) {
-        "set" => list[line.number::<usize>(2)] = line.number(3),
+        "set" => match list.get_mut(line.number::<usize>(2)) {
+            Some(element) => *element = line.number(3),
+            None => line.fault("the list is shorter"),
+        },
         "give" => *list = line.numbers(2),
         "fill" => *list = vec![line.number(3); line.number(2)],
         "add" => list.extend(line.numbers(2)),

@@ -80,13 +80,8 @@ fn read_settings(body: &[u8]) -> Option<Settings> {
 fn read_link(body: &[u8], graph: &mut Graph, state: &mut Vec<u8>) {
     let coordinate = |at: usize| i32::from_le_bytes(body[at..at + 4].try_into().expect("four bytes"));
     let id = |at: usize| u16::from_le_bytes([body[at], body[at + 1]]) as u32;
-    graph.ax.push(coordinate(0));
-    graph.ay.push(coordinate(4));
-    graph.bx.push(coordinate(8));
-    graph.by.push(coordinate(12));
-    graph.a_id.push(id(16));
-    graph.b_id.push(id(18));
-    graph.top.push(body[20]);
+    let point = |at: usize| [coordinate(at), coordinate(at + 4)];
+    graph.push_link([point(0), point(8)], [id(16), id(18)], body[20]);
     state.push(body[21]);
 }
 

@@ -51,18 +51,23 @@ impl Graph {
         let mut graph = Self { start: vec![0], ..Self::default() };
         let mut lists = vec![Vec::new(); nodes.len()];
         for (link, &(a, b, top)) in (0..).zip(links) {
-            graph.ax.push(a[0]);
-            graph.ay.push(a[1]);
-            graph.bx.push(b[0]);
-            graph.by.push(b[1]);
-            graph.a_id.push(id(a) as u32);
-            graph.b_id.push(id(b) as u32);
-            graph.top.push(top);
+            graph.push_link([a, b], [id(a) as u32, id(b) as u32], top);
             lists[id(a)].push(link);
             lists[id(b)].push(link);
         }
         lists.iter().for_each(|list| graph.push_node(list));
         graph
+    }
+
+    /// Adds a link between two points, at two nodes.
+    pub fn push_link(&mut self, [a, b]: [[i32; 2]; 2], [a_id, b_id]: [u32; 2], top: u8) {
+        self.ax.push(a[0]);
+        self.ay.push(a[1]);
+        self.bx.push(b[0]);
+        self.by.push(b[1]);
+        self.a_id.push(a_id);
+        self.b_id.push(b_id);
+        self.top.push(top);
     }
 
     /// Adds a node with these links.
