@@ -1,11 +1,11 @@
 //! Our side of the comparison, as one value whoever answers.
 
 use generators::Sample;
-use reading::bind::{Table, Visits, bind, bind_seeing};
+use reading::bind::{Table, Visits, bind_seeing};
 use reading::geometry::Point;
 use reading::graph::Buffers;
-use reading::walk::{Scan, extract, walks};
-use reading::{Refusal, Settings};
+use reading::walk::{Scan, walks};
+use reading::{Refusal, Settings, Side};
 
 /// What extraction and binding answer on a graph: kept contours in order, kinds, states, and owners unless refused.
 #[derive(Clone, Debug, PartialEq, Eq)]
@@ -46,13 +46,13 @@ impl Outcome {
     }
 }
 
-/// The reading's answer.
-pub fn by_reading(sample: &Sample, settings: Settings) -> Result<Outcome, Refusal> {
+/// One side's answer.
+pub fn by(side: Side, sample: &Sample, settings: Settings) -> Result<Outcome, Refusal> {
     let mut lent = Buffers::for_states(sample.state.clone());
-    let counts = extract(&sample.graph, settings, &mut lent)?;
-    let table = kept(lent.points, lent.first, lent.len, lent.kind, counts.points, counts.contours);
+    let counts = (side.extract)(&sample.graph, settings, &mut lent)?;
+    let table = counts.table(&lent);
     let mut owner = vec![0; table.contours()];
-    let owners = bind(&table, settings.clockwise, &mut owner).map(|_| owner);
+    let owners = (side.bind)(&table, settings.clockwise, &mut owner).map(|_| owner);
     Ok(Outcome::new(&table, lent.state, owners))
 }
 
@@ -71,28 +71,4 @@ pub fn by_crate_rules(sample: &Sample, settings: Settings) -> Option<Outcome> {
     let mut owner = vec![0; table.contours()];
     let owners = bind_seeing(Visits::All, &table, settings.clockwise, &mut owner).map(|_| owner);
     Some(Outcome::new(&table, states, owners))
-}
-
-/// The library's answer.
-#[cfg(feature = "library")]
-pub fn by_library(sample: &Sample, settings: Settings) -> Result<Outcome, Refusal> {
-    use guovdamas::{ContourDirection, lent};
-    use lending::{buffers, lists, options, refusal};
-    let mut lent = Buffers::for_states(sample.state.clone());
-    let counts = lent::extract(lists(&sample.graph), options(settings), buffers(&mut lent)).map_err(refusal)?;
-    let table = kept(lent.points, lent.first, lent.len, lent.kind, counts.points, counts.contours);
-    let mut owner = vec![0; table.contours()];
-    let direction = ContourDirection::from_clockwise(settings.clockwise);
-    let owners = lent::bind(lending::table(&table), direction, &mut owner).map(|_| owner).map_err(refusal);
-    Ok(Outcome::new(&table, lent.state, owners))
-}
-
-/// The part of the buffers that holds the kept contours.
-fn kept(points: Vec<i32>, first: Vec<u32>, len: Vec<u32>, kind: Vec<u8>, count: u32, contours: u32) -> Table {
-    let mut table = Table { points, first, len, kind };
-    table.points.truncate(2 * count as usize);
-    table.first.truncate(contours as usize);
-    table.len.truncate(contours as usize);
-    table.kind.truncate(contours as usize);
-    table
 }

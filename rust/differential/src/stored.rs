@@ -2,11 +2,12 @@
 //! that the text need not be at hand to compare with it.
 
 use crate::compare::{Expected, TextAnswer, ask_text, expected};
-use crate::sides::by_reading;
+use crate::sides::by;
 use crate::tally::settings;
 use generators::planar::FAMILIES;
 use generators::rng::Rng;
 use generators::{Sample, planar};
+use reading::READING;
 use reading::file::{Study, encode};
 use reading::geometry::Point;
 use reading::walk::{Scan, walks};
@@ -51,7 +52,7 @@ pub fn write(count: usize) -> String {
         let sample = planar::sample(family, size, &mut rng);
         let choices = settings(&sample, &mut rng);
         let settings = rng.choose(&choices);
-        let outcome = by_reading(&sample, settings).expect("planar graphs are walked");
+        let outcome = by(READING, &sample, settings).expect("planar graphs are walked");
         let walks = walks(&sample.graph, &sample.state, settings, Scan::Stays).expect("planar graphs are walked");
         let is_searched = outcome.hulls() > 1 && outcome.contours.len() > outcome.hulls();
         if (1..=MAX_STORED).contains(&sample.graph.links())

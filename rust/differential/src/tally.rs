@@ -1,13 +1,13 @@
 //! Many graphs, with the counts of what was found.
 
 use crate::compare::{Expected, ask_text, compare, expected};
-use crate::sides::{Outcome, by_crate_rules, by_reading};
+use crate::sides::{Outcome, by, by_crate_rules};
 use generators::planar::{FAMILIES, Family};
 use generators::rng::Rng;
 use generators::{Sample, planar, wild};
-use reading::Settings;
 use reading::file::{Study, encode};
 use reading::walk::{Scan, Walk, walks};
+use reading::{READING, Settings};
 use std::fmt;
 use text::Run;
 
@@ -136,14 +136,15 @@ pub fn outside(graphs: usize) -> Tally {
 fn compare_run(sample: &Sample, settings: Settings, rule: usize, in_domain: bool, tally: &mut Tally) {
     tally.runs += 1;
     let walks = walks(&sample.graph, &sample.state, settings, Scan::Stays);
-    match (by_reading(sample, settings), walks) {
+    let read = by(READING, sample, settings);
+    #[cfg(feature = "library")]
+    assert_eq!(by(lending::LIBRARY, sample, settings), read, "library and reading");
+    match (read, walks) {
         (Ok(outcome), Ok(walks)) => judge(sample, settings, rule, in_domain, &walks, &outcome, tally),
         // A planar graph may have too many links, and that is all.
         (Err(refusal), _) if in_domain && refusal.number != 1 => tally.find(sample, settings),
         _ => tally.refused += 1,
     }
-    #[cfg(feature = "library")]
-    assert_eq!(crate::sides::by_library(sample, settings), by_reading(sample, settings), "library and reading");
 }
 
 fn judge(

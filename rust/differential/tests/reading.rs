@@ -3,7 +3,7 @@
 use generators::planar::{FAMILIES, sample};
 use generators::rng::Rng;
 use generators::{Sample, planar, wild};
-use reading::bind::{Table, bind, lookup};
+use reading::bind::{bind, lookup};
 use reading::graph::Buffers;
 use reading::walk::extract;
 use reading::{Refusal, Settings};
@@ -17,13 +17,8 @@ fn run(sample: &Sample, settings: Settings) -> Result<i64, Refusal> {
     assert_eq!(counts.walked as usize, unvisited);
     assert!(lent.state.iter().all(|&state| state != 0));
 
-    let contours = counts.contours as usize;
-    let table = Table {
-        points: lent.points[..2 * counts.points as usize].to_vec(),
-        first: lent.first[..contours].to_vec(),
-        len: lent.len[..contours].to_vec(),
-        kind: lent.kind[..contours].to_vec(),
-    };
+    let table = counts.table(&lent);
+    let contours = table.contours();
     let mut owner = vec![0; contours];
     match bind(&table, settings.clockwise, &mut owner) {
         Ok(_) => assert!((0..contours).all(|contour| lookup(&table, &owner, contour).is_some())),

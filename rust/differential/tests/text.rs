@@ -22,10 +22,10 @@ fn stored_answers() {
 /// The library's answer in the program's words.
 #[cfg(feature = "library")]
 fn by_library(file: &[u8]) -> String {
-    use differential::sides;
     let reading::file::Study { settings, graph, state } =
         reading::file::parse(file).expect("a stored graph is well formed");
-    let outcome = sides::by_library(&generators::Sample { graph, state }, settings).expect("a stored graph is walked");
+    let sample = generators::Sample { graph, state };
+    let outcome = differential::sides::by(lending::LIBRARY, &sample, settings).expect("a stored graph is walked");
     let shapes = outcome.shapes();
     stored::print(&differential::compare::TextAnswer { contours: outcome.contours, states: outcome.states, shapes })
 }

@@ -63,13 +63,8 @@ impl Sample {
         let mut graph = Graph { start: vec![0], ..Graph::default() };
         let mut lists = vec![Vec::new(); nodes.len()];
         for (number, link) in links.iter().enumerate() {
-            graph.ax.push(link.a.x);
-            graph.ay.push(link.a.y);
-            graph.bx.push(link.b.x);
-            graph.by.push(link.b.y);
-            graph.a_id.push(id[link.a_key] as u32);
-            graph.b_id.push(id[link.b_key] as u32);
-            graph.top.push(link.top as u8);
+            let ids = [id[link.a_key] as u32, id[link.b_key] as u32];
+            graph.push_link([link.a, link.b].map(|point| [point.x, point.y]), ids, link.top as u8);
             lists[id[link.a_key]].push(number as u32);
             lists[id[link.b_key]].push(number as u32);
         }
@@ -77,8 +72,7 @@ impl Sample {
             if numbering == Numbering::Shuffled {
                 rng.shuffle(&mut list);
             }
-            graph.list.append(&mut list);
-            graph.start.push(graph.list.len() as u32);
+            graph.push_node(&list);
         }
         Self { graph, state: links.iter().map(|link| link.skipped as u8).collect() }
     }

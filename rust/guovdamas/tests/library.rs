@@ -4,9 +4,8 @@
 use generators::planar::{FAMILIES, sample};
 use generators::rng::Rng;
 use generators::{Sample, damage, planar, tables, wild};
-use guovdamas::{ContourDirection, lent};
-use lending::{buffers, lists, options, refusal, table};
-use reading::bind::{Role, Table};
+use lending::LIBRARY;
+use reading::bind::Table;
 use reading::graph::{Buffers, Graph};
 use reading::{Settings, bind, walk};
 use std::collections::BTreeMap;
@@ -29,30 +28,17 @@ impl Tally {
     }
 }
 
-fn extract(graph: &Graph, settings: Settings, lent: &mut Buffers) -> Result<walk::Counts, reading::Refusal> {
-    let lent::Counts { contours, points, rejected, walked, kept_area, rejected_area } =
-        lent::extract(lists(graph), options(settings), buffers(lent)).map_err(refusal)?;
-    Ok(walk::Counts { contours, points, rejected, walked, kept_area, rejected_area })
-}
-
 /// Extracts by both, then binds what was found by both; all answers and buffers must be equal.
 fn compare_extraction(graph: &Graph, lent: &Buffers, settings: Settings, tally: &mut Tally) {
     let (mut read, mut ours) = (lent.clone(), lent.clone());
     let due = walk::extract(graph, settings, &mut read);
-    let answer = extract(graph, settings, &mut ours);
+    let answer = (LIBRARY.extract)(graph, settings, &mut ours);
     assert_eq!(answer, due, "{graph:?} {lent:?} {settings:?}");
     assert_eq!(ours, read, "{graph:?} {lent:?} {settings:?}");
     match due {
         Err(refusal) => tally.count(refusal.number),
         Ok(counts) => {
-            let contours = counts.contours as usize;
-            let found = Table {
-                points: read.points[..2 * counts.points as usize].to_vec(),
-                first: read.first[..contours].to_vec(),
-                len: read.len[..contours].to_vec(),
-                kind: read.kind[..contours].to_vec(),
-            };
-            compare_binding(&found, contours, settings.clockwise, tally);
+            compare_binding(&counts.table(&read), counts.contours as usize, settings.clockwise, tally);
         }
     }
 }
@@ -62,9 +48,7 @@ fn compare_binding(lent: &Table, room: usize, clockwise: bool, tally: &mut Tally
     let soiled: Vec<u16> = (0..room as u16).map(|position| position.wrapping_mul(40_503)).collect();
     let (mut read, mut ours) = (soiled.clone(), soiled);
     let due = bind::bind(lent, clockwise, &mut read);
-    let answer = lent::bind(table(lent), ContourDirection::from_clockwise(clockwise), &mut ours);
-    let answer = answer.map(|bound| bind::Bound { shapes: bound.shapes, dropped: bound.dropped });
-    assert_eq!(answer.map_err(refusal), due, "{lent:?} {clockwise}");
+    assert_eq!((LIBRARY.bind)(lent, clockwise, &mut ours), due, "{lent:?} {clockwise}");
     assert_eq!(ours, read, "{lent:?} {clockwise}");
     tally.count(due.err().map_or(0, |refusal| refusal.number));
     compare_lookups(lent, &read);
@@ -73,16 +57,7 @@ fn compare_binding(lent: &Table, room: usize, clockwise: bool, tally: &mut Tally
 fn compare_lookups(lent: &Table, owner: &[u16]) {
     for contour in (0..=lent.contours()).chain([usize::MAX]) {
         let due = bind::lookup(lent, owner, contour);
-        let answer = lent::lookup(table(lent), owner, contour).map(|record| bind::Record {
-            first: record.first,
-            len: record.len,
-            role: match record.role {
-                lent::Role::Hull(number) => Role::Hull(number),
-                lent::Role::Hole(number) => Role::Hole(number),
-                lent::Role::Dropped => Role::Dropped,
-            },
-        });
-        assert_eq!(answer, due, "{lent:?} {owner:?} {contour}");
+        assert_eq!((LIBRARY.lookup)(lent, owner, contour), due, "{lent:?} {owner:?} {contour}");
     }
 }
 

@@ -1,9 +1,11 @@
-//! The reading's graphs, buffers, tables and settings, as the library takes them: for tests, benchmarks and examples.
+//! The reading's graphs, buffers, tables and settings, as the library takes them, and the library's answers, as the reading has
+//! them: for tests, benchmarks and examples.
 
 use guovdamas::{ContourDirection, Lists, Options, lent};
-use reading::Settings;
-use reading::bind::Table;
+use reading::bind::{Bound, Record, Role, Table};
 use reading::graph::{Buffers, Graph};
+use reading::walk::Counts;
+use reading::{Refusal, Settings, Side};
 
 /// A graph's lists.
 pub fn lists(graph: &Graph) -> Lists<'_> {
@@ -44,7 +46,31 @@ pub fn options(settings: Settings) -> Options {
     }
 }
 
-/// The library's refusal, as the reading has it.
-pub fn refusal(refusal: guovdamas::Refusal) -> reading::Refusal {
-    reading::Refusal { number: refusal.number(), place: refusal.place() }
+fn refusal(refusal: guovdamas::Refusal) -> Refusal {
+    Refusal { number: refusal.number(), place: refusal.place() }
+}
+
+/// The library's three functions.
+pub const LIBRARY: Side = Side { extract, bind, lookup };
+
+fn extract(graph: &Graph, settings: Settings, lent: &mut Buffers) -> Result<Counts, Refusal> {
+    let lent::Counts { contours, points, rejected, walked, kept_area, rejected_area } =
+        lent::extract(lists(graph), options(settings), buffers(lent)).map_err(refusal)?;
+    Ok(Counts { contours, points, rejected, walked, kept_area, rejected_area })
+}
+
+fn bind(lent: &Table, clockwise: bool, owner: &mut [u16]) -> Result<Bound, Refusal> {
+    let lent::Bound { shapes, dropped } =
+        lent::bind(table(lent), ContourDirection::from_clockwise(clockwise), owner).map_err(refusal)?;
+    Ok(Bound { shapes, dropped })
+}
+
+fn lookup(lent: &Table, owner: &[u16], contour: usize) -> Option<Record> {
+    let lent::ContourRecord { first, len, role } = lent::lookup(table(lent), owner, contour)?;
+    let role = match role {
+        lent::Role::Hull(number) => Role::Hull(number),
+        lent::Role::Hole(number) => Role::Hole(number),
+        lent::Role::Dropped => Role::Dropped,
+    };
+    Some(Record { first, len, role })
 }

@@ -10,32 +10,8 @@ use crate::{Refusal, Settings};
 const COUNTERCLOCKWISE: Settings = Settings { clockwise: false, minimum: 0 };
 const CLOCKWISE: Settings = Settings { clockwise: true, minimum: 0 };
 
-/// A graph whose nodes stand in point order with rising lists, all links unvisited.
-fn graph(links: &[([i32; 2], [i32; 2], u8)]) -> Graph {
-    let mut nodes: Vec<[i32; 2]> = links.iter().flat_map(|&(a, b, _)| [a, b]).collect();
-    nodes.sort();
-    nodes.dedup();
-    let id = |point: [i32; 2]| nodes.binary_search(&point).unwrap() as u32;
-    let mut graph = Graph { start: vec![0], ..Graph::default() };
-    for &(a, b, top) in links {
-        graph.ax.push(a[0]);
-        graph.ay.push(a[1]);
-        graph.bx.push(b[0]);
-        graph.by.push(b[1]);
-        graph.a_id.push(id(a));
-        graph.b_id.push(id(b));
-        graph.top.push(top);
-    }
-    for point in &nodes {
-        let held = (0..links.len()).filter(|&link| links[link].0 == *point || links[link].1 == *point);
-        graph.list.extend(held.map(|link| link as u32));
-        graph.start.push(graph.list.len() as u32);
-    }
-    graph
-}
-
 fn square() -> Graph {
-    let square = graph(&[([0, 0], [4, 0], 1), ([0, 0], [0, 4], 0), ([0, 4], [4, 4], 0), ([4, 0], [4, 4], 1)]);
+    let square = Graph::of_links(&[([0, 0], [4, 0], 1), ([0, 0], [0, 4], 0), ([0, 4], [4, 4], 0), ([4, 0], [4, 4], 1)]);
     // The document numbers the nodes [0,1] [1,2] [0,3] [2,3], which is their point order.
     assert_eq!(square.list, [0, 1, 1, 2, 0, 3, 2, 3]);
     square
@@ -56,10 +32,10 @@ fn printed(graph: &Graph, state: Vec<u8>, settings: Settings) -> String {
 
 #[test]
 fn e1_nothing_lent_nothing_found() {
-    let (outcome, lent) = run(&graph(&[]), vec![], COUNTERCLOCKWISE);
+    let (outcome, lent) = run(&Graph::of_links(&[]), vec![], COUNTERCLOCKWISE);
     assert_eq!(outcome, Ok(Counts::default()));
     assert_eq!(lent, Buffers::for_states(vec![]));
-    assert_eq!(printed(&graph(&[]), vec![], COUNTERCLOCKWISE), "contours 0 shapes 0 points 0 dropped 0\n");
+    assert_eq!(printed(&Graph::of_links(&[]), vec![], COUNTERCLOCKWISE), "contours 0 shapes 0 points 0 dropped 0\n");
 }
 
 #[test]
@@ -98,7 +74,7 @@ fn e5_minimum_17_rejects() {
 
 #[test]
 fn e6_triangle_of_doubled_area_1() {
-    let triangle = graph(&[([0, 0], [0, 1], 0), ([0, 0], [1, 0], 1), ([0, 1], [1, 0], 0)]);
+    let triangle = Graph::of_links(&[([0, 0], [0, 1], 0), ([0, 0], [1, 0], 1), ([0, 1], [1, 0], 0)]);
     let kept = run(&triangle, vec![0; 3], COUNTERCLOCKWISE).0.unwrap();
     assert_eq!((kept.contours, kept.kept_area), (1, 1));
     let rejected = run(&triangle, vec![0; 3], Settings { clockwise: false, minimum: 1 }).0.unwrap();
@@ -116,7 +92,7 @@ fn e7_square_with_link_0_skipped() {
 
 #[test]
 fn e8_the_scan_stays_at_its_link() {
-    let fan = graph(&[
+    let fan = Graph::of_links(&[
         ([0, 0], [10, -20], 1),
         ([0, 0], [10, -10], 0),
         ([0, 0], [2, -1], 1),

@@ -1,6 +1,6 @@
 //! The program's file and its printed answer.
 
-use crate::bind::{Role, Table, bind, lookup};
+use crate::bind::{Role, bind, lookup};
 use crate::geometry::Point;
 use crate::graph::{Buffers, Graph};
 use crate::walk::extract;
@@ -80,20 +80,15 @@ fn read_settings(body: &[u8]) -> Option<Settings> {
 fn read_link(body: &[u8], graph: &mut Graph, state: &mut Vec<u8>) {
     let coordinate = |at: usize| i32::from_le_bytes(body[at..at + 4].try_into().expect("four bytes"));
     let id = |at: usize| u16::from_le_bytes([body[at], body[at + 1]]) as u32;
-    graph.ax.push(coordinate(0));
-    graph.ay.push(coordinate(4));
-    graph.bx.push(coordinate(8));
-    graph.by.push(coordinate(12));
-    graph.a_id.push(id(16));
-    graph.b_id.push(id(18));
-    graph.top.push(body[20]);
+    let point = |at: usize| [coordinate(at), coordinate(at + 4)];
+    graph.push_link([point(0), point(8)], [id(16), id(18)], body[20]);
     state.push(body[21]);
 }
 
 /// "one a node, 16-bit link numbers".
 fn read_node(body: &[u8], graph: &mut Graph) {
-    graph.list.extend(body.chunks_exact(2).map(|bytes| u16::from_le_bytes([bytes[0], bytes[1]]) as u32));
-    graph.start.push(graph.list.len() as u32);
+    let entry = |bytes: &[u8]| u16::from_le_bytes([bytes[0], bytes[1]]) as u32;
+    graph.push_node(&body.chunks_exact(2).map(entry).collect::<Vec<u32>>());
 }
 
 /// Writes a study as the program's file; ids and link numbers are cut to 16 bits.
@@ -125,13 +120,8 @@ fn outline(study: &Study) -> Result<String, Refusal> {
     let Study { settings, graph, state } = study;
     let mut lent = Buffers::for_states(state.clone());
     let counts = extract(graph, *settings, &mut lent)?;
-    let contours = counts.contours as usize;
-    let table = Table {
-        points: lent.points[..2 * counts.points as usize].to_vec(),
-        first: lent.first[..contours].to_vec(),
-        len: lent.len[..contours].to_vec(),
-        kind: lent.kind[..contours].to_vec(),
-    };
+    let table = counts.table(&lent);
+    let contours = table.contours();
     let mut owner = vec![0; contours];
     let bound = bind(&table, settings.clockwise, &mut owner)?;
 

@@ -42,6 +42,40 @@ impl Buffers {
 }
 
 impl Graph {
+    /// A graph of these links, each a, b and top. Nodes stand in point order, their lists rise.
+    pub fn of_links(links: &[([i32; 2], [i32; 2], u8)]) -> Self {
+        let mut nodes: Vec<[i32; 2]> = links.iter().flat_map(|&(a, b, _)| [a, b]).collect();
+        nodes.sort();
+        nodes.dedup();
+        let id = |point: [i32; 2]| nodes.binary_search(&point).expect("every end is a node");
+        let mut graph = Self { start: vec![0], ..Self::default() };
+        let mut lists = vec![Vec::new(); nodes.len()];
+        for (link, &(a, b, top)) in (0..).zip(links) {
+            graph.push_link([a, b], [id(a) as u32, id(b) as u32], top);
+            lists[id(a)].push(link);
+            lists[id(b)].push(link);
+        }
+        lists.iter().for_each(|list| graph.push_node(list));
+        graph
+    }
+
+    /// Adds a link between two points, at two nodes.
+    pub fn push_link(&mut self, [a, b]: [[i32; 2]; 2], [a_id, b_id]: [u32; 2], top: u8) {
+        self.ax.push(a[0]);
+        self.ay.push(a[1]);
+        self.bx.push(b[0]);
+        self.by.push(b[1]);
+        self.a_id.push(a_id);
+        self.b_id.push(b_id);
+        self.top.push(top);
+    }
+
+    /// Adds a node with these links.
+    pub fn push_node(&mut self, links: &[u32]) {
+        self.list.extend(links);
+        self.start.push(self.list.len() as u32);
+    }
+
     /// "n is the length of the list of a's node ids".
     pub fn links(&self) -> usize {
         self.a_id.len()

@@ -14,6 +14,10 @@ pub mod walk;
 #[cfg(test)]
 mod examples;
 
+use bind::{Bound, Record, Table};
+use graph::{Buffers, Graph};
+use walk::Counts;
+
 /// Most links, and most points of a table.
 pub const MAX_LINKS: usize = 4096;
 /// Coordinates lie from `-MAX_COORDINATE` to `MAX_COORDINATE`.
@@ -32,6 +36,16 @@ pub struct Settings {
     pub clockwise: bool,
     pub minimum: u64,
 }
+
+/// Who answers: this reading, or what is compared with it.
+#[derive(Clone, Copy)]
+pub struct Side {
+    pub extract: fn(&Graph, Settings, &mut Buffers) -> Result<Counts, Refusal>,
+    pub bind: fn(&Table, bool, &mut [u16]) -> Result<Bound, Refusal>,
+    pub lookup: fn(&Table, &[u16], usize) -> Option<Record>,
+}
+
+pub const READING: Side = Side { extract: walk::extract, bind: bind::bind, lookup: bind::lookup };
 
 /// Refuses with `number` at the place found, if one was found.
 fn refuse_at(number: u32, place: Option<usize>) -> Result<(), Refusal> {

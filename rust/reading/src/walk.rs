@@ -1,5 +1,6 @@
 //! Walking rules 1 to 7: the walks of a graph, and what extraction makes of them.
 
+use crate::bind::Table;
 use crate::geometry::{Point, doubled_area, strictly_clockwise};
 use crate::graph::{Buffers, Graph, check};
 use crate::{Refusal, Settings};
@@ -15,6 +16,19 @@ pub struct Counts {
     pub walked: u32,
     pub kept_area: i64,
     pub rejected_area: i64,
+}
+
+impl Counts {
+    /// The kept contours in buffers that extraction has written, without the room past them.
+    pub fn table(&self, lent: &Buffers) -> Table {
+        let contours = self.contours as usize;
+        Table {
+            points: lent.points[..2 * self.points as usize].to_vec(),
+            first: lent.first[..contours].to_vec(),
+            len: lent.len[..contours].to_vec(),
+            kind: lent.kind[..contours].to_vec(),
+        }
+    }
 }
 
 /// One walk, kept or not.

@@ -1,0 +1,119 @@
+//! What a case lends: a graph or a contour table, the room to be written, and the settings.
+
+use crate::outcome::{Lists, Outcome, said};
+use reading::bind::{Bound, Record, Role, Table};
+use reading::graph::{Buffers, Graph};
+use reading::walk::Counts;
+use reading::{Settings, Side};
+
+/// A link's a, b and top.
+pub type Link = ([i32; 2], [i32; 2], u8);
+
+/// How long the written lists are; where nothing is said, one point or contour longer than is asked for.
+#[derive(Clone, Debug, Default)]
+pub struct Room {
+    pub points: Option<usize>,
+    pub first: Option<usize>,
+    pub len: Option<usize>,
+    pub kind: Option<usize>,
+    pub owners: Option<usize>,
+}
+
+#[derive(Clone, Debug)]
+pub struct Input {
+    pub graph: Graph,
+    pub state: Vec<u8>,
+    pub table: Table,
+    pub owner: Vec<u16>,
+    pub room: Room,
+    pub clockwise: Vec<bool>,
+    pub minimum: Vec<u64>,
+    pub look: Vec<usize>,
+}
+
+impl Default for Input {
+    fn default() -> Self {
+        Self {
+            graph: Graph::of_links(&[]),
+            state: Vec::new(),
+            table: Table::default(),
+            owner: Vec::new(),
+            room: Room::default(),
+            clockwise: vec![false],
+            minimum: vec![0],
+            look: Vec::new(),
+        }
+    }
+}
+
+/// What lent memory holds before.
+const SEVEN: u8 = 7;
+
+fn direction(clockwise: bool) -> &'static str {
+    if clockwise { "clockwise" } else { "counterclockwise" }
+}
+
+fn numbers<T: Copy + Into<i64>>(list: &[T]) -> Vec<i64> {
+    list.iter().map(|&number| number.into()).collect()
+}
+
+fn lists(lent: &Buffers) -> Lists {
+    vec![
+        ("state", numbers(&lent.state)),
+        ("points", numbers(&lent.points)),
+        ("first", numbers(&lent.first)),
+        ("len", numbers(&lent.len)),
+        ("kind", numbers(&lent.kind)),
+    ]
+}
+
+impl Input {
+    fn buffers(&self) -> Buffers {
+        let (n, room) = (self.graph.links(), &self.room);
+        let contours = |room: Option<usize>| room.unwrap_or(n / 3 + 1);
+        Buffers {
+            state: self.state.clone(),
+            points: vec![SEVEN.into(); room.points.unwrap_or(2 * n + 2)],
+            first: vec![SEVEN.into(); contours(room.first)],
+            len: vec![SEVEN.into(); contours(room.len)],
+            kind: vec![SEVEN; contours(room.kind)],
+        }
+    }
+
+    pub fn extract(&self, side: Side, clockwise: bool, minimum: u64) -> Outcome {
+        let mut lent = self.buffers();
+        let before = lists(&lent);
+        let answer = (side.extract)(&self.graph, Settings { clockwise, minimum }, &mut lent);
+        let words = |counts: Counts| {
+            let Counts { contours, points, rejected, walked, kept_area, rejected_area } = counts;
+            let areas = format!("kept {kept_area} lost {rejected_area}");
+            format!("contours {contours} points {points} rejected {rejected} walked {walked} {areas}")
+        };
+        let asked = format!("{}, minimum {minimum}", direction(clockwise));
+        Outcome { asked, said: said(answer, words), before, after: lists(&lent) }
+    }
+
+    pub fn bind(&self, side: Side, clockwise: bool) -> Outcome {
+        let mut owner: Vec<u16> = vec![SEVEN.into(); self.room.owners.unwrap_or(self.table.contours() + 1)];
+        let before = vec![("owner", numbers(&owner))];
+        let answer = (side.bind)(&self.table, clockwise, &mut owner);
+        let words = |Bound { shapes, dropped }| format!("shapes {shapes} dropped {dropped}");
+        let after = vec![("owner", numbers(&owner))];
+        Outcome { asked: direction(clockwise).into(), said: said(answer, words), before, after }
+    }
+
+    pub fn lookup(&self, side: Side, contour: usize) -> Outcome {
+        let said = match (side.lookup)(&self.table, &self.owner, contour) {
+            None => "none".into(),
+            Some(Record { first, len, role }) => {
+                let role = match role {
+                    Role::Hull(number) => format!("hull {number}"),
+                    Role::Hole(number) => format!("hole {number}"),
+                    Role::Dropped => "dropped".into(),
+                };
+                format!("first {first} len {len} {role}")
+            }
+        };
+        Outcome { asked: format!("contour {contour}"), said, before: Vec::new(), after: Vec::new() }
+    }
+}

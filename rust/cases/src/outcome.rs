@@ -1,0 +1,63 @@
+//! An answer with every lent buffer, to be compared and to be shown.
+
+use reading::Refusal;
+use std::fmt;
+
+/// The lent buffers by name, as whole numbers.
+pub type Lists = Vec<(&'static str, Vec<i64>)>;
+
+/// One answer.
+#[derive(Clone, Debug, PartialEq, Eq)]
+pub struct Outcome {
+    pub asked: String,
+    pub said: String,
+    pub before: Lists,
+    pub after: Lists,
+}
+
+/// A run of at least so many equal numbers is shown as `26*7`.
+const RUN: usize = 4;
+/// A list of more words than this is shown by its ends and sums.
+const WORDS: usize = 80;
+const END: usize = 8;
+
+/// An answer, or a refusal as the program prints it.
+pub fn said<T>(answer: Result<T, Refusal>, words: impl Fn(T) -> String) -> String {
+    match answer {
+        Ok(answer) => words(answer),
+        Err(Refusal { number, place }) => format!("refused {number} at {place}"),
+    }
+}
+
+/// A list's numbers, equal ones together.
+fn words(list: &[i64]) -> Vec<String> {
+    let runs = list.chunk_by(|p, q| p == q);
+    let shown = |run: &[i64]| match run.len() {
+        RUN.. => vec![format!("{}*{}", run.len(), run[0])],
+        _ => run.iter().map(i64::to_string).collect(),
+    };
+    runs.flat_map(shown).collect()
+}
+
+/// A long list: its length, its ends, its sum, and the sum of the sums on the way to it, which tells an order from another.
+fn shortened(list: &[i64]) -> String {
+    let (sum, again) = list.iter().fold((0i64, 0i64), |(sum, again), n| (sum + n, again + sum + n));
+    let (head, tail) = (words(&list[..END]).join(" "), words(&list[list.len() - END..]).join(" "));
+    format!("{} numbers, {head} .. {tail}, summed {sum} and again {again}", list.len())
+}
+
+impl fmt::Display for Outcome {
+    fn fmt(&self, f: &mut fmt::Formatter<'_>) -> fmt::Result {
+        let is_kept = !self.before.is_empty() && self.before == self.after;
+        writeln!(f, "{}: {}{}", self.asked, self.said, if is_kept { ", all as before" } else { "" })?;
+        if is_kept {
+            return Ok(());
+        }
+        for (name, list) in &self.after {
+            let words = words(list);
+            let shown = if words.len() > WORDS { shortened(list) } else { words.join(" ") };
+            writeln!(f, "{}", format!("  {name:7} {shown}").trim_end())?;
+        }
+        Ok(())
+    }
+}
