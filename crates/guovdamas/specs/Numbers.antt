@@ -77,6 +77,6 @@ roleNumber Dropped = 2
 abbrev pub foundRecord : ContourRecord → GuovdamasRecord
 foundRecord r = record { found = 1; role = roleNumber (r .role); owner = roleOwner (r .role); first = r .first; len = r .len }
 
-abbrev pub recordOf : Lookup → GuovdamasRecord
-recordOf (Found r) = foundRecord r
-recordOf Missing = record { found = 0; role = 0; owner = 0; first = 0; len = 0 }
+abbrev pub recordNumbers : Lookup → GuovdamasRecord
+recordNumbers (Found r) = foundRecord r
+recordNumbers Missing = record { found = 0; role = 0; owner = 0; first = 0; len = 0 }

@@ -3,14 +3,15 @@ use bind::Binding;
 use lookup::records::ContourRecord;
 use lookup::records::Lookup;
 use lookup::records::Role;
-use walk::Extraction;
+use scan::Extraction;
 ghost use mathlib.Core.Path.{_≡_};
-ghost use Rattle.graph.specs.Graph.{lent};
-ghost use Rattle.walk.specs.Extract.{buffers, extracted};
-ghost use Rattle.table.specs.Table.{table};
+ghost use Rattle.graph.specs.Graph.{Lent, lent};
+ghost use Rattle.finish.specs.Finish.{Buffers, buffers};
+ghost use Rattle.extract.specs.Extract.{extracted};
+ghost use Rattle.table.specs.Table.{Table, table};
 ghost use Rattle.lookup.specs.Lookups.{roleOwner, lookedUp};
 ghost use Rattle.bind.specs.Outcome.{bound};
-ghost use Rattle.guovdamas.specs.Numbers.{extractionOf, bindingOf, foundRecord, recordOf, roleNumber, extracting, numberedExtracted, binding, numberedBound};
+ghost use Rattle.guovdamas.specs.Numbers.{extractionOf, bindingOf, foundRecord, recordNumbers, roleNumber, extracting, numberedExtracted, binding, numberedBound};
 
 // What extraction answers: document 01's number and place, 0 and 0 when done; the counts and the signed doubled totals, all 0 after a refusal.
 #[repr(C)]
@@ -131,7 +132,7 @@ fn found_record(found: ContourRecord) -> GuovdamasRecord
 }
 
 fn record_of(answer: Lookup) -> GuovdamasRecord
-    ensures { λ r. ⌜ r ≡ recordOf answer ⌝ }
+    ensures { λ r. ⌜ r ≡ recordNumbers answer ⌝ }
 {
     match answer {
         Lookup::Found(found) => found_record(found),
@@ -165,10 +166,14 @@ pub extern "C" fn guovdamas_extract(
     len: &mut [u32],
     kind: &mut [u8],
 ) -> GuovdamasExtraction
-    ensures { λ r. ⌜ extracting r (buffers (now (state .exit)) (now (points .exit)) (now (first .exit)) (now (len .exit)) (now (kind .exit)))
-        ≡ numberedExtracted (extracted (lent (now (ax .entry)) (now (ay .entry)) (now (bx .entry)) (now (by .entry)) (now («a_id» .entry)) (now («b_id» .entry)) (now (start .entry)) (now (list .entry))) (now (top .entry)) clockwise minimum (buffers (now (state .entry)) (now (points .entry)) (now (first .entry)) (now (len .entry)) (now (kind .entry)))) ⌝ }
+    ensures { λ r. ⌜ (let g : Lent = lent (now (ax .entry)) (now (ay .entry)) (now (bx .entry)) (now (by .entry)) (now («a_id» .entry))
+        (now («b_id» .entry)) (now (start .entry)) (now (list .entry)) in
+        let before : Buffers = buffers (now (state .entry)) (now (points .entry)) (now (first .entry)) (now (len .entry))
+        (now (kind .entry)) in
+        let after : Buffers = buffers (now (state .exit)) (now (points .exit)) (now (first .exit)) (now (len .exit)) (now (kind .exit)) in
+        extracting r after ≡ numberedExtracted (extracted g (now (top .entry)) clockwise minimum before)) ⌝ }
 {
-    let answer = walk::extract(
+    let answer = extract::extract(
         ax,
         ay,
         bx,
@@ -199,7 +204,8 @@ pub extern "C" fn guovdamas_bind(
     clockwise: bool,
     owner: &mut [u16],
 ) -> GuovdamasBinding
-    ensures { λ r. ⌜ binding r (now (owner .exit)) ≡ numberedBound (bound (table (now (points .entry)) (now (first .entry)) (now (len .entry)) (now (kind .entry))) clockwise (now (owner .entry))) ⌝ }
+    ensures { λ r. ⌜ (let t : Table = table (now (points .entry)) (now (first .entry)) (now (len .entry)) (now (kind .entry)) in
+        binding r (now (owner .exit)) ≡ numberedBound (bound t clockwise (now (owner .entry)))) ⌝ }
 {
     let answer = bind::bind(points, first, len, kind, clockwise, owner);
     binding_of(answer)
@@ -215,7 +221,8 @@ pub extern "C" fn guovdamas_lookup(
     owner: &[u16],
     contour: usize,
 ) -> GuovdamasRecord
-    ensures { λ r. ⌜ r ≡ recordOf (lookedUp (table (now (points .entry)) (now (first .entry)) (now (len .entry)) (now (kind .entry))) (now (owner .entry)) contour) ⌝ }
+    ensures { λ r. ⌜ (let t : Table = table (now (points .entry)) (now (first .entry)) (now (len .entry)) (now (kind .entry)) in
+        r ≡ recordNumbers (lookedUp t (now (owner .entry)) contour)) ⌝ }
 {
     record_of(lookup::lookup(points, first, len, kind, owner, contour))
 }

@@ -1,6 +1,6 @@
 -- `guovdamas::record_of` meets its contract: by the answer's case.
 use mathlib.Core.Path.{_≡_, refl, sym, ap, _∙_}
-use Rattle.guovdamas.specs.Numbers.{recordOf}
+use Rattle.guovdamas.specs.Numbers.{recordNumbers}
 use borrow.Author.Needs.{needs}
 use Rattle.guovdamas.proofs.record_of.Statement.{statement}
 use Rattle.guovdamas.proofs.record_of.Tie as tie
@@ -22,11 +22,11 @@ enum-told c = search needs
 
 -- src/lib.rt:112:1
 returns : tie.Need-returns
-returns c = c .found-record .ensures ∙ ap recordOf (sym (c .before .before .answer .given .1))
+returns c = c .found-record .ensures ∙ ap recordNumbers (sym (c .before .before .answer .given .1))
 
 -- src/lib.rt:112:1
 returns-2 : tie.Need-returns-2
-returns-2 c = ap recordOf (sym (c .enum-told .given .1))
+returns-2 c = ap recordNumbers (sym (c .enum-told .given .1))
 
 pub record-of-spec : {M : Type 1} → statement M
 record-of-spec =
