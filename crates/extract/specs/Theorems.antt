@@ -105,7 +105,7 @@ pub record Success (g : Lent) (top : List ℕ) (clockwise : Bool) (minimum : ℕ
   pub points : length (allPoints (graphOf g top) (kept (graphOf g top) minimum found)) ≡ c .points
   pub contours : c .contours + c .rejected ≡ length found
   -- the two totals together are the total over all walks
-  pub totals : c .kept +ℤ c .lost ≡ total (areas (graphOf g top) found)
+  pub totals : c .«kept_area» +ℤ c .«rejected_area» ≡ total (areas (graphOf g top) found)
 
 module _ (g : Lent) (top : List ℕ) (cw : Bool) (minimum : ℕ) (b : Buffers) (c : Counts) where
   abbrev G : Graph
@@ -134,7 +134,7 @@ module _ (g : Lent) (top : List ℕ) (cw : Bool) (minimum : ℕ) (b : Buffers) (
         other-states = λ j n. ⊎-elim (λ p. p) (λ p. absurd (true≢false (eq-eqb _ _ (p .0)) n)) (became j);
         points = subst (λ (x : Counts). length (allPoints G (kept G minimum ws)) ≡ x .points) k (all-points-length G (kept G minimum ws));
         contours = subst (λ (x : Counts). x .contours + x .rejected ≡ length ws) k (kept-or-rejected G minimum ws);
-        totals = subst (λ (x : Counts). x .kept +ℤ x .lost ≡ total (areas G ws)) k (kept-and-rejected G minimum ws);
+        totals = subst (λ (x : Counts). x .«kept_area» +ℤ x .«rejected_area» ≡ total (areas G ws)) k (kept-and-rejected G minimum ws);
       }
 
   by-checks : (k : Checked) → extracted g top cw minimum b ≡ afterChecks G cw minimum b k → afterChecks G cw minimum b k .answer ≡ Done c → Success g top cw minimum b c

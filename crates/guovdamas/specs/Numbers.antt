@@ -28,8 +28,8 @@ extractionOf (Done c) = record {
   points = c .points;
   rejected = c .rejected;
   walked = c .walked;
-  «kept_area» = c .kept;
-  «rejected_area» = c .lost;
+  «kept_area» = c .«kept_area»;
+  «rejected_area» = c .«rejected_area»;
 }
 extractionOf (Refused number place) = record {
   number = number;

@@ -57,8 +57,8 @@ fn extraction_of(answer: Extraction) -> GuovdamasExtraction
             points: counts.points,
             rejected: counts.rejected,
             walked: counts.walked,
-            kept_area: counts.kept,
-            rejected_area: counts.lost,
+            kept_area: counts.kept_area,
+            rejected_area: counts.rejected_area,
         },
         Extraction::Refused { number, place } => GuovdamasExtraction {
             number: number,

@@ -12,7 +12,7 @@ use Rattle.turn.specs.Limits.{maxLinks}
 use Rattle.turn.specs.Area.{wedgeBound}
 use Rattle.turn.specs.Size.{isKept}
 use Rattle.keep.specs.declared.Counts.{Counts}
-use Rattle.keep.specs.Tables.{Tables, tables, enter, enterKept, enterLost}
+use Rattle.keep.specs.Tables.{Tables, tables, enter, enterKept, enterRejected}
 
 -- an area of so many points
 pub area-fits : (x : ℤ) (n : ℕ) → natAbs x ≤ n * (2 * wedgeBound) → n ≤ maxLinks → natAbs x < 9223372036854775808
@@ -25,13 +25,13 @@ module _ (minimum : ℕ) (hole : Bool) (size : ℕ) (a : ℤ) (t : Tables) (b : 
       → r ≡ enterKept true size b (tables [] [] [] [] (t .counts)) .counts → tables (t .points) first len kind r ≡ enter minimum hole size a t
   note-kept first len kind k f l i q =
       subst (λ x. tables (t .points) first len kind r ≡ enter minimum hole size x t) e
-      (subst (λ c. tables (t .points) first len kind r ≡ pick c (enterKept hole size b t) (enterLost size b t)) (sym k)
+      (subst (λ c. tables (t .points) first len kind r ≡ pick c (enterKept hole size b t) (enterRejected size b t)) (sym k)
       (λ j. tables (t .points) (f j) (l j) (i j) (q j)))
 
-  pub note-lost : isKept size b minimum ≡ false → r ≡ enterLost size b (tables [] [] [] [] (t .counts)) .counts → tables (t .points) (t .first) (t .len) (t .kind) r ≡ enter minimum hole size a t
-  note-lost k q =
+  pub note-rejected : isKept size b minimum ≡ false → r ≡ enterRejected size b (tables [] [] [] [] (t .counts)) .counts → tables (t .points) (t .first) (t .len) (t .kind) r ≡ enter minimum hole size a t
+  note-rejected k q =
       subst (λ x. tables (t .points) (t .first) (t .len) (t .kind) r ≡ enter minimum hole size x t) e
-      (subst (λ c. tables (t .points) (t .first) (t .len) (t .kind) r ≡ pick c (enterKept hole size b t) (enterLost size b t)) (sym k)
+      (subst (λ c. tables (t .points) (t .first) (t .len) (t .kind) r ≡ pick c (enterKept hole size b t) (enterRejected size b t)) (sym k)
       (λ j. tables (t .points) (t .first) (t .len) (t .kind) (q j)))
 
 -- a part of the points, and the bound of its area

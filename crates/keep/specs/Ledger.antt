@@ -19,7 +19,7 @@ use Rattle.graph.specs.Graph.{Graph}
 use Rattle.walk.specs.Walk.{Walk, points, left}
 use Rattle.keep.specs.Outcome.{areaOf, kept, rejected, lens, firsts, kinds, allPoints, coordinates, sum, total, areas, countsOf}
 use Rattle.walk.specs.Code.{put, paste}
-use Rattle.keep.specs.Tables.{Tables, tables, enterKept, enterLost, withPoints, allNoted, noCounts}
+use Rattle.keep.specs.Tables.{Tables, tables, enterKept, enterRejected, withPoints, allNoted, noCounts}
 
 -- ---- points that are pasted
 pub coordinates-length : (l : List Point) → length (coordinates l) ≡ length l * 2
@@ -87,8 +87,8 @@ pub record Entered (g : Graph) (t : Tables) (ks rs ws : List Walk) (t′ : Table
   pub count : t′ .counts .points ≡ t .counts .points + sum (lens ks)
   pub rejects : t′ .counts .rejected ≡ t .counts .rejected + length rs
   pub walked : t′ .counts .walked ≡ t .counts .walked + sum (lens ws)
-  pub kept-total : t′ .counts .kept ≡ t .counts .kept +ℤ total (areas g ks)
-  pub lost-total : t′ .counts .lost ≡ t .counts .lost +ℤ total (areas g rs)
+  pub kept-total : t′ .counts .«kept_area» ≡ t .counts .«kept_area» +ℤ total (areas g ks)
+  pub rejected-total : t′ .counts .«rejected_area» ≡ t .counts .«rejected_area» +ℤ total (areas g rs)
   pub points-are : take (t′ .counts .points * 2) (t′ .points) ≡ take (t .counts .points * 2) (t .points) ++ coordinates (allPoints g ks)
   pub first-are : take (t′ .counts .contours) (t′ .first) ≡ take (t .counts .contours) (t .first) ++ firsts (t .counts .points) (lens ks)
   pub len-are : take (t′ .counts .contours) (t′ .len) ≡ take (t .counts .contours) (t .len) ++ lens ks
@@ -115,8 +115,8 @@ none-entered g t = record {
   count = add-zero′ (t .counts .points);
   rejects = add-zero′ (t .counts .rejected);
   walked = add-zero′ (t .counts .walked);
-  kept-total = sym (+ℤ-idr (t .counts .kept));
-  lost-total = sym (+ℤ-idr (t .counts .lost));
+  kept-total = sym (+ℤ-idr (t .counts .«kept_area»));
+  rejected-total = sym (+ℤ-idr (t .counts .«rejected_area»));
   points-are = sym (append-nil (take (t .counts .points * 2) (t .points)));
   first-are = sym (append-nil (take (t .counts .contours) (t .first)));
   len-are = sym (append-nil (take (t .counts .contours) (t .len)));
@@ -156,8 +156,8 @@ module _ (g : Graph) (minimum : ℕ) (t : Tables) (w : Walk) (ks rs ws : List Wa
         count = omega (arith, h .count);
         rejects = h .rejects;
         walked = omega (arith, h .walked);
-        kept-total = h .kept-total ∙ +ℤ-assoc (t .counts .kept) (areaOf g w) _;
-        lost-total = h .lost-total;
+        kept-total = h .kept-total ∙ +ℤ-assoc (t .counts .«kept_area») (areaOf g w) _;
+        rejected-total = h .rejected-total;
         points-are = h .points-are ∙ ap (λ (r : List ℤ). r ++ coordinates (allPoints g ks)) p ∙ append-assoc (take (t .counts .points * 2) (t .points)) (coordinates (points g w)) (coordinates (allPoints g ks))
             ∙ ap (λ (r : List ℤ). take (t .counts .points * 2) (t .points) ++ r) (sym (coordinates-append (points g w) (allPoints g ks)));
         first-are = h .first-are ∙ ap (λ (r : List ℕ). r ++ firsts (t .counts .points + size) (lens ks)) (one-more (t .first) (t .counts .contours) _ i) ∙ append-assoc (take (t .counts .contours) (t .first)) _ _;
@@ -169,14 +169,14 @@ module _ (g : Graph) (minimum : ℕ) (t : Tables) (w : Walk) (ks rs ws : List Wa
         kind-length = h .kind-length ∙ length-set (t .kind) _ _;
       }
 
-  lost-entered : (t′ : Tables) → Entered g (enterLost size (areaOf g w) pasted) ks rs ws t′ → Entered g t ks (w ∷ rs) (w ∷ ws) t′
-  lost-entered t′ h = record {
+  rejected-entered : (t′ : Tables) → Entered g (enterRejected size (areaOf g w) pasted) ks rs ws t′ → Entered g t ks (w ∷ rs) (w ∷ ws) t′
+  rejected-entered t′ h = record {
     contours = h .contours;
     count = h .count;
     rejects = omega (arith, h .rejects);
     walked = omega (arith, h .walked);
     kept-total = h .kept-total;
-    lost-total = h .lost-total ∙ +ℤ-assoc (t .counts .lost) (areaOf g w) _;
+    rejected-total = h .rejected-total ∙ +ℤ-assoc (t .counts .«rejected_area») (areaOf g w) _;
     points-are = h .points-are ∙ ap (λ (r : List ℤ). r ++ coordinates (allPoints g ks)) (paste-past (t .points) (t .counts .points) (points g w));
     first-are = h .first-are;
     len-are = h .len-are;
@@ -198,8 +198,8 @@ module _ (g : Graph) (minimum : ℕ) (t : Tables) (w : Walk) (ks rs ws : List Wa
         kind-fit = length-set (t .kind) _ _ ∙ f .kind-fit ∙ sym (length-set (t .first) _ _);
       }
 
-  lost-fits : Fits t (w ∷ ws) → Fits (enterLost size (areaOf g w) pasted) ws
-  lost-fits f = record {
+  rejected-fits : Fits t (w ∷ ws) → Fits (enterRejected size (areaOf g w) pasted) ws
+  rejected-fits f = record {
     points-fit = rw (paste-length (t .points) (t .counts .points) (points g w)) (omega (arith, f .points-fit));
     threes = f .threes;
     first-fit = omega (arith, f .first-fit);
@@ -212,9 +212,9 @@ by-size : (g : Graph) (minimum : ℕ) (t : Tables) (w : Walk) (ws : List Walk)
     → Fits t (w ∷ ws) → (b : Bool) → isKept (length (w .steps)) (areaOf g w) minimum ≡ b
     → Entered g t (pick b (w ∷ kept g minimum ws) (kept g minimum ws)) (pick b (rejected g minimum ws) (w ∷ rejected g minimum ws)) (w ∷ ws)
     (allNoted g minimum (pick b (enterKept (w .hole) (length (w .steps)) (areaOf g w) (withPoints t (paste (t .points) (t .counts .points) (points g w))))
-    (enterLost (length (w .steps)) (areaOf g w) (withPoints t (paste (t .points) (t .counts .points) (points g w))))) ws)
+    (enterRejected (length (w .steps)) (areaOf g w) (withPoints t (paste (t .points) (t .counts .points) (points g w))))) ws)
 by-size g minimum t w ws h f true e = kept-entered g minimum t w _ _ ws _ e f (h _ (kept-fits g minimum t w [] [] ws e f))
-by-size g minimum t w ws h f false e = lost-entered g minimum t w _ _ ws _ (h _ (lost-fits g minimum t w [] [] ws f))
+by-size g minimum t w ws h f false e = rejected-entered g minimum t w _ _ ws _ (h _ (rejected-fits g minimum t w [] [] ws f))
 
 pub entered : (g : Graph) (minimum : ℕ) (t : Tables) (ws : List Walk) → Fits t ws → Entered g t (kept g minimum ws) (rejected g minimum ws) ws (allNoted g minimum t ws)
 entered g minimum t [] f = none-entered g t
@@ -262,11 +262,11 @@ module _ (g : Graph) (minimum : ℕ) (ws : List Walk) (pts : List ℤ) (first le
       let count : t .counts .points ≡ sum (lens ks) = h .count ∙ nought (sum (lens ks)) in
       let rejects : t .counts .rejected ≡ length (rejected g minimum ws) = h .rejects ∙ nought (length (rejected g minimum ws)) in
       let walked : t .counts .walked ≡ sum (lens ws) = h .walked ∙ nought (sum (lens ws)) in
-      let kept-total : t .counts .kept ≡ total (areas g ks) = h .kept-total ∙ +ℤ-idl (total (areas g ks)) in
-      let lost-total : t .counts .lost ≡ total (areas g (rejected g minimum ws)) = h .lost-total ∙ +ℤ-idl (total (areas g (rejected g minimum ws))) in
+      let kept-total : t .counts .«kept_area» ≡ total (areas g ks) = h .kept-total ∙ +ℤ-idl (total (areas g ks)) in
+      let rejected-total : t .counts .«rejected_area» ≡ total (areas g (rejected g minimum ws)) = h .rejected-total ∙ +ℤ-idl (total (areas g (rejected g minimum ws))) in
       let many : length (lens ks) ≡ length ks = length-map ks (λ w. length (w .steps)) in
       record {
-        counts-are = λ i. record { contours = contours i; points = count i; rejected = rejects i; walked = walked i; kept = kept-total i; lost = lost-total i };
+        counts-are = λ i. record { contours = contours i; points = count i; rejected = rejects i; walked = walked i; «kept_area» = kept-total i; «rejected_area» = rejected-total i };
         points-are = padded-is (pos 0) (t .counts .points * 2) (t .points) (coordinates (allPoints g ks)) (length pts) (h .points-are) (coordinates-length (allPoints g ks) ∙ ap (λ n. n * 2) (all-points-length g ks ∙ sym count)) (h .points-length);
         first-are = padded-is 0 (t .counts .contours) (t .first) (firsts 0 (lens ks)) (length first) (h .first-are) (firsts-length 0 (lens ks) ∙ many ∙ sym contours) (h .first-length);
         len-are = padded-is 0 (t .counts .contours) (t .len) (lens ks) (length len) (h .len-are) (many ∙ sym contours) (h .len-length);

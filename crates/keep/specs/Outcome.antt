@@ -69,6 +69,6 @@ countsOf g minimum ws = record {
   points = sum (lens (kept g minimum ws));
   rejected = length (rejected g minimum ws);
   walked = sum (lens ws);
-  kept = total (areas g (kept g minimum ws));
-  lost = total (areas g (rejected g minimum ws));
+  «kept_area» = total (areas g (kept g minimum ws));
+  «rejected_area» = total (areas g (rejected g minimum ws));
 }

@@ -37,23 +37,23 @@ enterKept hole size area t = tables (t .points)
       points = t .counts .points + size;
       rejected = t .counts .rejected;
       walked = t .counts .walked + size;
-      kept = t .counts .kept +ℤ area;
-      lost = t .counts .lost;
+      «kept_area» = t .counts .«kept_area» +ℤ area;
+      «rejected_area» = t .counts .«rejected_area»;
     })
 
-abbrev pub enterLost : ℕ → ℤ → Tables → Tables
-enterLost size area t = tables (t .points) (t .first) (t .len) (t .kind)
+abbrev pub enterRejected : ℕ → ℤ → Tables → Tables
+enterRejected size area t = tables (t .points) (t .first) (t .len) (t .kind)
     (record {
       contours = t .counts .contours;
       points = t .counts .points;
       rejected = t .counts .rejected + 1;
       walked = t .counts .walked + size;
-      kept = t .counts .kept;
-      lost = t .counts .lost +ℤ area;
+      «kept_area» = t .counts .«kept_area»;
+      «rejected_area» = t .counts .«rejected_area» +ℤ area;
     })
 
 abbrev pub enter : ℕ → Bool → ℕ → ℤ → Tables → Tables
-enter minimum hole size area t = pick (isKept size area minimum) (enterKept hole size area t) (enterLost size area t)
+enter minimum hole size area t = pick (isKept size area minimum) (enterKept hole size area t) (enterRejected size area t)
 
 abbrev pub withPoints : Tables → List ℤ → Tables
 withPoints t pts = tables pts (t .first) (t .len) (t .kind) (t .counts)
@@ -69,7 +69,7 @@ allNoted g minimum t (w ∷ ws) = allNoted g minimum (noted g minimum t w) ws
 
 -- before the first walk
 abbrev pub noCounts : Counts
-noCounts = record { contours = 0; points = 0; rejected = 0; walked = 0; kept = pos 0; lost = pos 0 }
+noCounts = record { contours = 0; points = 0; rejected = 0; walked = 0; «kept_area» = pos 0; «rejected_area» = pos 0 }
 
 -- what the counts stay within, for n links, so many of them unvisited
 pub record Within (n rest : ℕ) (c : Counts) : Type 0 where
@@ -77,8 +77,8 @@ pub record Within (n rest : ℕ) (c : Counts) : Type 0 where
   pub points : c .points ≤ c .walked
   pub contours : c .contours * 3 ≤ c .points
   pub rejected : c .rejected ≤ c .walked
-  pub kept : natAbs (c .kept) ≤ c .walked * (2 * wedgeBound)
-  pub lost : natAbs (c .lost) ≤ c .walked * (2 * wedgeBound)
+  pub kept-area : natAbs (c .«kept_area») ≤ c .walked * (2 * wedgeBound)
+  pub rejected-area : natAbs (c .«rejected_area») ≤ c .walked * (2 * wedgeBound)
 
 -- a sum of two bounded so is bounded so
 pub sum-within : (x y : ℤ) (m n : ℕ) → natAbs x ≤ m * (2 * wedgeBound) → natAbs y ≤ n * (2 * wedgeBound) → natAbs (x +ℤ y) ≤ (m + n) * (2 * wedgeBound)

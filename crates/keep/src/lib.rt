@@ -9,16 +9,16 @@ ghost use Rattle.laws.specs.Test.{pick};
 ghost use Rattle.turn.specs.Limits.{maxLinks};
 ghost use Rattle.turn.specs.Points.{Grid};
 ghost use Rattle.turn.specs.Area.{area, pointsOf, wedgeBound};
-ghost use Rattle.keep.specs.Tables.{Tables, tables, enterKept, enterLost, enter, Within};
+ghost use Rattle.keep.specs.Tables.{Tables, tables, enterKept, enterRejected, enter, Within};
 
-// What extraction returns on success. `kept` and `lost` are the signed doubled totals of kept and of rejected walks.
+// What extraction returns on success. `kept_area` and `rejected_area` are the signed doubled totals of kept and of rejected walks.
 pub struct Counts {
     pub contours: usize,
     pub points: usize,
     pub rejected: usize,
     pub walked: usize,
-    pub kept: i64,
-    pub lost: i64,
+    pub kept_area: i64,
+    pub rejected_area: i64,
 }
 
 // The counts with one contour more.
@@ -26,32 +26,32 @@ fn kept_counts(size: usize, area: i64, c: Counts) -> Counts
     requires { ⌜ (Within maxLinks size c) × (natAbs area ≤ size * (2 * wedgeBound)) ⌝ }
     ensures { λ r. ⌜ r ≡ enterKept true size area (tables [] [] [] [] c) .counts ⌝ }
 {
-    let kept = c.kept + area;
-    let lost = c.lost;
+    let kept_area = c.kept_area + area;
+    let rejected_area = c.rejected_area;
     Counts {
         contours: c.contours + 1,
         points: c.points + size,
         rejected: c.rejected,
         walked: c.walked + size,
-        kept: kept,
-        lost: lost,
+        kept_area: kept_area,
+        rejected_area: rejected_area,
     }
 }
 
 // The counts with one rejected walk more.
-fn lost_counts(size: usize, area: i64, c: Counts) -> Counts
+fn rejected_counts(size: usize, area: i64, c: Counts) -> Counts
     requires { ⌜ (Within maxLinks size c) × (natAbs area ≤ size * (2 * wedgeBound)) ⌝ }
-    ensures { λ r. ⌜ r ≡ enterLost size area (tables [] [] [] [] c) .counts ⌝ }
+    ensures { λ r. ⌜ r ≡ enterRejected size area (tables [] [] [] [] c) .counts ⌝ }
 {
-    let kept = c.kept;
-    let lost = c.lost + area;
+    let kept_area = c.kept_area;
+    let rejected_area = c.rejected_area + area;
     Counts {
         contours: c.contours,
         points: c.points,
         rejected: c.rejected + 1,
         walked: c.walked + size,
-        kept: kept,
-        lost: lost,
+        kept_area: kept_area,
+        rejected_area: rejected_area,
     }
 }
 
@@ -109,5 +109,5 @@ pub fn note_walk(
         enter_contour(first, len, kind, hole, c.contours, at, size);
         return kept_counts(size, area, c);
     }
-    lost_counts(size, area, c)
+    rejected_counts(size, area, c)
 }

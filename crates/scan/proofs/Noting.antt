@@ -29,7 +29,7 @@ use Rattle.scan.specs.Scan.{senseOf, walkOf}
 use Rattle.keep.specs.Outcome.{coordinates}
 use Rattle.keep.specs.Ledger.{paste-part, points-back, kept-three}
 use Rattle.walk.specs.Code.{paste, plain, Shape, Marks, WalkLeaves}
-use Rattle.keep.specs.Tables.{Tables, tables, enter, enterKept, enterLost, withPoints, noted, Within}
+use Rattle.keep.specs.Tables.{Tables, tables, enter, enterKept, enterRejected, withPoints, noted, Within}
 use Rattle.scan.specs.Notes.{WalkNoted, FirstNoted, Fewer}
 use Rattle.walk.specs.Tops.{from-tops}
 
@@ -97,7 +97,7 @@ module _ (minimum : ℕ) (hole : Bool) (n size rest : ℕ) (a : ℤ) (t : Tables
   pub within-enter : Within n rest (enter minimum hole size a t .counts)
   within-enter = by (isKept size a minimum) refl
     where
-      by : (k : Bool) → isKept size a minimum ≡ k → Within n rest (pick k (enterKept hole size a t) (enterLost size a t) .counts)
+      by : (k : Bool) → isKept size a minimum ≡ k → Within n rest (pick k (enterKept hole size a t) (enterRejected size a t) .counts)
       by true e =
           let three = kept-three size a minimum e in
           record {
@@ -105,16 +105,16 @@ module _ (minimum : ℕ) (hole : Bool) (n size rest : ℕ) (a : ℤ) (t : Tables
             points = omega (arith, w .points);
             contours = omega (arith, w .contours, three);
             rejected = omega (arith, w .rejected);
-            kept = sum-within (t .counts .kept) a (t .counts .walked) size (w .kept) b;
-            lost = omega (arith, w .lost);
+            kept-area = sum-within (t .counts .«kept_area») a (t .counts .walked) size (w .kept-area) b;
+            rejected-area = omega (arith, w .rejected-area);
           }
       by false e = record {
         links = omega (arith, w .links);
         points = omega (arith, w .points);
         contours = w .contours;
         rejected = omega (arith, w .rejected);
-        kept = omega (arith, w .kept);
-        lost = sum-within (t .counts .lost) a (t .counts .walked) size (w .lost) b;
+        kept-area = omega (arith, w .kept-area);
+        rejected-area = sum-within (t .counts .«rejected_area») a (t .counts .walked) size (w .rejected-area) b;
       }
 
 pub within-less : (n m more rest : ℕ) (c : Counts) → Within n more c → rest ≤ more → n ≤ m → Within m rest c
@@ -123,8 +123,8 @@ within-less n m more rest c w h k = record {
   points = w .points;
   contours = w .contours;
   rejected = w .rejected;
-  kept = w .kept;
-  lost = w .lost;
+  kept-area = w .kept-area;
+  rejected-area = w .rejected-area;
 }
 
 -- ---- one walk noted

@@ -155,7 +155,7 @@ none-yet g cw minimum st pts first len kind = record {
   passed = λ j h. absurd (nothing j h);
   in-links = omega arith;
   all-links = refl;
-  within = record { links = omega (arith, unvisited-some st); points = omega arith; contours = omega arith; rejected = omega arith; kept = omega arith; lost = omega arith };
+  within = record { links = omega (arith, unvisited-some st); points = omega arith; contours = omega arith; rejected = omega arith; kept-area = omega arith; rejected-area = omega arith };
   kept = kept-none st;
   points-length = refl;
   first-length = refl;

@@ -207,8 +207,8 @@ pub fn scan_links(
         points: 0,
         rejected: 0,
         walked: 0,
-        kept: 0,
-        lost: 0,
+        kept_area: 0,
+        rejected_area: 0,
     };
     while k < n {
         if state[k] != 0 {

@@ -25,7 +25,7 @@ roomIn b = room (length (b .points)) (length (b .first)) (length (b .len)) (leng
 pub record Answered (g : Lent) (top : List ℕ) (cw : Bool) (minimum : ℕ) (b : Buffers) : Type 0 where
   pub counts : Counts
   pub done : extracted g top cw minimum b .answer ≡ Done counts
-  pub total : counts .kept +ℤ counts .lost ≡ linkTotal (graphOf g top) cw (b .state)
+  pub total : counts .«kept_area» +ℤ counts .«rejected_area» ≡ linkTotal (graphOf g top) cw (b .state)
   pub walked : counts .walked ≡ unvisited (b .state)
 
 pub answered : (g : Lent) (top : List ℕ) (cw : Bool) (minimum : ℕ) (b : Buffers) → checked g top (b .state) (roomIn b) ≡ check.Fine → ComesByTurns (graphOf g top) (b .state) → Answered g top cw minimum b

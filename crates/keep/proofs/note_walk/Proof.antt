@@ -8,14 +8,14 @@ use mir.Syntax.{w64}
 use mir.Val.{toZ, ofZ}
 use Rattle.laws.specs.Bounds.{same64}
 use Rattle.turn.specs.Area.{wedgeBound}
-use Rattle.keep.proofs.Counting.{note-kept, note-lost, part-bound, part-short, area-fits}
+use Rattle.keep.proofs.Counting.{note-kept, note-rejected, part-bound, part-short, area-fits}
 use Rattle.keep.proofs.note_walk.Statement.{statement}
 use Rattle.keep.proofs.note_walk.Tie as tie
 use Rattle.keep.proofs.note_walk.Reads as reads
 use Rattle.keep.proofs.note_walk.Lts as lts
 use Rattle.keep.proofs.enter_contour.Reads as enter-contour-reads
 use Rattle.keep.proofs.kept_counts.Reads as kept-counts-reads
-use Rattle.keep.proofs.lost_counts.Reads as lost-counts-reads
+use Rattle.keep.proofs.rejected_counts.Reads as rejected-counts-reads
 use Rattle.keep.specs.Tables.{tables}
 use Rattle.keep.specs.Ledger.{kept-three}
 use borrow.Author.Needs.{needs}
@@ -93,15 +93,15 @@ returns c =
     note-kept (s .args .minimum) (s .args .hole) (size s) _ (tables (s .args .points .now) (s .args .first .now) (s .args .len .now) (s .args .kind .now) (s .args .c)) _ _ (d .doubled-area .ensures .0) _ _ _
     (sym (rw (whole d) at (c .before .before .before .before .before .before .before .before .before .before .before .before .is-kept .ensures)) ∙ c .before .before .before .before .before .before .before .before .before .before .before .if1 .taken) (o .enter-contour .ensures .0) (o .enter-contour .ensures .1 .0) (o .enter-contour .ensures .1 .1) (rw (whole d) at (c .kept-counts .ensures))
 
-lost-counts-requires : tie.Need-lost-counts-requires
-lost-counts-requires c κs = let d = c .before .before in (at-start d .pre .0 .2, rw (whole d) (bound d))
+rejected-counts-requires : tie.Need-rejected-counts-requires
+rejected-counts-requires c κs = let d = c .before .before in (at-start d .pre .0 .2, rw (whole d) (bound d))
 
 returns-2 : tie.Need-returns-2
 returns-2 c =
     let d = c .before .before .before in
     let s = at-start d in
-    note-lost (s .args .minimum) (s .args .hole) (size s) _ (tables (s .args .points .now) (s .args .first .now) (s .args .len .now) (s .args .kind .now) (s .args .c)) _ _ (d .doubled-area .ensures .0)
-    (sym (rw (whole d) at (c .before .before .is-kept .ensures)) ∙ c .before .if1 .left) (rw (whole d) at (c .lost-counts .ensures))
+    note-rejected (s .args .minimum) (s .args .hole) (size s) _ (tables (s .args .points .now) (s .args .first .now) (s .args .len .now) (s .args .kind .now) (s .args .c)) _ _ (d .doubled-area .ensures .0)
+    (sym (rw (whole d) at (c .before .before .is-kept .ensures)) ∙ c .before .if1 .left) (rw (whole d) at (c .rejected-counts .ensures))
 
 pub note-walk-spec : {M : Type 1} → statement M
 note-walk-spec =
@@ -122,5 +122,5 @@ note-walk-spec =
     same-length-2
     same-length-3
     returns
-    lost-counts-requires
+    rejected-counts-requires
     returns-2)
