@@ -8,6 +8,7 @@ ghost use Rattle.scan.specs.Scan.{scan};
 ghost use Rattle.extract.specs.Extract.{extractedAs, afterScan, extracted};
 ghost use Rattle.finish.specs.Finish.{Buffers, buffers};
 use scan::Extraction;
+use scan::Settings;
 use turn::Checked;
 
 // Extraction of a graph that passes checks 1 to 7.
@@ -21,8 +22,7 @@ fn extract_fine(
     start: &[u32],
     list: &[u32],
     top: &[u8],
-    clockwise: bool,
-    minimum: u64,
+    settings: Settings,
     state: &mut [u8],
     points: &mut [i32],
     first: &mut [u32],
@@ -37,7 +37,7 @@ fn extract_fine(
         let before : Buffers = buffers (now (state .entry)) (now (points .entry)) (now (first .entry)) (now (len .entry))
         (now (kind .entry)) in
         let after : Buffers = buffers (now (state .exit)) (now (points .exit)) (now (first .exit)) (now (len .exit)) (now (kind .exit)) in
-        extractedAs r after ≡ afterScan graph minimum before (scan graph clockwise (now (state .entry)))) ⌝ }
+        extractedAs r after ≡ afterScan graph (settings .minimum) before (scan graph (settings .clockwise) (now (state .entry)))) ⌝ }
 {
     let answer = scan::scan_links(
         ax,
@@ -49,8 +49,7 @@ fn extract_fine(
         start,
         list,
         top,
-        clockwise,
-        minimum,
+        settings,
         state,
         points,
         first,
@@ -117,8 +116,10 @@ pub fn extract(
             start,
             list,
             top,
-            clockwise,
-            minimum,
+            Settings {
+                clockwise: clockwise,
+                minimum: minimum,
+            },
             state,
             points,
             first,

@@ -12,12 +12,19 @@ ghost use Rattle.keep.specs.Tables.{Tables, tables, Within, noCounts};
 ghost use Rattle.scan.specs.Notes.{WalkNoted, FirstNoted, Fewer, Ends, Roomy, ScanLeaves};
 use keep::Counts;
 use next::Next;
+use walk::Course;
 use walk::Ended;
 
 // The answer of extraction.
 pub enum Extraction {
     Done(Counts),
     Refused { number: u32, place: usize },
+}
+
+// How outlines are asked for: the output direction, and the area below which a walk is rejected.
+pub struct Settings {
+    pub clockwise: bool,
+    pub minimum: u64,
 }
 
 // What becomes of a walk of the scan: entered in the table or the counts, or refused with a number.
@@ -49,8 +56,7 @@ fn note_contour(
     bid: &[u32],
     start: &[u32],
     list: &[u32],
-    clockwise: bool,
-    minimum: u64,
+    settings: Settings,
     hole: bool,
     state: &mut [u8],
     points: &mut [i32],
@@ -68,13 +74,18 @@ fn note_contour(
         (now (bid .entry)) (now (start .entry)) (now (list .entry)) in
         let graph : Graph = plain g in
         let before : Tables = tables (now (points .entry)) (now (first .entry)) (now (len .entry)) (now (kind .entry)) c in
-        WalkNoted graph minimum before hole
-        (walkFrom graph (not (Bool·beq hole clockwise)) (Bool·beq hole clockwise) (markOf hole) (now (state .entry)) s) r
+        WalkNoted graph (settings .minimum) before hole
+        (walkFrom graph (not (Bool·beq hole (settings .clockwise))) (Bool·beq hole (settings .clockwise)) (markOf hole) (now (state .entry)) s) r
         (now (state .exit)) (now (points .exit)) (now (first .exit)) (now (len .exit)) (now (kind .exit))) ⌝ }
     ensures { λ r. ⌜ Fewer (length (now (state .entry))) (now (state .entry)) (now (state .exit)) r ⌝ }
     ensures { λ _. ⌜ Kept (now (state .entry)) (now (state .exit)) ⌝ }
 {
-    let sense = same(hole, clockwise);
+    let sense = same(hole, settings.clockwise);
+    let course = Course {
+        forward: !sense,
+        sense: sense,
+        mark: mark_of(hole),
+    };
     let at = c.points;
     match walk::find_contour(
         ax,
@@ -85,9 +96,7 @@ fn note_contour(
         bid,
         start,
         list,
-        !sense,
-        sense,
-        mark_of(hole),
+        course,
         state,
         points,
         at,
@@ -100,7 +109,7 @@ fn note_contour(
             len,
             kind,
             hole,
-            minimum,
+            settings.minimum,
             to,
             c,
         )),
@@ -118,8 +127,7 @@ fn scan_walk(
     start: &[u32],
     list: &[u32],
     top: &[u8],
-    clockwise: bool,
-    minimum: u64,
+    settings: Settings,
     state: &mut [u8],
     points: &mut [i32],
     first: &mut [u32],
@@ -136,7 +144,7 @@ fn scan_walk(
         (now (bid .entry)) (now (start .entry)) (now (list .entry)) in
         let graph : Graph = graphOf g (now (top .entry)) in
         let before : Tables = tables (now (points .entry)) (now (first .entry)) (now (len .entry)) (now (kind .entry)) c in
-        FirstNoted graph clockwise minimum before (now (state .entry)) (firstLink graph (now (state .entry)) k) r (now (state .exit))
+        FirstNoted graph (settings .clockwise) (settings .minimum) before (now (state .entry)) (firstLink graph (now (state .entry)) k) r (now (state .exit))
         (now (points .exit)) (now (first .exit)) (now (len .exit)) (now (kind .exit))) ⌝ }
     ensures { λ r. ⌜ Fewer (length (now (state .entry))) (now (state .entry)) (now (state .exit)) r ⌝ }
     ensures { λ _. ⌜ Kept (now (state .entry)) (now (state .exit)) ⌝ }
@@ -154,8 +162,7 @@ fn scan_walk(
                 bid,
                 start,
                 list,
-                clockwise,
-                minimum,
+                settings,
                 hole,
                 state,
                 points,
@@ -180,8 +187,7 @@ pub fn scan_links(
     start: &[u32],
     list: &[u32],
     top: &[u8],
-    clockwise: bool,
-    minimum: u64,
+    settings: Settings,
     state: &mut [u8],
     points: &mut [i32],
     first: &mut [u32],
@@ -195,7 +201,7 @@ pub fn scan_links(
         (now (bid .entry)) (now (start .entry)) (now (list .entry)) in
         let graph : Graph = graphOf g (now (top .entry)) in
         let before : Tables = tables (now (points .entry)) (now (first .entry)) (now (len .entry)) (now (kind .entry)) noCounts in
-        ScanLeaves graph minimum before (scan graph clockwise (now (state .entry))) r (now (state .exit)) (now (points .exit))
+        ScanLeaves graph (settings .minimum) before (scan graph (settings .clockwise) (now (state .entry))) r (now (state .exit)) (now (points .exit))
         (now (first .exit)) (now (len .exit)) (now (kind .exit))) ⌝ }
     ensures { λ r. ⌜ Ends (length (now (state .entry))) r ⌝ }
     ensures { λ _. ⌜ Kept (now (state .entry)) (now (state .exit)) ⌝ }
@@ -225,8 +231,7 @@ pub fn scan_links(
             start,
             list,
             top,
-            clockwise,
-            minimum,
+            settings,
             state,
             points,
             first,

@@ -20,6 +20,13 @@ pub enum Ended {
     Stuck(u32),
 }
 
+// How a walk goes: forward along its first link or backward, the sense in which it turns, and the mark that it leaves.
+pub struct Course {
+    pub forward: bool,
+    pub sense: bool,
+    pub mark: u8,
+}
+
 // Where a walk stands: the link just walked, the node reached, and how many points are written.
 struct Walker {
     link: usize,
@@ -175,30 +182,42 @@ fn one_step(
     bid: &[u32],
     start: &[u32],
     list: &[u32],
-    sense: bool,
-    mark: u8,
+    course: Course,
     state: &mut [u8],
     points: &mut [i32],
     w: Walker,
 ) -> Stepped
     requires { ⌜ (let g : Lent = lent (now ax) (now ay) (now bx) (now by) (now aid) (now bid) (now start) (now list) in
         Shape g (length (now state))) ⌝ }
-    requires { ⌜ (w .node + 1 < length (now start)) × (w .link < length (now state)) × (Marks mark) ⌝ }
+    requires { ⌜ (w .node + 1 < length (now start)) × (w .link < length (now state)) × (Marks (course .mark)) ⌝ }
     requires { ⌜ (w .written + unvisited (now state)) * 2 ≤ length (now points) ⌝ }
     ensures { λ r. ⌜ (let g : Lent = lent (now (ax .entry)) (now (ay .entry)) (now (bx .entry)) (now (by .entry)) (now (aid .entry))
         (now (bid .entry)) (now (start .entry)) (now (list .entry)) in
-        stepOut r (now (state .exit)) (now (points .exit)) ≡ stepOf (plain g) sense mark (now (state .entry)) (now (points .entry)) w) ⌝ }
+        stepOut r (now (state .exit)) (now (points .exit)) ≡ stepOf (plain g) (course .sense) (course .mark) (now (state .entry)) (now (points .entry)) w) ⌝ }
     ensures { λ r. ⌜ Goes (length (now (start .entry))) (length (now (state .entry))) (w .written) (now (state .entry)) (now (state .exit)) r ⌝ }
     ensures { λ _. ⌜ Kept (now (state .entry)) (now (state .exit)) ⌝ }
 {
     let node = w.node;
     let at = w.written;
-    match next_from(ax, ay, bx, by, aid, start, list, state, sense, node, w.link) {
+    match next_from(
+        ax,
+        ay,
+        bx,
+        by,
+        aid,
+        start,
+        list,
+        state,
+        course.sense,
+        node,
+        w.link,
+    ) {
         Next::Nothing => Stepped::Nowhere,
         Next::Link(k) => {
             let forward = node_at(aid, k) == node;
             let p = end_point(ax, ay, bx, by, forward, k);
             let to = other_node(aid, bid, node, k);
+            let mark = course.mark;
             state[k] = mark;
             put_point(points, at, p);
             Stepped::Went(Walker {
@@ -220,8 +239,7 @@ fn walk_on(
     bid: &[u32],
     start: &[u32],
     list: &[u32],
-    sense: bool,
-    mark: u8,
+    course: Course,
     home: usize,
     last: usize,
     state: &mut [u8],
@@ -230,13 +248,13 @@ fn walk_on(
 ) -> Ended
     requires { ⌜ (let g : Lent = lent (now ax) (now ay) (now bx) (now by) (now aid) (now bid) (now start) (now list) in
         Shape g (length (now state))) ⌝ }
-    requires { ⌜ (from .node + 1 < length (now start)) × (from .link < length (now state)) × (Marks mark) ⌝ }
+    requires { ⌜ (from .node + 1 < length (now start)) × (from .link < length (now state)) × (Marks (course .mark)) ⌝ }
     requires { ⌜ (from .written + unvisited (now state)) * 2 ≤ length (now points) ⌝ }
     ensures { λ r. ⌜ (let g : Lent = lent (now (ax .entry)) (now (ay .entry)) (now (bx .entry)) (now (by .entry)) (now (aid .entry))
         (now (bid .entry)) (now (start .entry)) (now (list .entry)) in
         let graph : Graph = plain g in
         WalkLeaves graph (now (points .entry)) (from .written)
-        (walkOn (suc (unvisited (now (state .entry)))) graph sense home last mark (from .node) (from .link) (now (state .entry))) r
+        (walkOn (suc (unvisited (now (state .entry)))) graph (course .sense) home last (course .mark) (from .node) (from .link) (now (state .entry))) r
         (now (state .exit)) (now (points .exit))) ⌝ }
     ensures { λ r. ⌜ Counted (from .written) (from .written) (now (state .entry)) (now (state .exit)) r ⌝ }
     ensures { λ _. ⌜ Kept (now (state .entry)) (now (state .exit)) ⌝ }
@@ -252,8 +270,7 @@ fn walk_on(
             bid,
             start,
             list,
-            sense,
-            mark,
+            course,
             state,
             points,
             w,
@@ -282,9 +299,7 @@ pub fn find_contour(
     bid: &[u32],
     start: &[u32],
     list: &[u32],
-    forward: bool,
-    sense: bool,
-    mark: u8,
+    course: Course,
     state: &mut [u8],
     points: &mut [i32],
     at: usize,
@@ -292,22 +307,36 @@ pub fn find_contour(
 ) -> Ended
     requires { ⌜ (let g : Lent = lent (now ax) (now ay) (now bx) (now by) (now aid) (now bid) (now start) (now list) in
         Shape g (length (now state))) ⌝ }
-    requires { ⌜ (s < length (now state)) × (getD (now state) s 1 ≡ 0) × (Marks mark) ⌝ }
+    requires { ⌜ (s < length (now state)) × (getD (now state) s 1 ≡ 0) × (Marks (course .mark)) ⌝ }
     requires { ⌜ (at + unvisited (now state)) * 2 ≤ length (now points) ⌝ }
     ensures { λ r. ⌜ (let g : Lent = lent (now (ax .entry)) (now (ay .entry)) (now (bx .entry)) (now (by .entry)) (now (aid .entry))
         (now (bid .entry)) (now (start .entry)) (now (list .entry)) in
         let graph : Graph = plain g in
-        WalkLeaves graph (now (points .entry)) at (walkFrom graph forward sense mark (now (state .entry)) s) r (now (state .exit))
+        WalkLeaves graph (now (points .entry)) at (walkFrom graph (course .forward) (course .sense) (course .mark) (now (state .entry)) s) r (now (state .exit))
         (now (points .exit))) ⌝ }
     ensures { λ r. ⌜ Counted (at + 1) at (now (state .entry)) (now (state .exit)) r ⌝ }
     ensures { λ _. ⌜ Kept (now (state .entry)) (now (state .exit)) ⌝ }
 {
+    let forward = course.forward;
+    let mark = course.mark;
     let home = end_node(aid, bid, forward, s);
     let ahead = end_node(bid, aid, forward, s);
     let begin = end_point(ax, ay, bx, by, forward, s);
     state[s] = mark;
     put_point(points, at, begin);
-    match last_link(ax, ay, bx, by, aid, start, list, state, sense, home, s) {
+    match last_link(
+        ax,
+        ay,
+        bx,
+        by,
+        aid,
+        start,
+        list,
+        state,
+        course.sense,
+        home,
+        s,
+    ) {
         Next::Nothing => Ended::Stuck(8),
         Next::Link(last) => {
             let written = at + 1;
@@ -325,8 +354,7 @@ pub fn find_contour(
                 bid,
                 start,
                 list,
-                sense,
-                mark,
+                course,
                 home,
                 last,
                 state,

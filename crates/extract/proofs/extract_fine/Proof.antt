@@ -34,7 +34,7 @@ at-start o = o .before .before .before .before .before .before .before .before .
 -- what it left
 abbrev left : tie.After-scan-links → Buffers
 left o =
-    let l = o .scan-links .last .1 .1 .1 .1 .1 .1 .1 .1 .1 .1 .1 in
+    let l = o .scan-links .last .1 .1 .1 .1 .1 .1 .1 .1 .1 .1 in
     buffers (l .0) (l .1 .0) (l .1 .1 .0) (l .1 .1 .1 .0) (l .1 .1 .1 .1 .0)
 
 scan-links-requires : tie.Need-scan-links-requires
@@ -46,7 +46,7 @@ finish-requires : tie.Need-finish-requires
 finish-requires c κs =
     let o = c .before .before .before .before .before .before .before .before .before .before .before .before .before .before in
     let s = at-start o in
-    let k = o .scan-links .kept .1 .1 .1 .1 .1 .1 .1 .1 .1 .1 .1 .1 in
+    let k = o .scan-links .kept .1 .1 .1 .1 .1 .1 .1 .1 .1 .1 .1 in
     holds (b s) (left o) (roomy s) (k .0) (k .1 .0) (k .1 .1 .0) (k .1 .1 .1 .0) (o .scan-links .result) (o .scan-links .ensures .1 .0)
 
 same-length : tie.Need-same-length
@@ -68,8 +68,8 @@ returns : tie.Need-returns
 returns c =
     let o = c .before .before .before .before .before .before .before .before .before .before .before .before .before .before .before .before .before .before .before .before .before .before .before .before in
     let s = at-start o in
-    let k = o .scan-links .kept .1 .1 .1 .1 .1 .1 .1 .1 .1 .1 .1 .1 in
-    finished-as (b s) (left o) (roomy s) (k .0) (k .1 .0) (k .1 .1 .0) (k .1 .1 .1 .0) (graphOf (g s) (s .args .top .now)) (s .args .clockwise) (s .args .minimum)
+    let k = o .scan-links .kept .1 .1 .1 .1 .1 .1 .1 .1 .1 .1 .1 in
+    finished-as (b s) (left o) (roomy s) (k .0) (k .1 .0) (k .1 .1 .0) (k .1 .1 .1 .0) (graphOf (g s) (s .args .top .now)) (s .args .settings .clockwise) (s .args .settings .minimum)
     (unmarked (g s) (s .args .top .now) (s .args .state .now) _ _ _ _ (facts s)) (o .scan-links .ensures .1 .1) _ (o .scan-links .result) (o .scan-links .ensures .0) (c .before .before .before .before .before .before .before .before .before .finish .ensures)
 
 pub extract-fine-spec : {M : Type 1} → statement M

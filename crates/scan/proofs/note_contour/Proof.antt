@@ -33,16 +33,16 @@ t s = tables (s .args .points .now) (s .args .first .now) (s .args .len .now) (s
 
 -- the walk that rules 2 to 4 give
 abbrev rule : tie.Start → Walked
-rule s = walkFrom (plain (g s)) (not (Bool·beq (s .args .hole) (s .args .clockwise))) (Bool·beq (s .args .hole) (s .args .clockwise)) (markOf (s .args .hole)) (st s) (s .args .s)
+rule s = walkFrom (plain (g s)) (not (Bool·beq (s .args .hole) (s .args .settings .clockwise))) (Bool·beq (s .args .hole) (s .args .settings .clockwise)) (markOf (s .args .hole)) (st s) (s .args .s)
 
 abbrev at-start : tie.After-find-contour → tie.Start
 at-start o = o .before .before .before .before .before .before .before .before .before .before .before .before .before
 
 abbrev states : tie.After-find-contour → List ℕ
-states o = o .find-contour .last .1 .1 .1 .1 .1 .1 .1 .1 .1 .1 .1 .0
+states o = o .find-contour .last .1 .1 .1 .1 .1 .1 .1 .1 .1 .0
 
 abbrev coords : tie.After-find-contour → List ℤ
-coords o = o .find-contour .last .1 .1 .1 .1 .1 .1 .1 .1 .1 .1 .1 .1 .0
+coords o = o .find-contour .last .1 .1 .1 .1 .1 .1 .1 .1 .1 .1 .0
 
 left-by : (o : tie.After-find-contour) → WalkLeaves (plain (g (at-start o))) (at-start o .args .points .now) (at-start o .args .c .points) (rule (at-start o)) (o .find-contour .result) (states o) (coords o)
 left-by o = rw (o .before .before .before .before .same .ensures, o .before .before .before .mark-of .ensures) at (o .find-contour .ensures .0)
@@ -83,11 +83,11 @@ note-walk-requires c κs =
     let o = k .before .before .before .before .before in
     let s = at-start o in
     let m = s .pre .1 .0 in
-    let l = o .find-contour .kept .1 .1 .1 .1 .1 .1 .1 .1 .1 .1 .1 .1 .0 in
+    let l = o .find-contour .kept .1 .1 .1 .1 .1 .1 .1 .1 .1 .1 .0 in
     let r : end k * 2 ≤ length (s .args .points .now) = omega (arith, fits k, m .points-room) in (
       (omega (arith, counted k .0), rw l r, within-less _ _ (unvisited (st s)) _ _ (s .pre .1 .1 .2) (omega (arith, counted k .1)) (m .few)),
       (
-        part-grid (g s) _ (s .pre .0) (s .args .minimum) (s .args .hole) (t s) (end k) (st s) (states o) (coords o) (rule s) (done k) r,
+        part-grid (g s) _ (s .pre .0) (s .args .settings .minimum) (s .args .hole) (t s) (end k) (st s) (states o) (coords o) (rule s) (done k) r,
         (omega (arith, fits k, m .first-room), m .len-room, m .kind-room),
       ),
     )
@@ -102,7 +102,7 @@ returns : tie.Need-returns
 returns c =
     let o = c .before .before .before .before .before .before in
     let s = at-start o in (
-      stuck-noted (plain (g s)) (s .args .minimum) (t s) (s .args .hole) (rule s) _ _ _ _ _ _ _ (stuck-at (plain (g s)) _ _ _ _ _ (rule s) _ (left-by o) (c .before .number .given .1)) refl,
+      stuck-noted (plain (g s)) (s .args .settings .minimum) (t s) (s .args .hole) (rule s) _ _ _ _ _ _ _ (stuck-at (plain (g s)) _ _ _ _ _ (rule s) _ (left-by o) (c .before .number .given .1)) refl,
       (tt, o .find-contour .ensures .1 .1),
     )
 
@@ -128,8 +128,8 @@ returns-2 c =
     let s = at-start o in
     let n = c .before .before .before .before .before .before in
     let r : end k * 2 ≤ length (s .args .points .now) = omega (arith, fits k, s .pre .1 .0 .points-room) in (
-      walk-noted (g s) _ (s .pre .0) (s .args .minimum) (s .args .hole) (t s) (end k) (st s) (states o) (coords o) (rule s) (done k) r _ _ _ _ (n .note-walk .ensures),
-      (walk-fewer (g s) _ (s .pre .0) (s .args .minimum) (s .args .hole) (t s) (end k) (st s) (states o) (coords o) (rule s) (done k) r _ _ _ _ (n .note-walk .ensures) _ (s .pre .1 .1 .2) (counted k), o .find-contour .ensures .1 .1),
+      walk-noted (g s) _ (s .pre .0) (s .args .settings .minimum) (s .args .hole) (t s) (end k) (st s) (states o) (coords o) (rule s) (done k) r _ _ _ _ (n .note-walk .ensures),
+      (walk-fewer (g s) _ (s .pre .0) (s .args .settings .minimum) (s .args .hole) (t s) (end k) (st s) (states o) (coords o) (rule s) (done k) r _ _ _ _ (n .note-walk .ensures) _ (s .pre .1 .1 .2) (counted k), o .find-contour .ensures .1 .1),
     )
 
 pub note-contour-spec : {M : Type 1} → statement M

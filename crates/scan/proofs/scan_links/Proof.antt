@@ -19,11 +19,11 @@ use Rattle.scan.specs.Notes.{Roomy}
 use Rattle.walk.specs.Marks.{kept-then}
 
 abbrev Inv-loop : tie.InvT-loop
-Inv-loop ax ay bx by aid bid start list top clockwise minimum state₀ points₀ first₀ len₀ kind₀ n k₀ c₀ state points first len kind k c =
-    Scanning (graphOf (lent ax ay bx by aid bid start list) top) clockwise minimum n state₀ points₀ first₀ len₀ kind₀ k c state points first len kind
+Inv-loop ax ay bx by aid bid start list top settings state₀ points₀ first₀ len₀ kind₀ n k₀ c₀ state points first len kind k c =
+    Scanning (graphOf (lent ax ay bx by aid bid start list) top) (settings .clockwise) (settings .minimum) n state₀ points₀ first₀ len₀ kind₀ k c state points first len kind
 
 abbrev μ-loop : tie.MeasureT-loop
-μ-loop ax ay bx by aid bid start list top clockwise minimum state₀ points₀ first₀ len₀ kind₀ n k₀ c₀ state points first len kind k c =
+μ-loop ax ay bx by aid bid start list top settings state₀ points₀ first₀ len₀ kind₀ n k₀ c₀ state points first len kind k c =
     n - k + unvisited state
 
 abbrev g : tie.Start Inv-loop μ-loop → Graph
@@ -42,7 +42,7 @@ roomy l =
     rw (i .kept .len, i .points-length, i .first-length, i .len-length, i .kind-length) (at-start l .pre .1)
 
 loop-holds : tie.Need-loop-holds Inv-loop μ-loop
-loop-holds c = let s = c .before .before .before .before .before .before .before .before .before in none-yet (g s) (s .args .clockwise) (s .args .minimum) (s .args .state .now) (s .args .points .now) (s .args .first .now) (s .args .len .now) (s .args .kind .now)
+loop-holds c = let s = c .before .before .before .before .before .before .before .before .before in none-yet (g s) (s .args .settings .clockwise) (s .args .settings .minimum) (s .args .state .now) (s .args .points .now) (s .args .first .now) (s .args .len .now) (s .args .kind .now)
 
 slice-read-if1 : tie.Need-slice-read-if1 Inv-loop μ-loop
 slice-read-if1 c = in-states (c .before .before) (c .before .loop-test .taken)
@@ -58,7 +58,7 @@ loop-again c =
     let l = c .before .before .before in
     let s = at-start l in
     let t = c .before .before .loop-test .taken in
-    scan-moves (g s) (s .args .clockwise) (s .args .minimum) _ _ _ _ _ _ (l .loop .k) (l .loop .c) (l .loop .state) (l .loop .points) (l .loop .first) (l .loop .len) (l .loop .kind) (l .loop .inv) t (read-shut (l .loop .state) (l .loop .k) (in-states l t) (c .if1 .taken))
+    scan-moves (g s) (s .args .settings .clockwise) (s .args .settings .minimum) _ _ _ _ _ _ (l .loop .k) (l .loop .c) (l .loop .state) (l .loop .points) (l .loop .first) (l .loop .len) (l .loop .kind) (l .loop .inv) t (read-shut (l .loop .state) (l .loop .k) (in-states l t) (c .if1 .taken))
 
 scan-walk-requires : tie.Need-scan-walk-requires Inv-loop μ-loop
 scan-walk-requires c κs =
@@ -76,16 +76,16 @@ same-length : tie.Need-same-length Inv-loop μ-loop
 same-length c = let o = c .before .before .before .before .before .before .before .before .before .before .before .before in o .scan-walk .ensures .1 .1 .len ∙ o .before .before .before .before .before .before .before .before .before .loop .inv .kept .len
 
 same-length-2 : tie.Need-same-length-2 Inv-loop μ-loop
-same-length-2 c = let o = c .before .before .before .before .before .before .before .before .before .before .before .before in o .scan-walk .kept .1 .1 .1 .1 .1 .1 .1 .1 .1 .1 .1 .1 .0 ∙ o .before .before .before .before .before .before .before .before .before .loop .inv .points-length
+same-length-2 c = let o = c .before .before .before .before .before .before .before .before .before .before .before .before in o .scan-walk .kept .1 .1 .1 .1 .1 .1 .1 .1 .1 .1 .1 .0 ∙ o .before .before .before .before .before .before .before .before .before .loop .inv .points-length
 
 same-length-3 : tie.Need-same-length-3 Inv-loop μ-loop
-same-length-3 c = let o = c .before .before .before .before .before .before .before .before .before .before .before .before in o .scan-walk .kept .1 .1 .1 .1 .1 .1 .1 .1 .1 .1 .1 .1 .1 .0 ∙ o .before .before .before .before .before .before .before .before .before .loop .inv .first-length
+same-length-3 c = let o = c .before .before .before .before .before .before .before .before .before .before .before .before in o .scan-walk .kept .1 .1 .1 .1 .1 .1 .1 .1 .1 .1 .1 .1 .0 ∙ o .before .before .before .before .before .before .before .before .before .loop .inv .first-length
 
 same-length-4 : tie.Need-same-length-4 Inv-loop μ-loop
-same-length-4 c = let o = c .before .before .before .before .before .before .before .before .before .before .before .before in o .scan-walk .kept .1 .1 .1 .1 .1 .1 .1 .1 .1 .1 .1 .1 .1 .1 .0 ∙ o .before .before .before .before .before .before .before .before .before .loop .inv .len-length
+same-length-4 c = let o = c .before .before .before .before .before .before .before .before .before .before .before .before in o .scan-walk .kept .1 .1 .1 .1 .1 .1 .1 .1 .1 .1 .1 .1 .1 .0 ∙ o .before .before .before .before .before .before .before .before .before .loop .inv .len-length
 
 same-length-5 : tie.Need-same-length-5 Inv-loop μ-loop
-same-length-5 c = let o = c .before .before .before .before .before .before .before .before .before .before .before .before in o .scan-walk .kept .1 .1 .1 .1 .1 .1 .1 .1 .1 .1 .1 .1 .1 .1 .1 .0 ∙ o .before .before .before .before .before .before .before .before .before .loop .inv .kind-length
+same-length-5 c = let o = c .before .before .before .before .before .before .before .before .before .before .before .before in o .scan-walk .kept .1 .1 .1 .1 .1 .1 .1 .1 .1 .1 .1 .1 .1 .1 .0 ∙ o .before .before .before .before .before .before .before .before .before .loop .inv .kind-length
 
 returns : tie.Need-returns Inv-loop μ-loop
 returns c =
@@ -94,7 +94,7 @@ returns c =
     let s = at-start l in
     let t = o .before .before .before .before .before .before .before .before .loop-test .taken in
     let i = l .loop .inv in (
-      scan-refused (g s) (s .args .clockwise) (s .args .minimum) _ _ _ _ _ _ (l .loop .k) (l .loop .c) (l .loop .state) (l .loop .points) (l .loop .first) (l .loop .len) (l .loop .kind) i t
+      scan-refused (g s) (s .args .settings .clockwise) (s .args .settings .minimum) _ _ _ _ _ _ (l .loop .k) (l .loop .c) (l .loop .state) (l .loop .points) (l .loop .first) (l .loop .len) (l .loop .kind) i t
           (read-unvisited (l .loop .state) (l .loop .k) (in-states l t) (o .before .before .before .before .before .before .if1 .left)) _ _ _ _ _ _ _ (c .before .number .given .1) (o .scan-walk .ensures .0) _ _ _ _ _ _ refl,
       (tt, kept-then (i .kept) (o .scan-walk .ensures .1 .1)),
     )
@@ -116,9 +116,9 @@ loop-again-2 c =
     let s = at-start l in
     let t = o .before .before .before .before .before .before .before .before .loop-test .taken in
     let i = l .loop .inv in
-    scan-again (g s) (s .args .clockwise) (s .args .minimum) _ _ _ _ _ _ (l .loop .k) (l .loop .c) (l .loop .state) (l .loop .points) (l .loop .first) (l .loop .len) (l .loop .kind) i t
+    scan-again (g s) (s .args .settings .clockwise) (s .args .settings .minimum) _ _ _ _ _ _ (l .loop .k) (l .loop .c) (l .loop .state) (l .loop .points) (l .loop .first) (l .loop .len) (l .loop .kind) i t
     (read-unvisited (l .loop .state) (l .loop .k) (in-states l t) (o .before .before .before .before .before .before .if1 .left)) _ _ _ _ _ _ _ (c .before .d .given .1) (o .scan-walk .ensures .0)
-    (rw (i .kept .len) at (o .scan-walk .ensures .1 .0)) (o .scan-walk .ensures .1 .1) (o .scan-walk .kept .1 .1 .1 .1 .1 .1 .1 .1 .1 .1 .1 .1 .0) (o .scan-walk .kept .1 .1 .1 .1 .1 .1 .1 .1 .1 .1 .1 .1 .1 .0) (o .scan-walk .kept .1 .1 .1 .1 .1 .1 .1 .1 .1 .1 .1 .1 .1 .1 .0) (o .scan-walk .kept .1 .1 .1 .1 .1 .1 .1 .1 .1 .1 .1 .1 .1 .1 .1 .0)
+    (rw (i .kept .len) at (o .scan-walk .ensures .1 .0)) (o .scan-walk .ensures .1 .1) (o .scan-walk .kept .1 .1 .1 .1 .1 .1 .1 .1 .1 .1 .1 .0) (o .scan-walk .kept .1 .1 .1 .1 .1 .1 .1 .1 .1 .1 .1 .1 .0) (o .scan-walk .kept .1 .1 .1 .1 .1 .1 .1 .1 .1 .1 .1 .1 .1 .0) (o .scan-walk .kept .1 .1 .1 .1 .1 .1 .1 .1 .1 .1 .1 .1 .1 .1 .0)
 
 same-length-6 : tie.Need-same-length-6 Inv-loop μ-loop
 same-length-6 c = c .before .loop .inv .kept .len
@@ -140,7 +140,7 @@ returns-2 c =
     let l = c .before in
     let s = at-start l in
     let i = l .loop .inv in (
-      scan-over (g s) (s .args .clockwise) (s .args .minimum) _ _ _ _ _ _ (l .loop .k) (l .loop .c) (l .loop .state) (l .loop .points) (l .loop .first) (l .loop .len) (l .loop .kind) i (c .loop-test .left),
+      scan-over (g s) (s .args .settings .clockwise) (s .args .settings .minimum) _ _ _ _ _ _ (l .loop .k) (l .loop .c) (l .loop .state) (l .loop .points) (l .loop .first) (l .loop .len) (l .loop .kind) i (c .loop-test .left),
       (within-less _ _ (unvisited (l .loop .state)) 0 (l .loop .c) (i .within) (omega arith) (omega arith), i .kept),
     )
 

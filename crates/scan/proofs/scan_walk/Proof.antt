@@ -47,7 +47,7 @@ same-length c = search needs
 returns : tie.Need-returns
 returns c =
     let s = c .before .before .before .before .before .before .before .before .before .before .before .before .before in
-    (first-nothing (g s) (s .args .top .now) (s .args .clockwise) (s .args .minimum) (t s) (s .args .state .now) _ _ _ _ _ _ _ (sym (c .enum-told .given .1) ∙ c .before .before .find-left-top-link .ensures .0 (s .args .bid .now) (s .args .top .now)) refl, (tt, kept-none _))
+    (first-nothing (g s) (s .args .top .now) (s .args .settings .clockwise) (s .args .settings .minimum) (t s) (s .args .state .now) _ _ _ _ _ _ _ (sym (c .enum-told .given .1) ∙ c .before .before .find-left-top-link .ensures .0 (s .args .bid .now) (s .args .top .now)) refl, (tt, kept-none _))
 
 same-length-2 : tie.Need-same-length-2
 same-length-2 c = search needs
@@ -69,7 +69,7 @@ returns-2 c =
     let a = c .before .before .before .before .before .before .before .before .before .before .before .before .before .before .before .before .before in
     let s = at-start a in
     let o = c .before .before .before .before .before .before .before .before .before in
-    (first-link (g s) (s .args .top .now) (s .args .clockwise) (s .args .minimum) (t s) (s .args .state .now) _ _ _ _ _ _ _ _ (sym (a .s .given .1) ∙ a .before .before .find-left-top-link .ensures .0 (s .args .bid .now) (s .args .top .now)) (o .note-contour .ensures .0), o .note-contour .ensures .1)
+    (first-link (g s) (s .args .top .now) (s .args .settings .clockwise) (s .args .settings .minimum) (t s) (s .args .state .now) _ _ _ _ _ _ _ _ (sym (a .s .given .1) ∙ a .before .before .find-left-top-link .ensures .0 (s .args .bid .now) (s .args .top .now)) (o .note-contour .ensures .0), o .note-contour .ensures .1)
 
 pub scan-walk-spec : {M : Type 1} → statement M
 scan-walk-spec =

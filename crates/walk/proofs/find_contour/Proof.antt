@@ -27,13 +27,13 @@ abbrev st : tie.Start → List ℕ
 st s = s .args .state .now
 
 abbrev marked : tie.Start → List ℕ
-marked s = set (st s) (s .args .s) (s .args .mark)
+marked s = set (st s) (s .args .s) (s .args .course .mark)
 
 less : (s : tie.Start) → unvisited (st s) ≡ suc (unvisited (marked s))
-less s = fewer (st s) (s .args .s) (s .args .mark) (s .pre .1 .0 .2) (s .pre .1 .0 .1)
+less s = fewer (st s) (s .args .s) (s .args .course .mark) (s .pre .1 .0 .2) (s .pre .1 .0 .1)
 
 mark-kept : (s : tie.Start) → Kept (st s) (marked s)
-mark-kept s = kept-mark (st s) (s .args .s) (s .args .mark) (s .pre .1 .0 .2) (s .pre .1 .0 .1)
+mark-kept s = kept-mark (st s) (s .args .s) (s .args .course .mark) (s .pre .1 .0 .2) (s .pre .1 .0 .1)
 
 end-node-requires : tie.Need-end-node-requires
 end-node-requires c κs = search needs
@@ -53,8 +53,8 @@ put-point-requires c κs = let s = c .before .before .before .before .before .be
 last-link-requires : tie.Need-last-link-requires
 last-link-requires c κs =
     let s = c .before .before .before .before .before .before .before .before .before .before .before .before in
-    let e = length-set (st s) (s .args .s) (s .args .mark) in
-    (rw e (s .pre .0 .links), (rw e (s .pre .0 .nodes), (rw (c .before .before .before .before .before .before .end-node .ensures) (end-there (g s) _ (s .args .s) (s .args .forward) (s .pre .0) (s .pre .1 .0 .0) .0), rw e (s .pre .1 .0 .0))))
+    let e = length-set (st s) (s .args .s) (s .args .course .mark) in
+    (rw e (s .pre .0 .links), (rw e (s .pre .0 .nodes), (rw (c .before .before .before .before .before .before .end-node .ensures) (end-there (g s) _ (s .args .s) (s .args .course .forward) (s .pre .0) (s .pre .1 .0 .0) .0), rw e (s .pre .1 .0 .0))))
 
 enum-told : tie.Need-enum-told
 enum-told c = search needs
@@ -63,15 +63,15 @@ enum-known-last : tie.Need-enum-known-last
 enum-known-last c = search needs
 
 add-written : tie.Need-add-written
-add-written c = let s = c .before .before .before .before .before .before .before .before .before .before .before .before .before .before .before .before in omega (arith, s .pre .1 .1, less s, s .good .1 .1 .1 .1 .1 .1 .1 .1 .1 .1 .1 .1 .0)
+add-written c = let s = c .before .before .before .before .before .before .before .before .before .before .before .before .before .before .before .before in omega (arith, s .pre .1 .1, less s, s .good .1 .1 .1 .1 .1 .1 .1 .1 .1 .1 .0)
 
 walk-on-requires : tie.Need-walk-on-requires
 walk-on-requires c κs =
     let s = c .before .before .before .before .before .before .before .before .before .before .before .before .before .before .before .before .before .before in
-    let e = length-set (st s) (s .args .s) (s .args .mark) in (
+    let e = length-set (st s) (s .args .s) (s .args .course .mark) in (
       rw e (s .pre .0),
       (
-        (rw (c .before .before .before .before .before .before .before .before .before .before .before .end-node2 .ensures) (end-there (g s) _ (s .args .s) (s .args .forward) (s .pre .0) (s .pre .1 .0 .0) .1), rw e (s .pre .1 .0 .0), s .pre .1 .0 .2),
+        (rw (c .before .before .before .before .before .before .before .before .before .before .before .end-node2 .ensures) (end-there (g s) _ (s .args .s) (s .args .course .forward) (s .pre .0) (s .pre .1 .0 .0) .1), rw e (s .pre .1 .0 .0), s .pre .1 .0 .2),
         omega (arith, s .pre .1 .1, less s, c .before .before .before .before .before .before .before .before .put-point .kept .0),
       ),
     )
@@ -85,7 +85,7 @@ same-length-2 c = search needs
 returns : tie.Need-returns
 returns c =
     let s = c .before .before .before .before .before .before .before .before .before .before .before .before .before .before .before in (
-      starts-nowhere (plain (g s)) (s .args .forward) (s .args .sense) (s .args .mark) (st s) (s .args .s) (s .args .points .now) (s .args .at) _ _ _ _ (c .before .before .before .before .before .before .before .before .before .end-node .ensures)
+      starts-nowhere (plain (g s)) (s .args .course .forward) (s .args .course .sense) (s .args .course .mark) (st s) (s .args .s) (s .args .points .now) (s .args .at) _ _ _ _ (c .before .before .before .before .before .before .before .before .before .end-node .ensures)
           (sym (c .enum-told .given .1) ∙ c .before .before .last-link .ensures .0 (s .args .bid .now) []) refl,
       (tt, mark-kept s),
     )
@@ -100,9 +100,9 @@ returns-2 : tie.Need-returns-2
 returns-2 c =
     let o = c .before .before .before in
     let s = o .before .before .before .before .before .before .before .before .before .before .before .before .before .before .before .before .before .before .before in (
-      starts-on (plain (g s)) (s .args .forward) (s .args .sense) (s .args .mark) (st s) (s .args .s) (s .args .points .now) (s .args .at) _ _ _ _ (o .before .before .before .before .before .before .before .before .before .before .before .before .before .end-node .ensures) _ _ _ _
+      starts-on (plain (g s)) (s .args .course .forward) (s .args .course .sense) (s .args .course .mark) (st s) (s .args .s) (s .args .points .now) (s .args .at) _ _ _ _ (o .before .before .before .before .before .before .before .before .before .before .before .before .before .end-node .ensures) _ _ _ _
           (sym (o .before .before .before .before .last .given .1) ∙ o .before .before .before .before .before .before .last-link .ensures .0 (s .args .bid .now) []) (o .before .before .before .before .before .before .before .before .before .before .before .before .end-node2 .ensures) (o .before .before .before .before .before .before .before .before .before .before .before .end-point .ensures) (o .before .before .before .before .before .before .before .before .before .put-point .ensures) (o .walk-on .ensures .0),
-      (counted-on (s .args .at) (st s) (marked s) (o .walk-on .last .1 .1 .1 .1 .1 .1 .1 .1 .1 .1 .1 .1 .0) (o .walk-on .result) (less s) (o .walk-on .ensures .1 .0), kept-then (mark-kept s) (o .walk-on .ensures .1 .1)),
+      (counted-on (s .args .at) (st s) (marked s) (o .walk-on .last .1 .1 .1 .1 .1 .1 .1 .1 .1 .1 .1 .0) (o .walk-on .result) (less s) (o .walk-on .ensures .1 .0), kept-then (mark-kept s) (o .walk-on .ensures .1 .1)),
     )
 
 pub find-contour-spec : {M : Type 1} → statement M

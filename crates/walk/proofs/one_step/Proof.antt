@@ -35,8 +35,8 @@ link c = c .k .given .0 .0
 ok : (c : tie.After-k) → (link c < length (st (at-start c))) × (getD (st (at-start c)) (link c) 1 ≡ 0)
 ok c = rw (c .k .given .1) at (c .before .before .next-from .ensures .1)
 
-less : (c : tie.After-k) → unvisited (st (at-start c)) ≡ suc (unvisited (set (st (at-start c)) (link c) (at-start c .args .mark)))
-less c = fewer (st (at-start c)) (link c) (at-start c .args .mark) (at-start c .pre .1 .0 .2) (ok c .1)
+less : (c : tie.After-k) → unvisited (st (at-start c)) ≡ suc (unvisited (set (st (at-start c)) (link c) (at-start c .args .course .mark)))
+less c = fewer (st (at-start c)) (link c) (at-start c .args .course .mark) (at-start c .pre .1 .0 .2) (ok c .1)
 
 next-from-requires : tie.Need-next-from-requires
 next-from-requires c κs = let s = c .before .before .before .before .before .before in (s .pre .0 .links, (s .pre .0 .nodes, (s .pre .1 .0 .0, s .pre .1 .0 .1)))
@@ -63,7 +63,7 @@ put-point-requires : tie.Need-put-point-requires
 put-point-requires c κs = let a = c .before .before .before .before .before in let s = at-start a in omega (arith, s .pre .1 .1, less a)
 
 add-t24 : tie.Need-add-t24
-add-t24 c = let a = c .before .before .before .before .before .before .before in let s = at-start a in omega (arith, s .pre .1 .1, less a, s .good .1 .1 .1 .1 .1 .1 .1 .1 .1 .1 .1 .0)
+add-t24 c = let a = c .before .before .before .before .before .before .before in let s = at-start a in omega (arith, s .pre .1 .1, less a, s .good .1 .1 .1 .1 .1 .1 .1 .1 .1 .1 .0)
 
 same-length : tie.Need-same-length
 same-length c = search needs
@@ -71,7 +71,7 @@ same-length c = search needs
 returns : tie.Need-returns
 returns c =
     let s = c .before .before .before .before .before .before .before .before .before in
-    (step-nowhere (g s) (s .args .sense) (s .args .mark) (st s) (s .args .points .now) (s .args .w) (sym (c .enum-told .given .1) ∙ c .before .before .next-from .ensures .0 (s .args .bid .now) []), (tt, kept-none (st s)))
+    (step-nowhere (g s) (s .args .course .sense) (s .args .course .mark) (st s) (s .args .points .now) (s .args .w) (sym (c .enum-told .given .1) ∙ c .before .before .next-from .ensures .0 (s .args .bid .now) []), (tt, kept-none (st s)))
 
 same-length-2 : tie.Need-same-length-2
 same-length-2 c = search needs
@@ -83,7 +83,7 @@ returns-2 : tie.Need-returns-2
 returns-2 c =
     let a = c .before .before .before .before .before .before .before in
     let s = at-start a in (
-      step-went (g s) (s .args .sense) (s .args .mark) (st s) (s .args .points .now) (s .args .w) (link a) _ _ _ _
+      step-went (g s) (s .args .course .sense) (s .args .course .mark) (st s) (s .args .points .now) (s .args .w) (link a) _ _ _ _
           (sym (a .k .given .1) ∙ a .before .before .next-from .ensures .0 (s .args .bid .now) []) (ap (λ x. eqb x (s .args .w .node)) (c .before .before .before .before .before .node-at .ensures))
           (c .before .before .before .before .end-point .ensures) (c .before .before .before .other-node .ensures) (c .before .put-point .ensures),
       ((rw (c .before .before .before .other-node .ensures) (other-there (g s) _ (s .args .w .node) (link a) (s .pre .0) (ok a .0)), ok a .0, refl, less a), kept-mark (st s) (link a) _ (s .pre .1 .0 .2) (ok a .1)),
