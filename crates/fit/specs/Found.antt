@@ -55,8 +55,8 @@ left under (d ∷ l) old new e = go (eqb (given (under d) old) droppedOwner) e (
       same = λ c h. r .same c (omega arith) ∙ getD-set-other old d c (given (under d) old) 0 (λ q. omega (arith, one c q));
     }
       where
-        one : (c : ℕ) → c ≡ d → _≡_ {A = ℕ} (pick (eqb c d) 1 0) 1
-        one c q = rw (eq-eqb c d q)
+        one : (c : ℕ) → c ≡ d → _≡_ {A = ℕ} (pick (eqb d c) 1 0) 1
+        one c q = rw (eq-eqb d c (sym q))
 
     go : (b : Bool) → pick b (owned (Stuck d) old) (giveEach under l (set old d (given (under d) old))) ≡ owned All new
         → (giveEach under l (set old d (given (under d) old)) ≡ owned All new → Left l (set old d (given (under d) old)) new) → Left (d ∷ l) old new
