@@ -32,8 +32,8 @@ hole-low t (suc c) = go (isHole t c) (hole-low t c)
     go true h = omega arith
     go false h = omega arith
 
-both-ways : (h l o : Bool) → h ≡ true → l ≡ true → true ≡ h && (l || o)
-both-ways h l o e f = rw (e, f)
+first-way : (h l o : Bool) → h ≡ true → l ≡ true → true ≡ h && (l || o)
+first-way h l o e f = rw (e, f)
 
 rest-way : (h l o : Bool) → h ≡ true → l ≡ false → o ≡ h && (l || o)
 rest-way h l o e f = rw (e, f)
@@ -50,7 +50,7 @@ module _ (t : Table) (cw : Bool) (c : ℕ) where
     least-is = λ i. notLeast (t .points) (ef i) (el i) (anchor-is i)
 
     pub anchor-high-up : (b : Bool) → b ≡ notLeast (t .points) from len anchor → b ≡ true → true ≡ badAnchor t cw c
-    anchor-high-up b e f = both-ways _ _ _ (eq-eqb (kindOf t c) 1 h) (sym (e ∙ least-is) ∙ f)
+    anchor-high-up b e f = first-way _ _ _ (eq-eqb (kindOf t c) 1 h) (sym (e ∙ least-is) ∙ f)
 
     pub anchor-order : (b o : Bool) (last : ℕ) → b ≡ notLeast (t .points) from len anchor → b ≡ false → last ≡ holeBefore t c
         → o ≡ beforeLast (t .points) (t .first) cw last anchor → o ≡ badAnchor t cw c

@@ -3,7 +3,7 @@ use turn::Checked;
 use turn::Point;
 use turn::wide;
 ghost use mathlib.Core.Path.{_≡_};
-ghost use Prim.Native.Nat.{ℕ, _+_, _*_, _^_, _<_, _≤_};
+ghost use Prim.Native.Nat.{ℕ, suc, _+_, _*_, _^_, _<_, _≤_};
 ghost use lib.Dec.{eqb};
 ghost use lib.ListN.{length};
 ghost use Rattle.laws.specs.Test.{pick};
@@ -13,7 +13,7 @@ ghost use Rattle.table.specs.Sound.{Sound};
 ghost use Rattle.anchor.specs.Anchor.{anchorPositionIn, anchorPointIn, lowerEnd, anchorEdgeIn};
 ghost use Rattle.anchor.specs.AnchorChecks.{holeBefore, notLeast, beforeLast, badAnchor, anchorsChecked};
 ghost use Rattle.anchor.specs.Anchored.{Paired};
-ghost use Rattle.anchor.specs.Anchors.{Anchors, anchors, listedAnchor, withAnchor};
+ghost use Rattle.anchor.specs.Anchors.{Anchors, anchors, listedAnchor, withAnchor, AnchorRoom};
 
 // A hole's anchor and the other end of its anchor edge.
 pub struct Anchor {
@@ -167,9 +167,9 @@ fn before_anchor(from: usize, len: usize, clockwise: bool) -> usize
     from + len - 1
 }
 
-// Anchor j.
+// Anchor j of those that the lists hold.
 pub fn listed_anchor(x: &[i32], y: &[i32], to_x: &[i32], to_y: &[i32], j: usize) -> Anchor
-    requires { ⌜ (j < length (now x)) × (j < length (now y)) × (j < length (now «to_x»)) × (j < length (now «to_y»)) ⌝ }
+    requires { ⌜ AnchorRoom (anchors (now x) (now y) (now «to_x») (now «to_y»)) (suc j) ⌝ }
     ensures { λ r. ⌜ (let h : Anchors = anchors (now (x .entry)) (now (y .entry)) (now («to_x» .entry)) (now («to_y» .entry)) in
         r ≡ listedAnchor h j) ⌝ }
 {
@@ -182,7 +182,7 @@ pub fn listed_anchor(x: &[i32], y: &[i32], to_x: &[i32], to_y: &[i32], j: usize)
     }
 }
 
-// Anchor j is a.
+// Anchor j of the lists becomes a.
 pub fn put_anchor(
     a: Anchor,
     j: usize,
@@ -192,7 +192,7 @@ pub fn put_anchor(
     to_y: &mut [i32],
 )
     requires { ⌜ (OnGrid (a .at)) × (OnGrid (a .to)) ⌝ }
-    requires { ⌜ (j < length (now x)) × (j < length (now y)) × (j < length (now «to_x»)) × (j < length (now «to_y»)) ⌝ }
+    requires { ⌜ AnchorRoom (anchors (now x) (now y) (now «to_x») (now «to_y»)) (suc j) ⌝ }
     ensures { λ _. ⌜ (let h : Anchors = anchors (now (x .entry)) (now (y .entry)) (now («to_x» .entry)) (now («to_y» .entry)) in
         let h′ : Anchors = anchors (now (x .exit)) (now (y .exit)) (now («to_x» .exit)) (now («to_y» .exit)) in
         h′ ≡ withAnchor h j a) ⌝ }

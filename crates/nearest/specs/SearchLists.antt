@@ -8,8 +8,7 @@ use lib.Dec.{eqb}
 use lib.IntN.{ℤ, pos}
 use lib.Signed.{_≤ℤ_, _<ℤ_}
 use Rattle.laws.specs.Test.{pick}
-use Rattle.turn.specs.Points.{OnGrid}
-use Rattle.anchor.specs.Anchors.{Anchors, listedAnchor}
+use Rattle.anchor.specs.Anchors.{Anchors, listedAnchor, AnchorsOnGrid}
 use Rattle.candidates.specs.EdgeLists.{EdgeLists, listedEdge}
 use Rattle.nearest.specs.Search.{offered, nearest}
 
@@ -31,12 +30,7 @@ Sorted l m = (p q : ℕ) → p ≤ q → q < m → getD l p (pos 0) ≤ℤ getD 
 
 -- m anchors within the bounds, in order by x
 pub record SortedAnchors (h : Anchors) (m : ℕ) : Type 0 where
-  pub x-room : m ≤ length (h .x)
-  pub y-room : m ≤ length (h .y)
-  pub to-x-room : m ≤ length (h .to-x)
-  pub to-y-room : m ≤ length (h .to-y)
-  pub at : (j : ℕ) → j < m → OnGrid (listedAnchor h j .at)
-  pub to : (j : ℕ) → j < m → OnGrid (listedAnchor h j .to)
+  pub on-grid : AnchorsOnGrid h m
   pub sorted : Sorted (h .x) m
 
 -- ---- what the code finds

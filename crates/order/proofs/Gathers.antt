@@ -1,5 +1,5 @@
 -- Gathering the holes with their anchors, contour by contour.
-use Prim.Native.Nat.{ℕ, _+_, _≤_, _<_}
+use Prim.Native.Nat.{ℕ, suc, _+_, _≤_, _<_}
 use mathlib.Core.Path.{_≡_, refl, sym, ap, _∙_}
 use mathlib.Core.Bool.{Bool, true, false}
 use mathlib.Core.List.{List, [], _∷_, _++_}
@@ -13,7 +13,7 @@ use borrow.Author.Tests.{eq-eqb, ne-eqb}
 use Rattle.table.specs.Table.{Table, contourCount, kindOf, isHole}
 use Rattle.anchor.specs.declared.Anchor.{Anchor}
 use Rattle.anchor.specs.Anchor.{anchorEdge}
-use Rattle.anchor.specs.Anchors.{Anchors, listedAnchor, withAnchor, anchor-here, anchor-other}
+use Rattle.anchor.specs.Anchors.{Anchors, listedAnchor, withAnchor, AnchorRoom, anchor-here, anchor-other}
 use Rattle.order.specs.HoleOrder.{holesBelow}
 use Rattle.order.specs.HoleLists.{Room, Gathered}
 
@@ -51,6 +51,15 @@ gather-start t cw who h = record {
 }
 
 module _ (t : Table) (cw : Bool) (who₀ : List ℕ) (h₀ : Anchors) (who : List ℕ) (h : Anchors) (m c : ℕ) (g : Gathering t cw who₀ h₀ who h m c) (l : c < contourCount t) where
+  -- room for the next hole's anchor
+  pub gather-room : AnchorRoom h₀ (contourCount t) → AnchorRoom h (suc m)
+  gather-room r = record {
+    x-room = omega (arith, g .few, g .x-len, r .x-room);
+    y-room = omega (arith, g .few, g .y-len, r .y-room);
+    to-x-room = omega (arith, g .few, g .to-x-len, r .to-x-room);
+    to-y-room = omega (arith, g .few, g .to-y-len, r .to-y-room);
+  }
+
   pub gather-skip : (kindOf t c ≡ 1 → ⊥) → Gathering t cw who₀ h₀ who h m (c + 1)
   gather-skip n = record {
     on = omega arith;
@@ -84,7 +93,7 @@ module _ (t : Table) (cw : Bool) (who₀ : List ℕ) (h₀ : Anchors) (who : Lis
     at-next : (j : ℕ) → j < m + 1 → Dec (j ≡ m) → listedAnchor h′ j ≡ anchorEdge t cw (getD (holesBelow t (c + 1)) j 0)
     at-next j i (yes z) =
         ap (λ (w : Anchors). listedAnchor w j) q ∙ ap (listedAnchor (withAnchor h m a)) z
-        ∙ anchor-here h m a (omega (arith, g .x-len, g .few, r .x-room)) (omega (arith, g .y-len, g .few, r .y-room)) (omega (arith, g .to-x-len, g .few, r .to-x-room)) (omega (arith, g .to-y-len, g .few, r .to-y-room))
+        ∙ anchor-here h m a (gather-room (r .anchor-room))
         ∙ e ∙ ap (anchorEdge t cw) (sym new-at ∙ ap (λ (w : ℕ). getD (holesBelow t (c + 1)) w 0) (sym z))
     at-next j i (no z) =
         ap (λ (w : Anchors). listedAnchor w j) q ∙ anchor-other h m a j z ∙ g .found .at j (omega arith)

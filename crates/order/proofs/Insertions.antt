@@ -19,7 +19,7 @@ use Rattle.anchor.specs.Anchor.{anchorWay}
 use Rattle.anchor.specs.Anchors.{Anchors, listedAnchor}
 use Rattle.order.specs.HoleOrder.{goesBefore, slot, sorted}
 use Rattle.order.specs.Insertion.{Inserted, slot-same, image, slotIn, sorted-more, entries}
-use Rattle.order.specs.HoleLists.{Bounded, byAnchor, slotOf, Ordered, room-for}
+use Rattle.order.specs.HoleLists.{byAnchor, slotOf, Ordered}
 
 -- ---- the ways out of `goes_before`
 module _ (a b : Anchor) (c d : ℕ) where
@@ -102,13 +102,6 @@ pub record Ordering (h : Anchors) (who old new : List ℕ) (m j : ℕ) : Type 0 
   pub on : j ≤ m
   pub len : length new ≡ length old
   pub done : Ordered h who j new
-
-pub bounded-to : (who : List ℕ) (h : Anchors) (n m : ℕ) → Bounded who h m → n ≤ m → Bounded who h n
-bounded-to who h n m b l = record {
-  room = room-for who h n (b .room) l;
-  at = λ j k. b .at j (omega arith);
-  to = λ j k. b .to j (omega arith);
-}
 
 pub ordering-start : (h : Anchors) (who old : List ℕ) (m : ℕ) → Ordering h who old old m 0
 ordering-start h who old m = record { on = omega arith; len = refl; done = λ i l. absurd (not-suc-le-zero l) }

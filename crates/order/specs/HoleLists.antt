@@ -5,19 +5,15 @@ use mathlib.Core.Bool.{Bool}
 use mathlib.Core.List.{List}
 use lib.ListN.{length, getD}
 use native.Mathlib.Omega.{arith}
-use Rattle.turn.specs.Points.{OnGrid}
 use Rattle.table.specs.Table.{Table}
 use Rattle.anchor.specs.Anchor.{anchorEdge}
-use Rattle.anchor.specs.Anchors.{Anchors, listedAnchor}
+use Rattle.anchor.specs.Anchors.{Anchors, listedAnchor, AnchorRoom, AnchorsOnGrid, less-room, fewer-anchors}
 use Rattle.order.specs.HoleOrder.{goesBefore, slot, sorted, holesBelow}
 
 -- room for n holes
 pub record Room (who : List ℕ) (h : Anchors) (n : ℕ) : Type 0 where
   pub who-room : n ≤ length who
-  pub x-room : n ≤ length (h .x)
-  pub y-room : n ≤ length (h .y)
-  pub to-x-room : n ≤ length (h .to-x)
-  pub to-y-room : n ≤ length (h .to-y)
+  pub anchor-room : AnchorRoom h n
 
 -- the m holes among the first n contours: hole j is contour `who` j, with anchor j
 pub record Gathered (t : Table) (cw : Bool) (n m : ℕ) (who : List ℕ) (h : Anchors) : Type 0 where
@@ -25,11 +21,10 @@ pub record Gathered (t : Table) (cw : Bool) (n m : ℕ) (who : List ℕ) (h : An
   pub who-is : (j : ℕ) → j < m → getD who j 0 ≡ getD (holesBelow t n) j 0
   pub at : (j : ℕ) → j < m → listedAnchor h j ≡ anchorEdge t cw (getD (holesBelow t n) j 0)
 
--- m anchors within the bounds
+-- m holes with anchors within the bounds
 pub record Bounded (who : List ℕ) (h : Anchors) (m : ℕ) : Type 0 where
-  pub room : Room who h m
-  pub at : (j : ℕ) → j < m → OnGrid (listedAnchor h j .at)
-  pub to : (j : ℕ) → j < m → OnGrid (listedAnchor h j .to)
+  pub who-room : m ≤ length who
+  pub on-grid : AnchorsOnGrid h m
 
 -- which of two holes goes first
 abbrev pub byAnchor : Anchors → List ℕ → ℕ → ℕ → Bool
@@ -42,11 +37,9 @@ slotOf h who ord j = slot (λ p. byAnchor h who j (getD ord p 0)) j
 abbrev pub Ordered : Anchors → List ℕ → ℕ → List ℕ → Type 0
 Ordered h who m ord = (i : ℕ) → i < m → getD ord i 0 ≡ getD (sorted (byAnchor h who) (λ j. j) m) i 0
 
+-- ---- fewer holes
 pub room-for : (who : List ℕ) (h : Anchors) (n : ℕ) {m : ℕ} → Room who h m → n ≤ m → Room who h n
-room-for who h n r l = record {
-  who-room = omega (arith, r .who-room);
-  x-room = omega (arith, r .x-room);
-  y-room = omega (arith, r .y-room);
-  to-x-room = omega (arith, r .to-x-room);
-  to-y-room = omega (arith, r .to-y-room);
-}
+room-for who h n r l = record { who-room = omega (arith, r .who-room); anchor-room = less-room h n (r .anchor-room) l }
+
+pub bounded-to : (who : List ℕ) (h : Anchors) (n m : ℕ) → Bounded who h m → n ≤ m → Bounded who h n
+bounded-to who h n m b l = record { who-room = omega (arith, b .who-room); on-grid = fewer-anchors h n (b .on-grid) l }

@@ -20,7 +20,7 @@ use Rattle.table.specs.Passing.{contours-few}
 use Rattle.anchor.specs.declared.Anchor.{Anchor}
 use Rattle.anchor.specs.Anchor.{anchorEdge}
 use Rattle.anchor.specs.Anchored.{Anchored}
-use Rattle.anchor.specs.Anchors.{Anchors, listedAnchor}
+use Rattle.anchor.specs.Anchors.{Anchors, listedAnchor, AnchorsOnGrid, less-room}
 use Rattle.anchor.specs.AnchorPositions.{anchor-on-grid, end-on-grid}
 use Rattle.candidates.specs.Candidates.{rightward}
 use Rattle.nearest.specs.Search.{searchUnder}
@@ -28,7 +28,7 @@ use Rattle.nearest.specs.SearchLists.{giving, SortedAnchors}
 use Rattle.nearest.specs.Least.{under-few}
 use Rattle.order.specs.HoleOrder.{goesBefore, precedes, sorted, holes, hole, bindingOrder}
 use Rattle.order.specs.HoleLaws.{Rising, holes-rising, holes-are}
-use Rattle.order.specs.HoleLists.{Room, Gathered, Bounded, byAnchor, Ordered, room-for}
+use Rattle.order.specs.HoleLists.{Room, Gathered, Bounded, byAnchor, Ordered}
 use Rattle.order.specs.Insertion.{sorted-length, sorted-image, entries}
 use Rattle.owners.specs.Owners.{everyContour, contourBelow, giveEach}
 use Rattle.owners.specs.Giving.{giveListed, Listed}
@@ -65,15 +65,15 @@ module _ (t : Table) (s : Sound t) (cw : Bool) (a : Anchored t cw) (m : ℕ) (wh
   hole-below j l = rising .below j (among j l)
 
   module _ (r : Room who h maxLinks) where
-    bounded-room : Room who h m
-    bounded-room = room-for who h m r few-holes
-
-    pub bounded : Bounded who h m
-    bounded = record {
-      room = bounded-room;
+    on-grid : AnchorsOnGrid h m
+    on-grid = record {
+      room = less-room h m (r .anchor-room) few-holes;
       at = λ j l. subst (λ (w : Anchor). OnGrid (w .at)) (sym (g .at j l)) (anchor-on-grid t s cw (hole t j) (hole-below j l));
       to = λ j l. subst (λ (w : Anchor). OnGrid (w .to)) (sym (g .at j l)) (end-on-grid t s cw (hole t j) (hole-below j l));
     }
+
+    pub bounded : Bounded who h m
+    bounded = record { who-room = omega (arith, few-holes, r .who-room); on-grid = on-grid }
 
     in-order : (p q : ℕ) → p ≤ q → q < m → getD (h .x) p (pos 0) ≤ℤ getD (h .x) q (pos 0)
     in-order p q l n = go (ℕ-discrete p q)
@@ -90,15 +90,7 @@ module _ (t : Table) (s : Sound t) (cw : Bool) (a : Anchored t cw) (m : ℕ) (wh
             (a .order (hole t p) (hole t q) (rising .rises p q i (among q n)) (hole-below q n) (holes-are t (contourCount t) p (among p (omega arith))) (holes-are t (contourCount t) q (among q n))))
 
     pub sorted-anchors : SortedAnchors h m
-    sorted-anchors = record {
-      x-room = bounded-room .x-room;
-      y-room = bounded-room .y-room;
-      to-x-room = bounded-room .to-x-room;
-      to-y-room = bounded-room .to-y-room;
-      at = bounded .at;
-      to = bounded .to;
-      sorted = in-order;
-    }
+    sorted-anchors = record { on-grid = on-grid; sorted = in-order }
 
   module _ (under ord own : List ℕ) (u : (j : ℕ) → j < m → getD under j 0 ≡ searchUnder t true cw (giving (replicate maxLinks 0)) (listedAnchor h j)) (o : Ordered h who m ord) where
     under-is : (j : ℕ) → j < m → getD under j 0 ≡ contourBelow t cw (hole t j)

@@ -2,7 +2,7 @@
 use native.Mathlib.Omega.{arith}
 use Prim.Native.Nat.{_-_}
 use lib.ListN.{getD}
-use Rattle.anchor.specs.Anchors.{Anchors, anchors}
+use Rattle.anchor.specs.Anchors.{Anchors, anchors, less-room}
 use Rattle.candidates.specs.EdgeLists.{EdgeLists, edgeLists}
 use Rattle.nearest.proofs.Offers.{Offering, Held, held, kept-at, offer-back, offer-start, offer-past, offer-more, offer-end}
 use Rattle.nearest.proofs.offer.Statement.{statement}
@@ -30,16 +30,16 @@ returns : tie.Need-returns Inv-loop μ-loop
 returns c = let s = c .before .before .before .before .before .before .before .before in offer-back (g s) (h s) _ _ _ (held-at (c .before .before .before)) (c .if1 .taken) (s .args .best .now)
 
 first-from-requires : tie.Need-first-from-requires Inv-loop μ-loop
-first-from-requires c κs = let s = c .before .before .before .before .before .before .before .before in (s .pre .1 .0 .x-room, s .pre .1 .0 .sorted)
+first-from-requires c κs = let s = c .before .before .before .before .before .before .before .before in (s .pre .1 .0 .on-grid .room .x-room, s .pre .1 .0 .sorted)
 
 loop-holds : tie.Need-loop-holds Inv-loop μ-loop
 loop-holds c = let s = c .before .before .before .before .before .before .before .before .before in offer-start (g s) (h s) _ _ _ _ (s .pre .1 .0) (held-at (c .before .before .before .before)) (c .first-from .ensures) _
 
 mul-if2 : tie.Need-mul-if2 Inv-loop μ-loop
-mul-if2 c = let s = c .before .before .before .before .before .before .before .before .before .before .before in omega (arith, s .good, s .pre .1 .0 .x-room)
+mul-if2 c = let s = c .before .before .before .before .before .before .before .before .before .before .before in omega (arith, s .good, s .pre .1 .0 .on-grid .room .x-room)
 
 shared-slice-copy-out-if2 : tie.Need-shared-slice-copy-out-if2 Inv-loop μ-loop
-shared-slice-copy-out-if2 c = let s = c .before .before .before .before .before .before .before .before .before .before .before in omega (arith, s .pre .1 .0 .x-room)
+shared-slice-copy-out-if2 c = let s = c .before .before .before .before .before .before .before .before .before .before .before in omega (arith, s .pre .1 .0 .on-grid .room .x-room)
 
 same-length : tie.Need-same-length Inv-loop μ-loop
 same-length c = c .before .before .before .loop .inv .len
@@ -48,27 +48,27 @@ returns-2 : tie.Need-returns-2 Inv-loop μ-loop
 returns-2 c = let s = c .before .before .before .before .before .before .before .before .before .before .before .before .before in offer-past (g s) (h s) _ _ _ _ (s .pre .1 .0) (held-at (c .before .before .before .before .before .before .before .before)) (c .before .before .before .before .first-from .ensures) _ _ _ (c .before .before .before .loop .inv) (c .if2 .taken) (c .before .if22 .given)
 
 listed-anchor-requires : tie.Need-listed-anchor-requires Inv-loop μ-loop
-listed-anchor-requires c κs = let s = c .before .before .before .before .before .before .before .before .before .before .before .before .before in let p = s .pre .1 .0 in (omega (arith, p .x-room), omega (arith, p .y-room), omega (arith, p .to-x-room), omega (arith, p .to-y-room))
+listed-anchor-requires c κs = let s = c .before .before .before .before .before .before .before .before .before .before .before .before .before in less-room (h s) _ (s .pre .1 .0 .on-grid .room) (c .before .before .loop-test .taken)
 
 mul-b : tie.Need-mul-b Inv-loop μ-loop
-mul-b c = let s = c .before .before .before .before .before .before .before .before .before .before .before .before .before .before in omega (arith, s .good, s .pre .1 .0 .x-room)
+mul-b c = let s = c .before .before .before .before .before .before .before .before .before .before .before .before .before .before in omega (arith, s .good, s .pre .1 .0 .on-grid .room .x-room)
 
 slice-read-b : tie.Need-slice-read-b Inv-loop μ-loop
 slice-read-b c = let s = c .before .before .before .before .before .before .before .before .before .before .before .before .before .before .before in omega (arith, c .before .before .before .before .before .loop .inv .len, s .pre .1 .1 .0)
 
 kept-requires : tie.Need-kept-requires Inv-loop μ-loop
 kept-requires c κs =
-    let s = c .before .before .before .before .before .before .before .before .before .before .before .before .before .before .before in let l = c .before .before .before .before .before .loop in let t = c .before .before .before .before .loop-test .taken in let p = s .pre .1 .0 in let e = c .before .before .before .before .before .before .before .before .before .before .listed-edge in
+    let s = c .before .before .before .before .before .before .before .before .before .before .before .before .before .before .before in let l = c .before .before .before .before .before .loop in let t = c .before .before .before .before .loop-test .taken in let p = s .pre .1 .0 .on-grid in let e = c .before .before .before .before .before .before .before .before .before .before .listed-edge in
     ((s .pre .0 .0, s .pre .0 .1), (s .pre .0 .2, rw (l .inv .rest (l .j) (omega arith)) (s .pre .1 .1 .1 (l .j) t), e .ensures .0, rw (c .before .listed-anchor .ensures) (p .at (l .j) t, p .to (l .j) t, e .ensures .1, e .ensures .2)))
 
 mul-best : tie.Need-mul-best Inv-loop μ-loop
-mul-best c = let s = c .before .before .before .before .before .before .before .before .before .before .before .before .before .before .before .before in omega (arith, s .good, s .pre .1 .0 .x-room)
+mul-best c = let s = c .before .before .before .before .before .before .before .before .before .before .before .before .before .before .before .before in omega (arith, s .good, s .pre .1 .0 .on-grid .room .x-room)
 
 slice-write-best : tie.Need-slice-write-best Inv-loop μ-loop
 slice-write-best c = let s = c .before .before .before .before .before .before .before .before .before .before .before .before .before .before .before .before in omega (arith, c .before .before .before .before .before .before .loop .inv .len, s .pre .1 .1 .0)
 
 add-j : tie.Need-add-j Inv-loop μ-loop
-add-j c = let s = c .before .before .before .before .before .before .before .before .before .before .before .before .before .before .before .before in omega (arith, s .good, s .pre .1 .0 .x-room)
+add-j c = let s = c .before .before .before .before .before .before .before .before .before .before .before .before .before .before .before .before in omega (arith, s .good, s .pre .1 .0 .on-grid .room .x-room)
 
 loop-less : tie.Need-loop-less Inv-loop μ-loop
 loop-less c = omega arith

@@ -5,10 +5,10 @@ use lib.ListN.{length}
 use Rattle.turn.specs.Limits.{maxLinks}
 use Rattle.table.specs.Table.{Table, table}
 use Rattle.table.specs.Passing.{ranges-within, contours-few}
-use Rattle.anchor.specs.Anchors.{Anchors, anchors}
+use Rattle.anchor.specs.Anchors.{Anchors, anchors, less-room}
 use Rattle.anchor.specs.AnchorPositions.{on-anchor}
 use Rattle.order.specs.HoleLists.{room-for}
-use Rattle.order.proofs.Gathers.{Gathering, gather-start, gather-skip, gather-more, gather-end}
+use Rattle.order.proofs.Gathers.{gather-room, Gathering, gather-start, gather-skip, gather-more, gather-end}
 use Rattle.order.proofs.gather_holes.Statement.{statement}
 use Rattle.order.proofs.gather_holes.Tie as tie
 
@@ -79,9 +79,9 @@ slice-write-who c = let s = c .before .before .before .before .before .before .b
 
 put-anchor-requires : tie.Need-put-anchor-requires Inv-loop μ-loop
 put-anchor-requires c κs =
-    let s = c .before .before .before .before .before .before .before .before .before .before .before .before .before .before .before in let l = c .before .before .before .before .before .before .before .before .before .before .loop in let i = c .before .before .before .before .before .before .before .before .before .loop-test .taken in let a = c .before .before .before .before .left-bottom-segment-from in let r = s .pre .1 in let f = few (c .before .before .before .before .before .before .before .before .before) in let g = l .inv in (
+    let s = c .before .before .before .before .before .before .before .before .before .before .before .before .before .before .before in let l = c .before .before .before .before .before .before .before .before .before .before .loop in let i = c .before .before .before .before .before .before .before .before .before .loop-test .taken in let a = c .before .before .before .before .left-bottom-segment-from in let f = room (c .before .before .before .before .before .before .before .before .before) in (
       on-anchor (t s) (s .pre .0) (s .args .clockwise) (l .c) i (a .result) (a .ensures),
-      (omega (arith, g .few, g .x-len, r .x-room), omega (arith, g .few, g .y-len, r .y-room), omega (arith, g .few, g .to-x-len, r .to-x-room), omega (arith, g .few, g .to-y-len, r .to-y-room)),
+      gather-room (t s) _ _ (h s) (l .who) (anchors (l .x) (l .y) (l .to-x) (l .to-y)) (l .m) (l .c) (l .inv) i (less-room (h s) _ (s .pre .1 .anchor-room) f),
     )
 
 add-m : tie.Need-add-m Inv-loop μ-loop

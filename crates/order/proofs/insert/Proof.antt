@@ -5,7 +5,7 @@ use Prim.Native.Nat.{ℕ, _-_, _<_}
 use lib.ListN.{getD, length-set}
 use mathlib.Core.Bool.{Bool}
 use mathlib.Core.List.{List}
-use Rattle.anchor.specs.Anchors.{Anchors, anchors}
+use Rattle.anchor.specs.Anchors.{Anchors, anchors, less-room}
 use Rattle.order.specs.HoleLists.{byAnchor}
 use Rattle.order.proofs.Insertions.{Shifted, shift-start, shift-more, shift-stop, shift-end, went}
 use Rattle.order.proofs.insert.Statement.{statement}
@@ -29,13 +29,13 @@ earlier : (c : tie.At-loop Inv-loop μ-loop) → 0 < c .loop .p → getD (c .loo
 earlier c t = let i = c .loop .inv in rw (i .below (c .loop .p - 1) (omega arith)) (c .before .before .before .before .before .pre .1 .1 (c .loop .p - 1) (omega (arith, i .within)))
 
 listed-anchor-requires : tie.Need-listed-anchor-requires Inv-loop μ-loop
-listed-anchor-requires c κs = let s = c .before .before in let r = s .pre .0 .0 .room in (omega (arith, r .x-room), omega (arith, r .y-room), omega (arith, r .to-x-room), omega (arith, r .to-y-room))
+listed-anchor-requires c κs = let s = c .before .before in s .pre .0 .0 .on-grid .room
 
 mul-c : tie.Need-mul-c Inv-loop μ-loop
 mul-c c = let s = c .before .before .before in omega (arith, s .pre .0 .1)
 
 shared-slice-read-c : tie.Need-shared-slice-read-c Inv-loop μ-loop
-shared-slice-read-c c = let s = c .before .before .before .before in omega (arith, s .pre .0 .0 .room .who-room)
+shared-slice-read-c c = let s = c .before .before .before .before in omega (arith, s .pre .0 .0 .who-room)
 
 loop-holds : tie.Need-loop-holds Inv-loop μ-loop
 loop-holds c = let s = c .before .before .before .before in shift-start (test (s .args .who .now) (h s) (s .args .ord .now) (s .args .j)) _ _
@@ -54,18 +54,18 @@ cast-i c = omega (arith, c .slice-known2 .given (c .before .before .loop .p - 1)
 
 listed-anchor-requires-2 : tie.Need-listed-anchor-requires-2 Inv-loop μ-loop
 listed-anchor-requires-2 c κs =
-    let s = c .before .before .before .before .before .before .before in let r = s .pre .0 .0 .room in let d = earlier (c .before .before) (c .before .loop-test .taken) in
-    (omega (arith, r .x-room), omega (arith, r .y-room), omega (arith, r .to-x-room), omega (arith, r .to-y-room))
+    let s = c .before .before .before .before .before .before .before in let d = earlier (c .before .before) (c .before .loop-test .taken) in
+    less-room (h s) _ (s .pre .0 .0 .on-grid .room) (omega (arith, d))
 
 mul-goes-before : tie.Need-mul-goes-before Inv-loop μ-loop
 mul-goes-before c = let s = c .before .before .before .before .before .before .before .before in omega (arith, s .pre .0 .1, earlier (c .before .before .before) (c .before .before .loop-test .taken))
 
 shared-slice-read-goes-before : tie.Need-shared-slice-read-goes-before Inv-loop μ-loop
-shared-slice-read-goes-before c = let s = c .before .before .before .before .before .before .before .before .before in omega (arith, s .pre .0 .0 .room .who-room, earlier (c .before .before .before .before) (c .before .before .before .loop-test .taken))
+shared-slice-read-goes-before c = let s = c .before .before .before .before .before .before .before .before .before in omega (arith, s .pre .0 .0 .who-room, earlier (c .before .before .before .before) (c .before .before .before .loop-test .taken))
 
 goes-before-requires : tie.Need-goes-before-requires Inv-loop μ-loop
 goes-before-requires c κs =
-    let s = c .before .before .before .before .before .before .before .before .before in let b = s .pre .0 .0 in let i = getD (c .before .before .before .before .loop .ord) (c .before .before .before .before .loop .p - 1) 0 in let d = earlier (c .before .before .before .before) (c .before .before .before .loop-test .taken) in
+    let s = c .before .before .before .before .before .before .before .before .before in let b = s .pre .0 .0 .on-grid in let i = getD (c .before .before .before .before .loop .ord) (c .before .before .before .before .loop .p - 1) 0 in let d = earlier (c .before .before .before .before) (c .before .before .before .loop-test .taken) in
     rw (c .before .before .before .before .before .before .listed-anchor .ensures, c .before .listed-anchor2 .ensures) (b .at (s .args .j) (omega arith), b .to (s .args .j) (omega arith), b .at i (omega arith), b .to i (omega arith))
 
 mul-ord : tie.Need-mul-ord Inv-loop μ-loop

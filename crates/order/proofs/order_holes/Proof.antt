@@ -2,7 +2,8 @@
 use native.Mathlib.Omega.{arith}
 use Prim.Native.Nat.{_-_}
 use Rattle.anchor.specs.Anchors.{Anchors, anchors}
-use Rattle.order.proofs.Insertions.{Ordering, ordering-start, ordering-below, ordering-more, ordering-end, bounded-to}
+use Rattle.order.specs.HoleLists.{bounded-to}
+use Rattle.order.proofs.Insertions.{Ordering, ordering-start, ordering-below, ordering-more, ordering-end}
 use Rattle.order.proofs.order_holes.Statement.{statement}
 use Rattle.order.proofs.order_holes.Tie as tie
 

@@ -26,7 +26,7 @@ h c = anchors (c .gather-holes .last .1 .1 .1 .1 .1 .1 .0) (c .gather-holes .las
 room : (c : tie.After-gather-holes) → Room (who c) (h c) maxLinks
 room c =
     let k = c .gather-holes .kept in
-    record { who-room = omega (arith, k .1 .1 .1 .1 .1 .0); x-room = omega (arith, k .1 .1 .1 .1 .1 .1 .0); y-room = omega (arith, k .1 .1 .1 .1 .1 .1 .1 .0); to-x-room = omega (arith, k .1 .1 .1 .1 .1 .1 .1 .1 .0); to-y-room = omega (arith, k .1 .1 .1 .1 .1 .1 .1 .1 .1 .0) }
+    record { who-room = omega (arith, k .1 .1 .1 .1 .1 .0); anchor-room = record { x-room = omega (arith, k .1 .1 .1 .1 .1 .1 .0); y-room = omega (arith, k .1 .1 .1 .1 .1 .1 .1 .0); to-x-room = omega (arith, k .1 .1 .1 .1 .1 .1 .1 .1 .0); to-y-room = omega (arith, k .1 .1 .1 .1 .1 .1 .1 .1 .1 .0) } }
 
 slice-aggregate-gather-holes : tie.Need-slice-aggregate-gather-holes
 slice-aggregate-gather-holes c = search needs
@@ -44,7 +44,7 @@ slice-aggregate-gather-holes-5 : tie.Need-slice-aggregate-gather-holes-5
 slice-aggregate-gather-holes-5 c = search needs
 
 gather-holes-requires : tie.Need-gather-holes-requires
-gather-holes-requires c κs = let s = c .before .before .before .before .before .before .before .before .before in (s .pre .0, record { who-room = omega arith; x-room = omega arith; y-room = omega arith; to-x-room = omega arith; to-y-room = omega arith })
+gather-holes-requires c κs = let s = c .before .before .before .before .before .before .before .before .before in (s .pre .0, record { who-room = omega arith; anchor-room = record { x-room = omega arith; y-room = omega arith; to-x-room = omega arith; to-y-room = omega arith } })
 
 slice-aggregate-contours-under : tie.Need-slice-aggregate-contours-under
 slice-aggregate-contours-under c = search needs
