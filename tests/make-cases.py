@@ -5,8 +5,9 @@
     tests/make-cases.py --check       compares tests/cases with what would be written, and every expected output with the reading
     tests/make-cases.py --large DIR   writes into DIR the cases that are not stored: large files, and every cut of E2's file
 
-An expected output comes from document 01, from hand, or from the independent reading of document 01 in Rust (rust/reading), never from
-the program. Only the reading's outputs are asked for; those of the other two are written here, and `--check` has the reading confirm them.
+An expected output comes from document 01, from hand, or from the independent reading of document 01 in Rust
+(rust/reading), never from the program. Only the reading's outputs are asked for; those of the other two are written
+here, and `--check` has the reading confirm them.
 """
 
 import functools
@@ -466,16 +467,18 @@ def files():
 
 TABLE = """# The program's cases
 
-`tests/run-cases` runs the program on each NAME.graph and compares what it prints with NAME.out. `tests/make-cases.py` writes this folder: the inputs are
-described there, and so are the outputs that come from document 01 or from hand. *The reading* is the independent reading of document 01 in
-Rust, `rust/reading`; it also confirms every other output. No output comes from the program.
+`tests/run-cases` runs the program on each NAME.graph and compares what it prints with NAME.out. `tests/make-cases.py`
+writes this folder: the inputs are described there, and so are the outputs that come from document 01 or from hand. *The
+reading* is the independent reading of document 01 in Rust, `rust/reading`; it also confirms every other output. No
+output comes from the program.
 
-Numbers that the program cannot give: 2, since it lends lists of right length and room for the largest file; 10 and 11, since what extraction writes passes
-them (docs/THEOREMS.md). 1 comes from the file alone: a 4,097th link ends the reading.
+Numbers that the program cannot give: 2, since it lends lists of right length and room for the largest file; 10 and 11,
+since what extraction writes passes them (docs/THEOREMS.md). 1 comes from the file alone: a 4,097th link ends the
+reading.
 
-Not stored, but made at test time (`make-cases.py --large`): files at the limits of 4,096 links, 4,096 nodes and 8,192 entries and one past them, whole, cut and
-with more after them; 1,365 triangles, 1,024 squares, 1,023 holes, 1,022 holes that are searched, a star of 2,730 links at one node; and every cut of E2's file.
-Their outputs are by hand.
+Not stored, but made at test time (`make-cases.py --large`): files at the limits of 4,096 links, 4,096 nodes and 8,192
+entries and one past them, whole, cut and with more after them; 1,365 triangles, 1,024 squares, 1,023 holes, 1,022 holes
+that are searched, a star of 2,730 links at one node; and every cut of E2's file. Their outputs are by hand.
 
 | case | what it shows | expected output from |
 |---|---|---|"""
