@@ -14,7 +14,7 @@ use Rattle.turn.specs.declared.Checked.the-variants.{Fine}
 use Rattle.graph.specs.Graph.{Lent, linkCount, nodeCount}
 use Rattle.laws.specs.Count.{count}
 use Rattle.graph.specs.Checks.{Room, aOf, bOf, nodeAt, entriesOf, unlike, fewPoints, unlikeBand, fewContours, linkWrong, badStarts, badNodes, apartAt, alikeAt, nodesChecked, eachChecked, linksChecked, checked}
-use Rattle.graph.specs.Passes.{Even, EndAt, entry, endOf, awayOf, Passes}
+use Rattle.graph.specs.Passes.{Even, EndAt, entry, endPointOf, awayOf, Passes}
 use Rattle.laws.specs.Fails.{Iff, Fails, then, both, or-fails, some-fails, lt-fails, ne-fails}
 use Rattle.graph.specs.Tests.{two-fails, even, band-even, contours, placed, named, flagged, in-order, rising, no-stray, together, unlike-ways}
 use Rattle.turn.specs.Refusals.{refuses, both-fine}
@@ -36,7 +36,7 @@ module _ (g : Lent) (top state : List ℕ) (r : Room) where
       × ((k : ℕ) → k < linkCount g → (count k (entriesOf g (getD (g .aId) k 0)) ≡ 1) × (count k (entriesOf g (getD (g .bId) k 0)) ≡ 1))
 
   abbrev Points : Type 0
-  Points = (v : ℕ) → v < nodeCount g → (j : ℕ) → j < length (entriesOf g v) → (i : ℕ) → i < j → endOf g v (entry g v i) ≡ endOf g v (entry g v j)
+  Points = (v : ℕ) → v < nodeCount g → (j : ℕ) → j < length (entriesOf g v) → (i : ℕ) → i < j → endPointOf g v (entry g v i) ≡ endPointOf g v (entry g v j)
 
   abbrev Ways : Type 0
   Ways = (v : ℕ) → v < nodeCount g → (j : ℕ) → j < length (entriesOf g v) → (i : ℕ) → i < j
@@ -90,10 +90,10 @@ module _ (g : Lent) (top state : List ℕ) (r : Room) where
   all = then (both-fine (linksChecked g top state r) (nodesChecked g state)) (both by-links by-nodes)
 
   -- two entries in either order
-  any-two : Points → (v i j : ℕ) → v < nodeCount g → i < length (entriesOf g v) → j < length (entriesOf g v) → endOf g v (entry g v i) ≡ endOf g v (entry g v j)
+  any-two : Points → (v i j : ℕ) → v < nodeCount g → i < length (entriesOf g v) → j < length (entriesOf g v) → endPointOf g v (entry g v i) ≡ endPointOf g v (entry g v j)
   any-two h v i j l li lj = go (decLe j i) (decLe i j)
     where
-      go : Dec (j ≤ i) → Dec (i ≤ j) → endOf g v (entry g v i) ≡ endOf g v (entry g v j)
+      go : Dec (j ≤ i) → Dec (i ≤ j) → endPointOf g v (entry g v i) ≡ endPointOf g v (entry g v j)
       go (no p) q = h v l j lj i (omega arith)
       go (yes p) (no q) = sym (h v l i li j (omega arith))
       go (yes p) (yes q) = let e : i ≡ j = omega arith in rw e

@@ -112,7 +112,7 @@ fn role_owner(role: Role) -> u16
     }
 }
 
-fn wide(x: u16) -> u32
+fn as_u32(x: u16) -> u32
     ensures { λ r. ⌜ r ≡ x ⌝ }
 {
     x as u32
@@ -125,7 +125,7 @@ fn found_record(found: ContourRecord) -> GuovdamasRecord
     GuovdamasRecord {
         found: 1,
         role: role_number(role),
-        owner: wide(role_owner(role)),
+        owner: as_u32(role_owner(role)),
         first: found.first,
         len: found.len,
     }

@@ -14,7 +14,8 @@ use Rattle.graph.specs.Graph.{Graph}
 use Rattle.next.specs.declared.Next.{Next}
 use Rattle.next.specs.declared.Next.the-variants.{Link, Nothing}
 use Rattle.next.specs.declared.Across.the-variants.{Named, Choice}
-use Rattle.next.specs.Next.{isUnvisited, unvisitedIn, onlyUnvisited, Node, bridge, crossing, nodeOf, runs, metFirst, best, firstMet, acrossFrom, nextAt, acrossAt, nextLink}
+use Rattle.next.specs.Next.{isUnvisited, unvisitedIn, onlyUnvisited, Node, bridge, crossing, nodeOf, metFirst, best, firstMet, acrossFrom, nextAt, acrossAt, nextLink}
+use Rattle.graph.specs.Checks.{awayFrom}
 use Rattle.next.specs.Known.{NamesUnvisited}
 use Rattle.next.specs.States.{names-unvisited, only-unvisited}
 
@@ -173,10 +174,10 @@ module _ (g : Graph) (sense : Bool) (st : List ℕ) (v e : ℕ) where
   lt = metFirst g sense v e
 
   irr : (x : ℕ) → Is (lt x x) → ⊥
-  irr x = irreflexive sense (runs g v e) (runs g v x)
+  irr x = irreflexive sense (awayFrom g v e) (awayFrom g v x)
 
   trans : (x y z : ℕ) → Is (lt x y) → Is (lt y z) → Is (lt x z)
-  trans x y z = transitive sense (runs g v e) (runs g v x) (runs g v y) (runs g v z)
+  trans x y z = transitive sense (awayFrom g v e) (awayFrom g v x) (awayFrom g v y) (awayFrom g v z)
 
   -- at a `Cross`
   module _ (cross : length (g .entries v) ≡ 2 → ⊥) where

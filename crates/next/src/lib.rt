@@ -1,6 +1,8 @@
 // The first link of a walk and the next link at a node (document 01, "Walking", rules 1 and 3).
+use graph::point_at;
 use turn::Point;
 use turn::Vector;
+use turn::wide;
 ghost use mathlib.Core.Path.{_≡_};
 ghost use mathlib.Core.Bool.{true};
 ghost use mathlib.Core.List.{List, []};
@@ -12,7 +14,8 @@ ghost use Rattle.turn.specs.Points.{Short, clockwise, cross};
 ghost use Rattle.turn.specs.Angle.{turned};
 ghost use Rattle.turn.specs.Rank.{byRank};
 ghost use Rattle.graph.specs.Graph.{lent, graphOf, pointAt, part};
-ghost use Rattle.next.specs.Next.{isUnvisited, unvisitedIn, onlyUnvisited, nodeOf, runs, metFirst, best, firstMet, acrossAt, nextLink, replaces, topmost, firstLink};
+ghost use Rattle.next.specs.Next.{isUnvisited, unvisitedIn, onlyUnvisited, nodeOf, metFirst, best, firstMet, acrossAt, nextLink, replaces, topmost, firstLink};
+ghost use Rattle.graph.specs.Checks.{awayFrom};
 ghost use Rattle.next.specs.Known.{Links, Nodes, Entries, Numbers, NamesUnvisited, linksOf, stretch, rayOf, sideOf};
 ghost use Rattle.next.specs.Passed.{Passed};
 
@@ -42,27 +45,12 @@ struct Side {
     b: Point,
 }
 
-// A 32-bit number as an index.
-fn wide(x: u32) -> usize
-    ensures { λ r. ⌜ r ≡ x ⌝ }
-{
-    x as usize
-}
-
 // An entry of a list of numbers.
 fn number(list: &[u32], i: usize) -> usize
     requires { ⌜ i < length (now list) ⌝ }
     ensures { λ r. ⌜ r ≡ getD (now (list .entry)) i 0 ⌝ }
 {
     wide(list[i])
-}
-
-// The point that two lists of coordinates have at k.
-fn point(x: &[i32], y: &[i32], k: usize) -> Point
-    requires { ⌜ (k < length (now x)) × (k < length (now y)) ⌝ }
-    ensures { λ r. ⌜ r ≡ pointAt (now (x .entry)) (now (y .entry)) k ⌝ }
-{
-    Point { x: x[k], y: y[k] }
 }
 
 // A link that the rule names, if it is unvisited.
@@ -103,11 +91,11 @@ fn way_of(
 ) -> Vector
     requires { ⌜ Links (now ax) (now ay) (now bx) (now by) (length (now aid)) ⌝ }
     requires { ⌜ k < length (now aid) ⌝ }
-    ensures { λ r. ⌜ r ≡ runs (linksOf (now (ax .entry)) (now (ay .entry)) (now (bx .entry)) (now (by .entry)) (now (aid .entry))) node k ⌝ }
+    ensures { λ r. ⌜ r ≡ awayFrom (linksOf (now (ax .entry)) (now (ay .entry)) (now (bx .entry)) (now (by .entry)) (now (aid .entry))) node k ⌝ }
     ensures { λ r. ⌜ Short r ⌝ }
 {
-    let a = point(ax, ay, k);
-    let b = point(bx, by, k);
+    let a = point_at(ax, ay, k);
+    let b = point_at(bx, by, k);
     if number(aid, k) == node {
         return turn::between(a, b);
     }
@@ -300,9 +288,9 @@ fn find_left_top_link_on_bridge(
     requires { ⌜ (l0 < length (now state)) × (l1 < length (now state)) ⌝ }
     ensures { λ r. ⌜ r ≡ onlyUnvisited (now (state .entry)) (pick (clockwise (pointAt (now (ax .entry)) (now (ay .entry)) l0) (pointAt (now (bx .entry)) (now (by .entry)) l0) (pointAt (now (bx .entry)) (now (by .entry)) l1)) l0 l1) ⌝ }
 {
-    let a = point(ax, ay, l0);
-    let b = point(bx, by, l0);
-    let c = point(bx, by, l1);
+    let a = point_at(ax, ay, l0);
+    let b = point_at(bx, by, l0);
+    let c = point_at(bx, by, l1);
     if turn::clockwise(a, b, c) {
         return only_unvisited(state, l0);
     }
@@ -331,13 +319,13 @@ fn higher(
     if state[x] != 0 {
         return choice;
     }
-    let b = point(bx, by, x);
+    let b = point_at(bx, by, x);
     if turn::clockwise(choice.a, choice.b, b) {
         return choice;
     }
     Side {
         link: x,
-        a: point(ax, ay, x),
+        a: point_at(ax, ay, x),
         b: b,
     }
 }
@@ -360,8 +348,8 @@ fn find_left_top_link_on_indices(
 {
     let mut choice = Side {
         link: k,
-        a: point(ax, ay, k),
-        b: point(bx, by, k),
+        a: point_at(ax, ay, k),
+        b: point_at(bx, by, k),
     };
     let mut i = from;
     while i < to {

@@ -13,7 +13,8 @@ use Rattle.laws.specs.Test.{pick, pick-true, pick-ind, true≢false, true-is}
 use Rattle.turn.specs.Angular.{own-last}
 use Rattle.graph.specs.Graph.{Graph}
 use Rattle.laws.specs.Count.{count, counted-in}
-use Rattle.next.specs.Next.{isUnvisited, unvisitedIn, runs, metFirst}
+use Rattle.next.specs.Next.{isUnvisited, unvisitedIn, metFirst}
+use Rattle.graph.specs.Checks.{awayFrom}
 use Rattle.next.specs.Choice.{Mem, unvisited-in-in, unvisited-in-of}
 use Rattle.tour.specs.Statement.{leaves, InOrder, Clockwise, ByTurns, howMany, TurnsAt, ComesByTurns}
 use Rattle.tour.specs.Alternation.{no-not, dicho}
@@ -159,7 +160,7 @@ module _ (g : Graph) (st : List ℕ) (ok : Sound g st) (v : ℕ) where
   B x y z = metFirst g true v x y z ≡ true
 
   pub own : (x y : ℕ) → B x x y → ⊥
-  own x y h = own-last true (runs g v x) (runs g v y) (true-is h)
+  own x y h = own-last true (awayFrom g v x) (awayFrom g v y) (true-is h)
 
   asym : (x y z : ℕ) → B x y z → B x z y → ⊥
   asym x y z h k = met-irr g true v x y (met-trans g true v x y z y h k)

@@ -15,10 +15,10 @@ use Rattle.turn.specs.Angle.{sameDirection}
 use Rattle.turn.specs.Size.{half}
 use Rattle.turn.specs.declared.Checked.the-variants.{Fine}
 use Rattle.graph.specs.Graph.{Lent, Graph, graphOf}
-use Rattle.graph.specs.Checks.{Room, checked}
+use Rattle.graph.specs.Checks.{Room, checked, awayFrom}
 use Rattle.next.specs.declared.Next.{Next}
 use Rattle.next.specs.declared.Next.the-variants.{Link, Nothing}
-use Rattle.next.specs.Next.{runs, other, nextLink, firstLink, unvisited}
+use Rattle.next.specs.Next.{other, nextLink, firstLink, unvisited}
 use Rattle.next.specs.Choice.{Mem}
 use Rattle.walk.specs.Walk.{Step, Walk, Walked, stuck, done, consStep, onNext, stepFrom, walkOn, walkFrom, left, marked, markOf}
 use Rattle.scan.specs.Scan.{senseOf, walkOf, Scanned, stopped, walks, consWalk, afterWalk, scanAt, lowestUnvisited, scanOn, scan}
@@ -125,23 +125,23 @@ module _ (g : Graph) (st : List ℕ) (ok : Sound g st) where
   differ s o = ok .lists .differ (s .link) (below g st ok (s .link) o)
 
   -- how a link runs from the node that a step along it leaves, and from the one that it reaches
-  runs-left : (h : ℕ) (s : Step) → Known s → nodeLeft g s ≡ h → runs g h (s .link) ≡ fromTo (left g s) (reached g s)
-  runs-left h s o = by (s .forward)
+  away-left : (h : ℕ) (s : Step) → Known s → nodeLeft g s ≡ h → awayFrom g h (s .link) ≡ fromTo (left g s) (reached g s)
+  away-left h s o = by (s .forward)
     where
       k : ℕ
       k = s .link
 
-      by : (b : Bool) → pick b (g .aNode k) (g .bNode k) ≡ h → runs g h k ≡ fromTo (pick b (g .a k) (g .b k)) (pick b (g .b k) (g .a k))
+      by : (b : Bool) → pick b (g .aNode k) (g .bNode k) ≡ h → awayFrom g h k ≡ fromTo (pick b (g .a k) (g .b k)) (pick b (g .b k) (g .a k))
       by true e = pick-true (fromTo (g .a k) (g .b k)) (fromTo (g .b k) (g .a k)) (eq-eqb (g .aNode k) h e)
       by false e = pick-false (fromTo (g .a k) (g .b k)) (fromTo (g .b k) (g .a k)) (ne-eqb (g .aNode k) h (λ q. differ s o (q ∙ sym e)))
 
-  runs-reached : (h : ℕ) (s : Step) → Known s → nodeReached g s ≡ h → runs g h (s .link) ≡ fromTo (reached g s) (left g s)
-  runs-reached h s o = by (s .forward)
+  away-reached : (h : ℕ) (s : Step) → Known s → nodeReached g s ≡ h → awayFrom g h (s .link) ≡ fromTo (reached g s) (left g s)
+  away-reached h s o = by (s .forward)
     where
       k : ℕ
       k = s .link
 
-      by : (b : Bool) → pick b (g .bNode k) (g .aNode k) ≡ h → runs g h k ≡ fromTo (pick b (g .b k) (g .a k)) (pick b (g .a k) (g .b k))
+      by : (b : Bool) → pick b (g .bNode k) (g .aNode k) ≡ h → awayFrom g h k ≡ fromTo (pick b (g .b k) (g .a k)) (pick b (g .a k) (g .b k))
       by true e = pick-false (fromTo (g .a k) (g .b k)) (fromTo (g .b k) (g .a k)) (ne-eqb (g .aNode k) h (λ q. differ s o (q ∙ sym e)))
       by false e = pick-true (fromTo (g .a k) (g .b k)) (fromTo (g .b k) (g .a k)) (eq-eqb (g .aNode k) h e)
 
@@ -173,9 +173,9 @@ module _ (g : Graph) (st : List ℕ) (ok : Sound g st) where
       let bt = below g st ok (t .link) ot in
       let there : reached g s ≡ left g t = meet g (ok .points) true (s .forward) (t .forward) (s .link) (t .link) bs bt (sym (l .1 .0)) in
       let home : reached g t ≡ left g s = meet g (ok .points) true (t .forward) (s .forward) (t .link) (s .link) bt bs (l .1 .1 ∙ sym (l .0)) in
-      let one : runs g h (s .link) ≡ runs g h (t .link) = runs-left h s os (l .0) ∙ ap₂ fromTo (sym home) there ∙ sym (runs-reached h t ot (l .1 .1)) in
+      let one : awayFrom g h (s .link) ≡ awayFrom g h (t .link) = away-left h s os (l .0) ∙ ap₂ fromTo (sym home) there ∙ sym (away-reached h t ot (l .1 .1)) in
       ok .spread .apart h (s .link) (t .link) os ot (at-node h s os (inl (l .0))) (at-node h t ot (inr (l .1 .1))) (λ q. d (sym q))
-      (subst (λ u. Is (sameDirection (runs g h (s .link)) u)) one (same-refl (runs g h (s .link)) (ok .spread .long h (s .link) os)))
+      (subst (λ u. Is (sameDirection (awayFrom g h (s .link)) u)) one (same-refl (awayFrom g h (s .link)) (ok .spread .long h (s .link) os)))
 
   three-steps : (m : ℕ) (now : List ℕ) (l : List Step) → Mark m → Fresh m now l → ((k : ℕ) → Unvisited now k → Unvisited st k) → ((v : ℕ) × Line g v l v) → 0 < length l → 3 ≤ length l
   three-steps m now [] n f sub c z = absurd (none z)

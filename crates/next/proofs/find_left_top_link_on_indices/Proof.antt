@@ -15,14 +15,14 @@ Inv-loop ax ay bx by list state k from to choice₀ i₀ choice i = Climbed (lin
 abbrev μ-loop : tie.MeasureT-loop
 μ-loop ax ay bx by list state k from to choice₀ i₀ choice i = to - i
 
-point-requires : tie.Need-point-requires Inv-loop μ-loop
-point-requires c κs = search needs
+point-at-requires : tie.Need-point-at-requires Inv-loop μ-loop
+point-at-requires c κs = search needs
 
-point-requires-2 : tie.Need-point-requires-2 Inv-loop μ-loop
-point-requires-2 c κs = search needs
+point-at-requires-2 : tie.Need-point-at-requires-2 Inv-loop μ-loop
+point-at-requires-2 c κs = search needs
 
 loop-holds : tie.Need-loop-holds Inv-loop μ-loop
-loop-holds c = let s = c .before .before .before .before in record { low = omega arith; within = s .pre .1 .0; ok = rw (c .before .point .ensures, c .point2 .ensures); below = s .pre .1 .3; ends = refl }
+loop-holds c = let s = c .before .before .before .before in record { low = omega arith; within = s .pre .1 .0; ok = rw (c .before .point-at .ensures, c .point-at2 .ensures); below = s .pre .1 .3; ends = refl }
 
 number-requires : tie.Need-number-requires Inv-loop μ-loop
 number-requires c κs = omega arith
@@ -55,8 +55,8 @@ find-left-top-link-on-indices-spec =
     (tie.spec
     Inv-loop
     μ-loop
-    point-requires
-    point-requires-2
+    point-at-requires
+    point-at-requires-2
     loop-holds
     number-requires
     higher-requires
