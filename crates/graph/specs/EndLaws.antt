@@ -51,7 +51,8 @@ ends-away a b aNode v k = by (eqb (aNode k) v)
     by false = refl
 
 -- ---- pairs: what the loops over them have to show
-pub pair-found : (test : ℕ → ℕ → Bool) (n i j : ℕ) → i < j → j < n → None (λ t. some (λ s. test s t) t) j → None (λ s. test s j) i → test i j ≡ true → someTwo test n ≡ true
+pub pair-found : (test : ℕ → ℕ → Bool) (n i j : ℕ) → i < j → j < n → None (λ t. some (λ s. test s t) t) j → None (λ s. test s j) i → test i j ≡ true
+    → someTwo test n ≡ true
 pair-found test n i j li lj hj hi e = some-yes (λ t. some (λ s. test s t) t) n j lj hj (some-yes (λ s. test s j) j i li hi e)
 
 pub no-pair : (test : ℕ → ℕ → Bool) (n : ℕ) → None (λ t. some (λ s. test s t) t) n → someTwo test n ≡ false
@@ -80,17 +81,23 @@ module _ (p q r u : Point) where
   turned-both : cross (fromTo q p) (fromTo u r) ≡ cross (fromTo p q) (fromTo r u)
   turned-both = ring at (crossE 1 0 3 2) (crossE 0 1 2 3) tt
 
-  parallel : (s t : Bool) → eqS (sgn (cross (pick s (fromTo p q) (fromTo q p)) (pick t (fromTo r u) (fromTo u r)))) zer ≡ eqS (sgn (cross (fromTo p q) (fromTo r u))) zer
+  parallel : (s t : Bool) → eqS (sgn (cross (pick s (fromTo p q) (fromTo q p)) (pick t (fromTo r u) (fromTo u r)))) zer
+      ≡ eqS (sgn (cross (fromTo p q) (fromTo r u))) zer
   parallel true true = refl
   parallel true false = rw (turned-second, sgn-neg (cross (fromTo p q) (fromTo r u))) (flip-zer (sgn (cross (fromTo p q) (fromTo r u))))
   parallel false true = rw (turned-first, sgn-neg (cross (fromTo p q) (fromTo r u))) (flip-zer (sgn (cross (fromTo p q) (fromTo r u))))
   parallel false false = rw turned-both
 
-pub not-parallel : (a b : ℕ → Point) (aNode : ℕ → ℕ) (state : List ℕ) (v e f : ℕ) → (cross (fromTo (a e) (b e)) (fromTo (a f) (b f)) ≡ pos 0 → ⊥) → false ≡ alike a b aNode state v e f
-not-parallel a b aNode state v e f n = by (skipped state e) (skipped state f) (eqS (sgn (cross (away a b aNode v e) (away a b aNode v f))) zer) (eqS (sgn (dot (away a b aNode v e) (away a b aNode v f))) pls) (parallel (a e) (b e) (a f) (b f) (eqb (aNode e) v) (eqb (aNode f) v) ∙ apart-lines)
+pub not-parallel : (a b : ℕ → Point) (aNode : ℕ → ℕ) (state : List ℕ) (v e f : ℕ) → (cross (fromTo (a e) (b e)) (fromTo (a f) (b f)) ≡ pos 0 → ⊥)
+    → false ≡ alike a b aNode state v e f
+not-parallel a b aNode state v e f n =
+    by (skipped state e) (skipped state f) (eqS (sgn (cross (away a b aNode v e) (away a b aNode v f))) zer)
+    (eqS (sgn (dot (away a b aNode v e) (away a b aNode v f))) pls) (parallel (a e) (b e) (a f) (b f) (eqb (aNode e) v) (eqb (aNode f) v) ∙ apart-lines)
   where
     apart-lines : eqS (sgn (cross (fromTo (a e) (b e)) (fromTo (a f) (b f)))) zer ≡ false
-    apart-lines = not-true (eqS (sgn (cross (fromTo (a e) (b e)) (fromTo (a f) (b f)))) zer) (λ h. n (sgn-zer (cross (fromTo (a e) (b e)) (fromTo (a f) (b f))) (eqS-eq (true-is h))))
+    apart-lines =
+        not-true (eqS (sgn (cross (fromTo (a e) (b e)) (fromTo (a f) (b f)))) zer)
+        (λ h. n (sgn-zer (cross (fromTo (a e) (b e)) (fromTo (a f) (b f))) (eqS-eq (true-is h))))
 
     by : (s t d g : Bool) → d ≡ false → false ≡ not s && not t && (d && g)
     by true t d g h = refl

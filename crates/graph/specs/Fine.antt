@@ -225,7 +225,8 @@ module _ {g : Lent} {points : ℕ} (top : List ℕ) (h : SharedPasses g points) 
         go (no l) m = subst (λ (x : ℕ). sameDirection (awayFrom G v x) (awayFrom G v k) ≡ false) (s .here)
             (subst (λ (x : ℕ). sameDirection (awayFrom G v (entry g v (s .place))) (awayFrom G v x) ≡ false) (t .here)
             (b .spread v (s .place) (t .place) (inside v j p) (omega arith) (t .within) unskipped-s unskipped-t))
-        go (yes l) (no m) = same-direction-sym (awayFrom G v k) (awayFrom G v j) ∙ subst (λ (x : ℕ). sameDirection (awayFrom G v k) (awayFrom G v x) ≡ false) (s .here)
+        go (yes l) (no m) =
+            same-direction-sym (awayFrom G v k) (awayFrom G v j) ∙ subst (λ (x : ℕ). sameDirection (awayFrom G v k) (awayFrom G v x) ≡ false) (s .here)
             (subst (λ (x : ℕ). sameDirection (awayFrom G v x) (awayFrom G v (entry g v (s .place))) ≡ false) (t .here)
             (b .spread v (t .place) (s .place) (inside v j p) (omega arith) (s .within) unskipped-t unskipped-s))
         go (yes l) (yes m) =

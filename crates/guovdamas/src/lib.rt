@@ -11,7 +11,8 @@ ghost use Rattle.extract.specs.Extract.{extracted};
 ghost use Rattle.table.specs.Table.{Table, table};
 ghost use Rattle.lookup.specs.Lookups.{roleOwner, lookedUp};
 ghost use Rattle.bind.specs.Outcome.{bound};
-ghost use Rattle.guovdamas.specs.Numbers.{extractionOf, bindingOf, foundRecord, recordNumbers, roleNumber, extracting, numberedExtracted, binding, numberedBound};
+ghost use Rattle.guovdamas.specs.Numbers.{extractionOf, bindingOf, foundRecord, recordNumbers, roleNumber, extracting, numberedExtracted};
+ghost use Rattle.guovdamas.specs.Numbers.{binding, numberedBound};
 
 // What extraction answers: document 01's number and place, 0 and 0 when done; the counts and the signed doubled totals, all 0 after a refusal.
 #[repr(C)]

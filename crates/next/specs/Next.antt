@@ -71,7 +71,8 @@ firstMet lt (x ∷ l) = Link (best lt x l)
 abbrev pub acrossFrom : List ℕ → ℕ → ℕ → ℕ → Next
 acrossFrom st e x y = onlyUnvisited st (pick (eqb x e) y x)
 
--- "Next link at a `Bridge`: the other entry. At a `Cross`: of the unvisited links, the first met when turning from the link just walked, clockwise if the sense is true."
+-- "Next link at a `Bridge`: the other entry. At a `Cross`: of the unvisited links, the first met when turning from the
+-- link just walked, clockwise if the sense is true."
 abbrev pub nextAt : Graph → Bool → List ℕ → ℕ → ℕ → Node → Next
 nextAt g sense st v e (bridge x y) = acrossFrom st e x y
 nextAt g sense st v e (crossing l) = firstMet (metFirst g sense v e) (unvisitedIn st l)

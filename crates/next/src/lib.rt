@@ -13,8 +13,9 @@ ghost use Rattle.laws.specs.Sign.{sgn, is-mns};
 ghost use Rattle.turn.specs.Points.{Short, clockwise, cross};
 ghost use Rattle.turn.specs.Angle.{turned};
 ghost use Rattle.turn.specs.Rank.{byRank};
-ghost use Rattle.graph.specs.Graph.{lent, graphOf, pointAt, part};
-ghost use Rattle.next.specs.Next.{isUnvisited, unvisitedIn, onlyUnvisited, nodeOf, metFirst, best, firstMet, acrossAt, nextLink, replaces, topmost, firstLink};
+ghost use Rattle.graph.specs.Graph.{Lent, Graph, lent, graphOf, pointAt, part};
+ghost use Rattle.next.specs.Next.{isUnvisited, unvisitedIn, onlyUnvisited, nodeOf, metFirst, best, firstMet, acrossAt, nextLink, replaces};
+ghost use Rattle.next.specs.Next.{topmost, firstLink};
 ghost use Rattle.graph.specs.Checks.{awayFrom};
 ghost use Rattle.next.specs.Known.{Links, Nodes, Entries, Numbers, NamesUnvisited, linksOf, stretch, rayOf, sideOf};
 ghost use Rattle.next.specs.Passed.{Passed};
@@ -91,7 +92,9 @@ fn way_of(
 ) -> Vector
     requires { ⌜ Links (now ax) (now ay) (now bx) (now by) (length (now aid)) ⌝ }
     requires { ⌜ k < length (now aid) ⌝ }
-    ensures { λ r. ⌜ r ≡ awayFrom (linksOf (now (ax .entry)) (now (ay .entry)) (now (bx .entry)) (now (by .entry)) (now (aid .entry))) node k ⌝ }
+    ensures { λ r. ⌜ (let links : Graph = linksOf (now (ax .entry)) (now (ay .entry)) (now (bx .entry)) (now (by .entry)) (now (aid .entry))
+        in
+        r ≡ awayFrom links node k) ⌝ }
     ensures { λ r. ⌜ Short r ⌝ }
 {
     let a = point_at(ax, ay, k);
@@ -116,7 +119,9 @@ fn ray_of(
 ) -> Ray
     requires { ⌜ Links (now ax) (now ay) (now bx) (now by) (length (now aid)) ⌝ }
     requires { ⌜ (k < length (now aid)) × (Short from) ⌝ }
-    ensures { λ r. ⌜ r ≡ rayOf (linksOf (now (ax .entry)) (now (ay .entry)) (now (bx .entry)) (now (by .entry)) (now (aid .entry))) sense node from k ⌝ }
+    ensures { λ r. ⌜ (let links : Graph = linksOf (now (ax .entry)) (now (ay .entry)) (now (bx .entry)) (now (by .entry)) (now (aid .entry))
+        in
+        r ≡ rayOf links sense node from k) ⌝ }
     ensures { λ r. ⌜ Short (r .way) ⌝ }
 {
     let way = way_of(ax, ay, bx, by, aid, node, k);
@@ -158,7 +163,9 @@ fn nearest(
     requires { ⌜ (length (now state) ≡ length (now aid)) × (link < length (now aid)) × (k < length (now aid)) ⌝ }
     requires { ⌜ (second ≤ to) × (to ≤ length (now list)) × (Numbers (now list) second to (length (now aid))) ⌝ }
     requires { ⌜ (second < to → isUnvisited (now state) (getD (now list) second 0) ≡ true) ⌝ }
-    ensures { λ r. ⌜ r ≡ best (metFirst (linksOf (now (ax .entry)) (now (ay .entry)) (now (bx .entry)) (now (by .entry)) (now (aid .entry))) sense node link) k (unvisitedIn (now (state .entry)) (stretch (now (list .entry)) second to)) ⌝ }
+    ensures { λ r. ⌜ (let links : Graph = linksOf (now (ax .entry)) (now (ay .entry)) (now (bx .entry)) (now (by .entry)) (now (aid .entry))
+        in
+        r ≡ best (metFirst links sense node link) k (unvisitedIn (now (state .entry)) (stretch (now (list .entry)) second to))) ⌝ }
 {
     let from = way_of(ax, ay, bx, by, aid, node, link);
     let mut choice = ray_of(ax, ay, bx, by, aid, sense, node, from, k);
@@ -189,7 +196,9 @@ fn find_nearest_link_to(
     requires { ⌜ Links (now ax) (now ay) (now bx) (now by) (length (now aid)) ⌝ }
     requires { ⌜ (length (now state) ≡ length (now aid)) × (link < length (now aid)) ⌝ }
     requires { ⌜ (from ≤ to) × (to ≤ length (now list)) × (Numbers (now list) from to (length (now aid))) ⌝ }
-    ensures { λ r. ⌜ r ≡ firstMet (metFirst (linksOf (now (ax .entry)) (now (ay .entry)) (now (bx .entry)) (now (by .entry)) (now (aid .entry))) sense node link) (unvisitedIn (now (state .entry)) (stretch (now (list .entry)) from to)) ⌝ }
+    ensures { λ r. ⌜ (let links : Graph = linksOf (now (ax .entry)) (now (ay .entry)) (now (bx .entry)) (now (by .entry)) (now (aid .entry))
+        in
+        r ≡ firstMet (metFirst links sense node link) (unvisitedIn (now (state .entry)) (stretch (now (list .entry)) from to))) ⌝ }
 {
     let first = unvisited_from(list, state, from, to);
     if first == to {
@@ -252,7 +261,10 @@ pub fn next_link(
     requires { ⌜ Links (now ax) (now ay) (now bx) (now by) (length (now state)) ⌝ }
     requires { ⌜ Nodes (now aid) (now start) (now list) (length (now state)) ⌝ }
     requires { ⌜ (node + 1 < length (now start)) × (link < length (now state)) ⌝ }
-    ensures { λ r. ⌜ ((bid top : List ℕ) → r ≡ nextLink (graphOf (lent (now (ax .entry)) (now (ay .entry)) (now (bx .entry)) (now (by .entry)) (now (aid .entry)) bid (now (start .entry)) (now (list .entry))) top) sense (now (state .entry)) node link) ⌝ }
+    ensures { λ r. ⌜ ((bid top : List ℕ) →
+        let g : Lent = lent (now (ax .entry)) (now (ay .entry)) (now (bx .entry)) (now (by .entry)) (now (aid .entry))
+        bid (now (start .entry)) (now (list .entry)) in
+        r ≡ nextLink (graphOf g top) sense (now (state .entry)) node link) ⌝ }
     ensures { λ r. ⌜ NamesUnvisited (now (state .entry)) r ⌝ }
 {
     match on_bridge(start, list, state, node, link) {
@@ -286,7 +298,9 @@ fn find_left_top_link_on_bridge(
 ) -> Next
     requires { ⌜ Links (now ax) (now ay) (now bx) (now by) (length (now state)) ⌝ }
     requires { ⌜ (l0 < length (now state)) × (l1 < length (now state)) ⌝ }
-    ensures { λ r. ⌜ r ≡ onlyUnvisited (now (state .entry)) (pick (clockwise (pointAt (now (ax .entry)) (now (ay .entry)) l0) (pointAt (now (bx .entry)) (now (by .entry)) l0) (pointAt (now (bx .entry)) (now (by .entry)) l1)) l0 l1) ⌝ }
+    ensures { λ r. ⌜ r ≡ onlyUnvisited (now (state .entry))
+        (pick (clockwise (pointAt (now (ax .entry)) (now (ay .entry)) l0) (pointAt (now (bx .entry)) (now (by .entry)) l0)
+        (pointAt (now (bx .entry)) (now (by .entry)) l1)) l0 l1) ⌝ }
 {
     let a = point_at(ax, ay, l0);
     let b = point_at(bx, by, l0);
@@ -311,7 +325,8 @@ fn higher(
     requires { ⌜ Links (now ax) (now ay) (now bx) (now by) (length (now state)) ⌝ }
     requires { ⌜ (choice .link < length (now state)) × (x < length (now state)) ⌝ }
     requires { ⌜ choice ≡ sideOf (linksOf (now ax) (now ay) (now bx) (now by) []) (choice .link) ⌝ }
-    ensures { λ r. ⌜ r ≡ sideOf (linksOf (now (ax .entry)) (now (ay .entry)) (now (bx .entry)) (now (by .entry)) []) (pick (replaces (linksOf (now (ax .entry)) (now (ay .entry)) (now (bx .entry)) (now (by .entry)) []) (now (state .entry)) k (choice .link) x) x (choice .link)) ⌝ }
+    ensures { λ r. ⌜ (let links : Graph = linksOf (now (ax .entry)) (now (ay .entry)) (now (bx .entry)) (now (by .entry)) [] in
+        r ≡ sideOf links (pick (replaces links (now (state .entry)) k (choice .link) x) x (choice .link))) ⌝ }
 {
     if x == k {
         return choice;
@@ -344,7 +359,8 @@ fn find_left_top_link_on_indices(
 ) -> usize
     requires { ⌜ Links (now ax) (now ay) (now bx) (now by) (length (now state)) ⌝ }
     requires { ⌜ (from ≤ to) × (to ≤ length (now list)) × (Numbers (now list) from to (length (now state))) × (k < length (now state)) ⌝ }
-    ensures { λ r. ⌜ r ≡ topmost (linksOf (now (ax .entry)) (now (ay .entry)) (now (bx .entry)) (now (by .entry)) []) (now (state .entry)) k k (stretch (now (list .entry)) from to) ⌝ }
+    ensures { λ r. ⌜ (let links : Graph = linksOf (now (ax .entry)) (now (ay .entry)) (now (bx .entry)) (now (by .entry)) [] in
+        r ≡ topmost links (now (state .entry)) k k (stretch (now (list .entry)) from to)) ⌝ }
 {
     let mut choice = Side {
         link: k,
@@ -374,7 +390,10 @@ pub fn find_left_top_link(
     requires { ⌜ Links (now ax) (now ay) (now bx) (now by) (length (now state)) ⌝ }
     requires { ⌜ Nodes (now aid) (now start) (now list) (length (now state)) ⌝ }
     requires { ⌜ isUnvisited (now state) k ≡ true ⌝ }
-    ensures { λ r. ⌜ ((bid top : List ℕ) → r ≡ firstLink (graphOf (lent (now (ax .entry)) (now (ay .entry)) (now (bx .entry)) (now (by .entry)) (now (aid .entry)) bid (now (start .entry)) (now (list .entry))) top) (now (state .entry)) k) ⌝ }
+    ensures { λ r. ⌜ ((bid top : List ℕ) →
+        let g : Lent = lent (now (ax .entry)) (now (ay .entry)) (now (bx .entry)) (now (by .entry)) (now (aid .entry))
+        bid (now (start .entry)) (now (list .entry)) in
+        r ≡ firstLink (graphOf g top) (now (state .entry)) k) ⌝ }
     ensures { λ r. ⌜ NamesUnvisited (now (state .entry)) r ⌝ }
 {
     let node = number(aid, k);

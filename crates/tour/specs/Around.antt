@@ -26,7 +26,8 @@ met-trans g w v e x y z p q = is-true (transitive w (awayFrom g v e) (awayFrom g
 -- what the order asks of the unskipped links: each has a length, and no two run from a node in one direction
 pub record Spread (g : Graph) (st : List ℕ) : Type 0 where
   pub long : (v k : ℕ) → Unvisited st k → Is (nonzero (awayFrom g v k))
-  pub apart : (v x y : ℕ) → Unvisited st x → Unvisited st y → Mem x (g .entries v) → Mem y (g .entries v) → (x ≡ y → ⊥) → Is (sameDirection (awayFrom g v x) (awayFrom g v y)) → ⊥
+  pub apart : (v x y : ℕ) → Unvisited st x → Unvisited st y → Mem x (g .entries v) → Mem y (g .entries v) → (x ≡ y → ⊥)
+      → Is (sameDirection (awayFrom g v x) (awayFrom g v y)) → ⊥
 
 -- ---- for unskipped links
 module _ (g : Graph) (st : List ℕ) (sp : Spread g st) (v x y z : ℕ) (ox : Unvisited st x) (oy : Unvisited st y) (oz : Unvisited st z) where
@@ -42,7 +43,8 @@ module _ (g : Graph) (st : List ℕ) (sp : Spread g st) (v x y z : ℕ) (ox : Un
 
   pub met-trans-on : (u : ℕ) → Unvisited st u → metFirst g true v x y u ≡ true → metFirst g true v y z u ≡ true → metFirst g true v x z u ≡ true
   met-trans-on u ou p q =
-      is-true (transitive-on true (awayFrom g v x) (awayFrom g v y) (awayFrom g v z) (sp .long v x ox) (sp .long v y oy) (sp .long v z oz) (awayFrom g v u) (sp .long v u ou) (true-is p) (true-is q))
+      is-true (transitive-on true (awayFrom g v x) (awayFrom g v y) (awayFrom g v z) (sp .long v x ox) (sp .long v y oy) (sp .long v z oz)
+      (awayFrom g v u) (sp .long v u ou) (true-is p) (true-is q))
 
   -- counterclockwise from z, y is met before x, just where clockwise from x, y is met before z
   pub met-mirror : metFirst g true v x y z ≡ true → metFirst g false v z y x ≡ true

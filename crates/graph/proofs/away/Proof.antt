@@ -19,7 +19,8 @@ between-requires c κs =
     let x = s .args in
     let a = s .pre .1 .0 .a-grid (x .k) (s .pre .1 .1) in
     let b = s .pre .1 .0 .b-grid (x .k) (s .pre .1 .1) in (
-      rw (c .before .end-at .ensures) (end-on-grid (pointAt (x .ax .now) (x .ay .now)) (pointAt (x .bx .now) (x .by .now)) (nodeAt (x .aid .now)) (x .v) (x .k) a b),
+      rw (c .before .end-at .ensures) (end-on-grid (pointAt (x .ax .now) (x .ay .now)) (pointAt (x .bx .now) (x .by .now)) (nodeAt (x .aid .now))
+          (x .v) (x .k) a b),
       rw (c .end-at2 .ensures) (end-on-grid (pointAt (x .bx .now) (x .by .now)) (pointAt (x .ax .now) (x .ay .now)) (nodeAt (x .aid .now)) (x .v) (x .k) b a),
     )
 

@@ -24,7 +24,8 @@ shared-slice-read-if2 c = search needs
 returns-2 : tie.Need-returns-2
 returns-2 c =
     let s = c .before .before .before .before in let a = s .args in
-    higher-shut (g s) (a .state .now) (a .k) (a .x) (a .choice) (s .pre .1 .1) (c .before .before .if1 .left) (read-shut (a .state .now) (a .x) (s .pre .1 .0 .1) (c .if2 .taken))
+    higher-shut (g s) (a .state .now) (a .k) (a .x) (a .choice) (s .pre .1 .1) (c .before .before .if1 .left)
+    (read-shut (a .state .now) (a .x) (s .pre .1 .0 .1) (c .if2 .taken))
 
 point-at-requires : tie.Need-point-at-requires
 point-at-requires c κs = search needs
@@ -41,8 +42,10 @@ clockwise-requires c κs =
 returns-3 : tie.Need-returns-3
 returns-3 c =
     let s = c .before .before .before .before .before .before .before in let a = s .args in
-    higher-clockwise (g s) (a .state .now) (a .k) (a .x) (a .choice) (s .pre .1 .1) (c .before .before .before .before .before .if1 .left) (read-unvisited (a .state .now) (a .x) (s .pre .1 .0 .1) (c .before .before .before .if2 .left))
-    (c .before .before .point-at .result) (c .before .before .point-at .result) (c .before .before .point-at .ensures) (sym (c .before .clockwise .ensures) ∙ c .if3 .taken)
+    higher-clockwise (g s) (a .state .now) (a .k) (a .x) (a .choice) (s .pre .1 .1) (c .before .before .before .before .before .if1 .left)
+    (read-unvisited (a .state .now) (a .x) (s .pre .1 .0 .1) (c .before .before .before .if2 .left))
+    (c .before .before .point-at .result) (c .before .before .point-at .result) (c .before .before .point-at .ensures)
+    (sym (c .before .clockwise .ensures) ∙ c .if3 .taken)
 
 point-at-requires-2 : tie.Need-point-at-requires-2
 point-at-requires-2 c κs = search needs
@@ -50,8 +53,10 @@ point-at-requires-2 c κs = search needs
 returns-4 : tie.Need-returns-4
 returns-4 c =
     let s = c .before .before .before .before .before .before .before .before in let a = s .args in
-    higher-new (g s) (a .state .now) (a .k) (a .x) (a .choice) (s .pre .1 .1) (c .before .before .before .before .before .before .if1 .left) (read-unvisited (a .state .now) (a .x) (s .pre .1 .0 .1) (c .before .before .before .before .if2 .left))
-    (c .point-at2 .result) (c .before .before .before .point-at .result) (c .before .before .before .point-at .ensures) (sym (c .before .before .clockwise .ensures) ∙ c .before .if3 .left) (c .point-at2 .ensures)
+    higher-new (g s) (a .state .now) (a .k) (a .x) (a .choice) (s .pre .1 .1) (c .before .before .before .before .before .before .if1 .left)
+    (read-unvisited (a .state .now) (a .x) (s .pre .1 .0 .1) (c .before .before .before .before .if2 .left))
+    (c .point-at2 .result) (c .before .before .before .point-at .result) (c .before .before .before .point-at .ensures)
+    (sym (c .before .before .clockwise .ensures) ∙ c .before .if3 .left) (c .point-at2 .ensures)
 
 pub higher-spec : {M : Type 1} → statement M
 higher-spec =
