@@ -9,11 +9,11 @@ use lib.ListN.{length, take, drop, length-append, length-map}
 use lib.Seq.{take-at}
 use Rattle.graph.specs.Graph.{Lent, lent}
 use Rattle.format.specs.declared.Counts.{Counts}
-use Rattle.format.specs.declared.Refusal.{Refusal}
+use Rattle.format_records.specs.declared.Refusal.{Refusal}
 use Rattle.format.specs.declared.FileRead.{FileRead}
 use Rattle.format.specs.declared.FileRead.the-variants as answer
-use Rattle.format.specs.Put.{put, over}
-use Rattle.format.specs.Records.{Form, form, refused, formOf}
+use Rattle.writing.specs.Put.{put, over}
+use Rattle.format_records.specs.Records.{Form, form, refused, formOf}
 use Rattle.format.specs.File.{Graph, graph, graphOf, File, refusedFile, fileOf, fileFrom, startsOf, Buffers, Reading, reading, readInto}
 use Rattle.print.specs.Answer.{printedRefusal}
 use Rattle.answer.proofs.Parts.{Part, part}

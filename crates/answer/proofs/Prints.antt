@@ -20,7 +20,7 @@ use Rattle.bind.specs.declared.Given.{Given}
 use Rattle.bind.specs.declared.Given.the-variants.{All, Stuck}
 use Rattle.bind.specs.Owners.{Owned, Outcome, outcome, written, droppedOf, handedBy, handed, ownersOf, boundAfter, bound}
 use Rattle.print.specs.Room.{maxContours, Ranges, Printable}
-use Rattle.print.specs.Write.{Wrote}
+use Rattle.writing.specs.Write.{Wrote}
 use Rattle.print.specs.Answer as print
 use Rattle.answer.specs.Answered.{totalsOf, bindingText, outcomeText, boundText}
 

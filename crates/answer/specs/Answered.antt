@@ -15,7 +15,7 @@ use Rattle.bind.specs.declared.Binding.{Binding}
 use Rattle.bind.specs.declared.Binding.the-variants.{Bound, Refused as Unbound}
 use Rattle.bind.specs.Owners.{Outcome, bound}
 use Rattle.format.specs.File.{Graph, File, graph, refusedFile, fileOf}
-use Rattle.print.specs.declared.Totals.{Totals}
+use Rattle.print_lines.specs.declared.Totals.{Totals}
 use Rattle.print.specs.Room.{maxContours}
 use Rattle.print.specs.Answer as print
 

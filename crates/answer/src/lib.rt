@@ -13,7 +13,7 @@ ghost use Rattle.walk.specs.Extract.{buffers};
 ghost use Rattle.table.specs.Table.{table};
 ghost use Rattle.format.specs.File as file;
 ghost use Rattle.print.specs.Room.{answerBytes};
-ghost use Rattle.print.specs.Write.{Wrote};
+ghost use Rattle.writing.specs.Write.{Wrote};
 ghost use Rattle.answer.specs.Answered.{boundText, extractedText, graphText, answered};
 
 // Binds the contours of a table and prints them.

@@ -11,13 +11,13 @@ use lib.Dec.{eqb, leb}
 use lib.ListN.{length, getD, take, drop, take-append-drop, length-take, length-drop, drop-of-length-le}
 use lib.Seq.{drop-cons, drop-drop}
 use Rattle.laws.specs.Test.{and-true}
-use Rattle.format.specs.Bytes.{u16At, u32At}
-use Rattle.format.specs.Records.{lengthAt, kindAt, bodyAt, endAt, run, past, settingsRight, Form, form, formOf}
+use Rattle.format_numbers.specs.Bytes.{u16At, u32At}
+use Rattle.format_records.specs.Records.{lengthAt, kindAt, bodyAt, endAt, run, past, settingsRight, Form, form, formOf}
 use Rattle.format.specs.Encoded.{little, recordOf, recordsOf}
-use Rattle.format.specs.Steps.{Told}
-use Rattle.format.specs.Runs.{Stands}
-use Rattle.format.specs.Lists.{Placed, placed}
-use Rattle.format.specs.declared.Run.{Run}
+use Rattle.format_records.specs.Steps.{Told}
+use Rattle.format_records.specs.Runs.{Stands}
+use Rattle.format_records.specs.Forms.{Placed, placed}
+use Rattle.format_records.specs.declared.Run.{Run}
 
 -- a list of bytes
 abbrev pub Bytes : List ℕ → Type 0

@@ -10,17 +10,16 @@ use lib.Dec.{eqb, ltb, leb}
 use lib.ListN.{length, getD, take, drop, length-take, length-drop}
 use lib.Seq.{getD-take, getD-drop, length-take-le, take-all, ext-getD}
 use Rattle.laws.specs.Test.{pick}
-use Rattle.format.specs.Bytes.{u16At, u32At}
-use Rattle.format.specs.Limits.{maxLinks, maxNodes, maxEntries, fileBytes}
-use Rattle.format.specs.Records.{lengthAt, kindAt, bodyAt, endAt, headed, headNumber, bodyNumber, firstNumber, recordNumber, refusal, run, past, stepAt, Ran, ran, fault, with, onStep, runFrom, runAt, looks, settingsRight, Form, form, refused, onRan, nodesAfter, formOf}
+use Rattle.format_numbers.specs.Bytes.{u16At, u32At}
+use Rattle.format_records.specs.Limits.{maxLinks, maxNodes, maxEntries, fileBytes}
+use Rattle.format_records.specs.Records.{lengthAt, kindAt, bodyAt, endAt, headed, headNumber, bodyNumber, firstNumber, recordNumber, refusal, run, past, stepAt, Ran, ran, fault, with, onStep, runFrom, runAt, looks, settingsRight, Form, form, refused, onRan, nodesAfter, formOf}
 use Rattle.format.specs.File.{File, fileFrom, fileOf}
-use Rattle.format.specs.Steps.{Told, next-tells, link-zero, node-zero}
-use Rattle.format.specs.Runs.{Stands, stands}
-use Rattle.format.specs.Forms.{stands-links, stands-count, stands-few}
-use Rattle.format.specs.Lists.{Placed, placed}
-use Rattle.format.specs.declared.Run.{Run}
-use Rattle.format.specs.declared.Step.{Step}
-use Rattle.format.specs.declared.Step.the-variants.{Next, Other, Fault}
+use Rattle.format_records.specs.Steps.{Told, next-tells, link-zero, node-zero}
+use Rattle.format_records.specs.Runs.{Stands, stands}
+use Rattle.format_records.specs.Forms.{stands-links, stands-count, stands-few, Placed, placed}
+use Rattle.format_records.specs.declared.Run.{Run}
+use Rattle.format_records.specs.declared.Step.{Step}
+use Rattle.format_records.specs.declared.Step.the-variants.{Next, Other, Fault}
 
 -- a place before the end
 before-end : (n p l : ℕ) → p + 6 ≤ n → n ≤ l → p ≡ l → ⊥

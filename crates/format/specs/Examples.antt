@@ -5,10 +5,10 @@ use mathlib.Core.Bool.{false}
 use mathlib.Core.List.{List, [], _∷_, _++_}
 use lib.IntN.{pos, negsuc}
 use lib.ListN.{take, set}
-use Rattle.format.specs.declared.Step.the-variants.{Next, Fault}
-use Rattle.format.specs.Bytes.{u16At, u32At, u64At, signed, i32At}
-use Rattle.format.specs.Records.{refusal, run, stepAt, recordNumber, runFrom, settingsRight, formOf}
-use Rattle.format.specs.File.{graph, refusedFile, fileOf, every, listOf, startsOf}
+use Rattle.format_records.specs.declared.Step.the-variants.{Next, Fault}
+use Rattle.format_numbers.specs.Bytes.{u16At, u32At, u64At, signed, i32At, every}
+use Rattle.format_records.specs.Records.{refusal, run, stepAt, recordNumber, runFrom, settingsRight, formOf, listOf}
+use Rattle.format.specs.File.{graph, refusedFile, fileOf, startsOf}
 
 -- E1: no links, no nodes; only the record of kind 3
 e1 : List ℕ

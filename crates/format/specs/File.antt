@@ -5,26 +5,13 @@ use mathlib.Core.List.{List, [], _∷_, _++_, map}
 use lib.Dec.{eqb}
 use lib.IntN.{ℤ}
 use lib.ListN.{length, getD}
-use Rattle.format.specs.Put.{over}
-use Rattle.format.specs.Bytes.{u16At, u64At, i32At}
-use Rattle.format.specs.Limits.{maxLinks, maxNodes, maxEntries}
-use Rattle.format.specs.Records.{Form, form, refused, formOf}
-use Rattle.format.specs.declared.Refusal.{Refusal}
+use Rattle.writing.specs.Put.{over}
+use Rattle.format_numbers.specs.Bytes.{u16At, u64At, i32At}
+use Rattle.format_records.specs.Limits.{maxLinks, maxNodes, maxEntries}
+use Rattle.format_records.specs.Records.{Form, form, refused, formOf, listOf}
+use Rattle.format_records.specs.declared.Refusal.{Refusal}
 use Rattle.format.specs.declared.FileRead.{FileRead}
 use Rattle.format.specs.declared.FileRead.the-variants as answer
-
--- n values of a reader of bytes, from index i on at every d-th
-unfoldable pub every : {A : Type 0} → (ℕ → A) → ℕ → ℕ → ℕ → List A
-every f d i zero = []
-every f d i (suc n) = f i ∷ every f d (i + d) n
-
--- a node's body: "16-bit link numbers"
-abbrev pub entriesOf : List ℕ → List ℕ
-entriesOf body = every (u16At body) 2 0 (length body / 2)
-
-unfoldable pub listOf : List (List ℕ) → List ℕ
-listOf [] = []
-listOf (body ∷ rest) = entriesOf body ++ listOf rest
 
 -- "start positions (m + 1 of them) into one flat list", the first at e
 unfoldable pub startsOf : ℕ → List (List ℕ) → List ℕ

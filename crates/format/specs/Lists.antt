@@ -11,19 +11,21 @@ use lib.IntN.{ℤ}
 use lib.ListN.{length, getD, drop, length-map}
 use lib.Seq.{getD-take, getD-drop}
 use Rattle.laws.specs.Test.{pick, pick-ind}
-use Rattle.format.specs.Put.{over}
-use Rattle.format.specs.Bytes.{u16At, u32At, u64At, i32At, signed}
-use Rattle.format.specs.Limits.{maxLinks, maxNodes, maxEntries}
-use Rattle.format.specs.Records.{lengthAt, bodyAt, endAt, refusal, run, past, Ran, ran, fault, runAt, looks, Form, form, refused, onRan, nodesAfter, formOf, settingsRight}
-use Rattle.format.specs.File.{every, listOf, startsOf, fileOf, Buffers, buffers, filled, reading, readInto}
-use Rattle.format.specs.Shape.{shapeOf, Columns, columns, column, linksInto, entriesFrom, startsFrom, NodesStand}
-use Rattle.format.specs.Steps.{link-zero, node-zero}
-use Rattle.format.specs.Runs.{Stands, stands}
-use Rattle.format.specs.Forms.{length-body, stands-count, stands-few, stands-inside, stands-links, settings-long}
-use Rattle.format.specs.declared.Run.{Run}
-use Rattle.format.specs.declared.Refusal.{Refusal}
+use Rattle.writing.specs.Put.{over}
+use Rattle.format_numbers.specs.Bytes.{u16At, u32At, u64At, i32At, signed, every}
+use Rattle.format_records.specs.Limits.{maxLinks, maxNodes, maxEntries}
+use Rattle.format_records.specs.Records.{lengthAt, bodyAt, endAt, refusal, run, past, Ran, ran, fault, runAt, looks, Form, form, refused, onRan, nodesAfter, formOf, settingsRight, listOf}
+use Rattle.format.specs.File.{startsOf, fileOf, Buffers, buffers, filled, reading, readInto}
+use Rattle.format_records.specs.Shape.{shapeOf}
+use Rattle.format_lists.specs.Columns.{Columns, columns, column, linksInto}
+use Rattle.format_lists.specs.NodeLists.{entriesFrom, startsFrom, NodesStand}
+use Rattle.format_records.specs.Steps.{link-zero, node-zero}
+use Rattle.format_records.specs.Runs.{Stands, stands}
+use Rattle.format_records.specs.Forms.{length-body, stands-count, stands-few, stands-inside, stands-links, settings-long, Formed, wronged, Placed, placed}
+use Rattle.format_records.specs.declared.Run.{Run}
+use Rattle.format_records.specs.declared.Refusal.{Refusal}
 use Rattle.format.specs.declared.FileRead.the-variants as answer
-use Rattle.format.specs.declared.Shape.the-variants as shape
+use Rattle.format_records.specs.declared.Shape.the-variants as shape
 
 never : _≡_ {A = ℕ} 0 1 → ⊥
 never e = omega arith
@@ -102,68 +104,6 @@ length-starts e [] = refl
 length-starts e (b ∷ bs) = ap suc (length-starts (e + length b / 2) bs)
 
 -- ---- a file of right form
-
--- its links and its nodes, and where they stand
-pub record Placed (s : List ℕ) (links nodes : List (List ℕ)) : Type 0 where
-  pub right : settingsRight s ≡ true
-  pub between : Run
-  pub last : Run
-  pub links-stand : Stands 1 s (run 15 0 0) links between
-  pub nodes-stand : Stands 2 s (run (between .at) 0 0) nodes last
-  pub ends : last .at ≡ length s
-
-module _ (s : List ℕ) (links nodes : List (List ℕ)) (right : settingsRight s ≡ true) where
-  placed-nodes : (ls : List (List ℕ)) (r : Run) (t : Ran) → Stands 1 s (run 15 0 0) ls r → runAt 2 s (r .at) ≡ t
-      → onRan t (λ x ns. pick (eqb (x .at) (length s)) (form ls ns) (refused (refusal 13 (x .at)))) ≡ form links nodes → Placed s links nodes
-  placed-nodes ls r (fault f) st q = λ e. let z : _≡_ {A = ℕ} 0 1 = cc in absurd (never z)
-  placed-nodes ls r (ran x ns) st q =
-      pick-ind (eqb (x .at) (length s)) (form ls ns) (refused (refusal 13 (x .at))) (λ z. z ≡ form links nodes → Placed s links nodes)
-      (λ h e.
-      let p : ls ≡ links = cc in
-      let p′ : ns ≡ nodes = cc in
-      record {
-        right = right;
-        between = r;
-        last = x;
-        links-stand = subst (λ (l : List (List ℕ)). Stands 1 s (run 15 0 0) l r) p st;
-        nodes-stand = subst (λ (l : List (List ℕ)). Stands 2 s (run (r .at) 0 0) l x) p′ (stands 2 s looks (run (r .at) 0 0) x ns q);
-        ends = eqb-true (x .at) (length s) h;
-      })
-      (λ h e. let z : _≡_ {A = ℕ} 0 1 = cc in absurd (never z))
-
-  placed-links : (t : Ran) → runAt 1 s 15 ≡ t → onRan t (λ r ls. nodesAfter s ls (r .at)) ≡ form links nodes → Placed s links nodes
-  placed-links (fault f) q e = let z : _≡_ {A = ℕ} 0 1 = cc in absurd (never z)
-  placed-links (ran r ls) q e = placed-nodes ls r (runAt 2 s (r .at)) (stands 1 s looks (run 15 0 0) r ls q) refl e
-
-pub placed : (s : List ℕ) (links nodes : List (List ℕ)) → formOf s ≡ form links nodes → Placed s links nodes
-unfolding formOf
-placed s links nodes =
-    pick-ind (settingsRight s) (onRan (runAt 1 s 15) (λ r ls. nodesAfter s ls (r .at))) (refused (refusal 13 0))
-    (λ z. z ≡ form links nodes → Placed s links nodes)
-    (λ h e. placed-links s links nodes h (runAt 1 s 15) refl e)
-    (λ h e. let z : _≡_ {A = ℕ} 0 1 = cc in absurd (never z))
-
-pub record Formed (s : List ℕ) (n m e : ℕ) : Type 0 where
-  pub links : List (List ℕ)
-  pub nodes : List (List ℕ)
-  pub is : formOf s ≡ form links nodes
-  pub n-is : n ≡ length links
-  pub m-is : m ≡ length nodes
-  pub e-is : e ≡ length (listOf nodes)
-
-pub formed : (s : List ℕ) (n m e : ℕ) → shape.Right n m e ≡ shapeOf (formOf s) → Formed s n m e
-formed s n m e = by (formOf s) refl
-  where
-    by : (x : Form) → formOf s ≡ x → shape.Right n m e ≡ shapeOf x → Formed s n m e
-    by (form ls ns) q h = record { links = ls; nodes = ns; is = q; n-is = (cc); m-is = (cc); e-is = (cc) }
-    by (refused f) q h = let z : _≡_ {A = ℕ} 0 1 = cc in absurd (never z)
-
-pub wronged : (s : List ℕ) (f : Refusal) → shape.Wrong f ≡ shapeOf (formOf s) → formOf s ≡ refused f
-wronged s f = by (formOf s)
-  where
-    by : (x : Form) → shape.Wrong f ≡ shapeOf x → x ≡ refused f
-    by (refused g) h = cc
-    by (form ls ns) h = let z : _≡_ {A = ℕ} 0 1 = cc in absurd (never z)
 
 over-by : {A : Type 0} {l l′ : List A} → l ≡ l′ → (b : List A) → over l b ≡ over l′ b
 over-by e b = ap (λ (l : List _). over l b) e

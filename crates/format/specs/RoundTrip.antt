@@ -12,13 +12,13 @@ use lib.ListN.{length, getD, take, drop, length-append, length-map, List·getD-a
 use lib.Seq.{getD-append-add, drop-append-add, take-append-seam}
 use lib.Signed.{mag}
 use Rattle.laws.specs.Test.{pick, true-and}
-use Rattle.format.specs.Bytes.{u16At, u32At, u64At, i32At, signed}
-use Rattle.format.specs.Records.{lengthAt, kindAt, bodyAt, headNumber, nodeNumber, run, past, stepAt, ran, with, runFrom, looks, settingsRight, form, formOf}
-use Rattle.format.specs.File.{every, entriesOf, listOf, startsOf, graph, fileOf}
+use Rattle.format_numbers.specs.Bytes.{u16At, u32At, u64At, i32At, signed, every}
+use Rattle.format_records.specs.Records.{lengthAt, kindAt, bodyAt, headNumber, nodeNumber, run, past, stepAt, ran, with, runFrom, looks, settingsRight, form, formOf, entriesOf, listOf}
+use Rattle.format.specs.File.{startsOf, graph, fileOf}
 use Rattle.format.specs.Encoded.{little, bitsOf, recordOf, recordsOf, Link, linkBody, nodeBody, settingsBody, encoded, joined, positions, listsOf, LinkFits, LinksFit, NodeFits, NodesFit, FileFits}
-use Rattle.format.specs.Steps.{step-cut, step-kind, step-next}
-use Rattle.format.specs.declared.Run.{Run}
-use Rattle.format.specs.declared.Step.the-variants.{Next, Other}
+use Rattle.format_records.specs.Steps.{step-cut, step-kind, step-next}
+use Rattle.format_records.specs.declared.Run.{Run}
+use Rattle.format_records.specs.declared.Step.the-variants.{Next, Other}
 
 -- ---- numbers read where they were written
 

@@ -1,8 +1,8 @@
 // Document 01's square E2, whole and with one thing wrong at a time, and graphs at the limits, through checks 1 to 7: one line for each answer.
 ghost use mathlib.Core.Path.{_≡_};
 ghost use lib.ListN.{length};
-use turn::Checked;
 use graph::check_graph;
+use turn::Checked;
 
 // One answer, as a program's refusal prints it, after what was tried.
 fn show(label: &[u8], answer: Checked) {

@@ -5,8 +5,8 @@ use mathlib.Core.Path.{_≡_, sym, _∙_, subst}
 use mathlib.Core.List.{List, _++_}
 use lib.ListN.{length, take, drop, length-append, length-take, length-drop}
 use borrow.Rule.Slice.PartMut.{midOf}
-use Rattle.format.specs.Put.{put}
-use Rattle.print.specs.Write.{Wrote}
+use Rattle.writing.specs.Put.{put}
+use Rattle.writing.specs.Write.{Wrote}
 use Rattle.outline.specs.declared.Input.{Input}
 use Rattle.outline.specs.declared.Input.the-variants.{Read, Failed}
 use Rattle.outline.specs.Inputs.{Within}

@@ -11,11 +11,13 @@ use mir.Val.{Fits}
 use Rattle.laws.specs.Test.{pick, pick-ind}
 use Rattle.turn.specs.Limits.{maxLinks, maxCoordinate}
 use Rattle.turn.specs.Points.{Grid}
-use Rattle.print.specs.Text.{text}
-use Rattle.print.specs.Decimal.{decimal, decimalZ, length-digits}
-use Rattle.print.specs.Answer.{Table, said, header, roleText, contourLine, pointLine, pointLines, contourLines, contoursFrom, printed, printedRefusal}
+use Rattle.table.specs.Table.{droppedOwner}
+use Rattle.print_text.specs.Text.{text}
+use Rattle.print_text.specs.Decimal.{decimal, decimalZ, length-digits, said}
+use Rattle.print.specs.Answer.{Table, pointLines, contourLines, contoursFrom, printed, printedRefusal}
+use Rattle.print_lines.specs.Lines.{header, roleText, contourLine, pointLine}
 use Rattle.print.specs.Room.{maxContours, answerBytes, refusalBytes, Printable}
-use Rattle.print.specs.declared.Totals.{Totals}
+use Rattle.print_lines.specs.declared.Totals.{Totals}
 
 -- four digits, five, ten and twenty
 short : (k n : ℕ) → n < 10 ^ 20 → n < 10 ^ suc k → length (decimal n) ≤ suc k
@@ -44,9 +46,9 @@ header-short t a b c d =
 
 role-short : (kind owner : ℕ) → length (roleText kind owner) ≤ 9
 role-short kind owner =
-    pick-ind (eqb kind 0) (text " hull ") (pick (eqb owner 65535) (text " dropped ") (text " hole ")) (λ (l : List ℕ). length l ≤ 9)
+    pick-ind (eqb kind 0) (text " hull ") (pick (eqb owner droppedOwner) (text " dropped ") (text " hole ")) (λ (l : List ℕ). length l ≤ 9)
     (λ t. omega arith)
-    (λ t. pick-ind (eqb owner 65535) (text " dropped ") (text " hole ") (λ (l : List ℕ). length l ≤ 9) (λ u. omega arith) (λ u. omega arith))
+    (λ t. pick-ind (eqb owner droppedOwner) (text " dropped ") (text " hole ") (λ (l : List ℕ). length l ≤ 9) (λ u. omega arith) (λ u. omega arith))
 
 line-short : (number kind owner len : ℕ) → number < 10000 → owner < 65536 → len < 10000 → length (contourLine number kind owner len) ≤ 24
 unfolding contourLine

@@ -1,4 +1,4 @@
--- The loops over points and over contours, and points as the code reads them back from their bits.
+-- The loops over points and over contours.
 use Prim.Native.Nat.{ℕ, suc, _+_, _-_, _*_, _≤_, _<_}
 use mathlib.Core.Path.{_≡_, sym, ap, ap₂, _∙_, subst}
 use mathlib.Core.List.{List, _++_}
@@ -9,20 +9,11 @@ use lib.ListN.{length, getD}
 use mir.Syntax.{w32}
 use mir.Val.{SFits, toZ, ofZ}
 use mir.ValLaws.{toZ-ofZ}
-use Rattle.print.specs.Answer.{Table, pointLine, pointLines, contourLines, contoursFrom}
+use Rattle.print.specs.Answer.{Table, pointLines, contourLines, contoursFrom}
+use Rattle.print_lines.specs.Lines.{pointLine}
 use Rattle.print.specs.Room.{Ranges}
-use Rattle.print.specs.Write.{Wrote, Left, left-all, left-after, left-none, piece-fits}
-
--- a number of 32 bits and back
-abbrev pub again : ℤ → ℤ
-again x = toZ w32 (ofZ w32 x)
-
-module _ (x y : ℤ) (f : SFits w32 x) (g : SFits w32 y) where
-  pub same-line : pointLine x y ≡ pointLine (again x) (again y)
-  same-line = ap₂ pointLine (sym (toZ-ofZ w32 x f)) (sym (toZ-ofZ w32 y g))
-
-  pub point-left : (old : List ℕ) (at : ℕ) → at + length (pointLine x y) ≤ length old → Left old old at at (pointLine (again x) (again y)) (pointLine x y)
-  point-left old at h = subst (λ (t : List ℕ). Left old old at at t (pointLine x y)) same-line (left-all old at (pointLine x y) h)
+use Rattle.writing.specs.Write.{Wrote, Left, left-all, left-after, left-none, piece-fits}
+use Rattle.print_lines.specs.Again.{again, same-line}
 
 -- the line of point p
 abbrev pub lineOf : List ℤ → ℕ → List ℕ

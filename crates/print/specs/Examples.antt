@@ -2,9 +2,10 @@
 use mathlib.Core.Path.{_≡_, refl}
 use mathlib.Core.List.{[], _∷_}
 use lib.IntN.{pos, negsuc}
-use Rattle.print.specs.Text.{text}
-use Rattle.print.specs.Decimal.{digits, decimal}
-use Rattle.print.specs.Answer.{table, header, contourLine, pointLine, pointLines, contoursFrom, printed, printedRefusal}
+use Rattle.print_text.specs.Text.{text}
+use Rattle.print_text.specs.Decimal.{digits, decimal}
+use Rattle.print.specs.Answer.{table, pointLines, contoursFrom, printed, printedRefusal}
+use Rattle.print_lines.specs.Lines.{header, contourLine, pointLine}
 
 square : printed
     (table (pos 0 ∷ pos 4 ∷ pos 0 ∷ pos 0 ∷ pos 4 ∷ pos 0 ∷ pos 4 ∷ pos 4 ∷ []) (0 ∷ []) (4 ∷ []) (0 ∷ []) (0 ∷ []))

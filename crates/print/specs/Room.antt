@@ -5,7 +5,7 @@ use lib.ListN.{length, getD}
 use Rattle.turn.specs.Limits.{maxLinks}
 use Rattle.turn.specs.Points.{Grid}
 use Rattle.print.specs.Answer.{Table}
-use Rattle.print.specs.declared.Totals.{Totals}
+use Rattle.print_lines.specs.declared.Totals.{Totals}
 
 -- a contour has at least 3 points, and a table at most as many points as there are links
 abbrev pub maxContours : ℕ

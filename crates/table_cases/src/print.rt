@@ -1,7 +1,7 @@
 // One line for each case.
-use turn::Checked;
 use table::records::Lookup;
 use table::records::Role;
+use turn::Checked;
 
 fn word(text: &[u8]) {
     io::write_all(1, text);

@@ -1,8 +1,9 @@
 -- `print::write_answer` meets its contract.
 use native.Mathlib.Nat.{le-trans}
 use native.Mathlib.Omega.{arith}
-use Rattle.print.specs.Answer.{table, header, contoursFrom, printed}
-use Rattle.print.specs.Write.{left-from-0, left-after, left-last, piece-fits, last-fits, counted}
+use Rattle.print.specs.Answer.{table, contoursFrom, printed}
+use Rattle.print_lines.specs.Lines.{header}
+use Rattle.writing.specs.Write.{left-from-0, left-after, left-last, piece-fits, last-fits, counted}
 use Rattle.print.proofs.Lengths.{answer-short}
 use borrow.Author.Needs.{needs}
 use Rattle.print.proofs.write_answer.Statement.{statement}

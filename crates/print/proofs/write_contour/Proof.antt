@@ -1,8 +1,9 @@
 -- `print::write_contour` meets its contract.
 use native.Mathlib.Omega.{arith}
 use lib.ListN.{getD}
-use Rattle.print.specs.Answer.{table, contourLine, pointLines, contourLines}
-use Rattle.print.specs.Write.{left-all, left-after, left-last, piece-fits, last-fits}
+use Rattle.print.specs.Answer.{table, pointLines, contourLines}
+use Rattle.print_lines.specs.Lines.{contourLine}
+use Rattle.writing.specs.Write.{left-all, left-after, left-last, piece-fits, last-fits}
 use borrow.Author.Needs.{needs}
 use Rattle.print.proofs.write_contour.Statement.{statement}
 use Rattle.print.proofs.write_contour.Tie as tie

@@ -2,9 +2,10 @@
 use mathlib.Core.List.{_++_}
 use native.Mathlib.Nat.{le-trans}
 use Rattle.print.proofs.Lengths.{refusal-short}
-use Rattle.print.specs.Text.{text}
-use Rattle.print.specs.Answer.{said, printedRefusal}
-use Rattle.print.specs.Write.{left-from-0, left-after, left-last, piece-fits, last-fits, counted}
+use Rattle.print_text.specs.Text.{text}
+use Rattle.print_text.specs.Decimal.{said}
+use Rattle.print.specs.Answer.{printedRefusal}
+use Rattle.writing.specs.Write.{left-from-0, left-after, left-last, piece-fits, last-fits, counted}
 use borrow.Author.Needs.{needs}
 use Rattle.print.proofs.write_refusal.Statement.{statement}
 use Rattle.print.proofs.write_refusal.Tie as tie

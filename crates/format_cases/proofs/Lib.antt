@@ -1,3 +1,0 @@
--- The table that is printed.
-
-pub mod Answer
