@@ -1,6 +1,6 @@
 -- What every writer promises: the buffer is the old one with these bytes from a position on, and the answer is the position after them. How writings join.
 use Prim.Native.Nat.{ℕ, _+_, _-_, _≤_, _<_}
-use mathlib.Core.Path.{_≡_, refl, sym, ap, ap₂, _∙_}
+use mathlib.Core.Path.{_≡_, refl, sym, ap, ap₂, _∙_, subst}
 use mathlib.Core.List.{List, [], _∷_, _++_}
 use native.Mathlib.Nat.{add-assoc, add-zero}
 use native.Mathlib.Omega.{arith}
@@ -31,6 +31,10 @@ wrote-none a p = record { next = sym (add-zero p); bytes = sym (put-none a p) }
 -- the length stays
 pub wrote-long : {a b : List ℕ} {p q : ℕ} {t : List ℕ} → p + length t ≤ length a → Wrote a b p q t → length b ≡ length a
 wrote-long {a} {b} {p} {q} {t} h x = ap length (x .bytes) ∙ length-put a p t h
+
+-- a writing of one text is one of an equal text
+pub wrote-as : {old new : List ℕ} {at after : ℕ} {t u : List ℕ} → t ≡ u → Wrote old new at after t → Wrote old new at after u
+wrote-as {old} {new} {at} {after} e w = subst (λ (x : List ℕ). Wrote old new at after x) e w
 
 -- n counts bytes at the start of l; the second part follows from the first, and is stated so that a caller's `&out[..n]` needs no proof
 abbrev pub Counts : ℕ → List ℕ → Type 0

@@ -20,9 +20,8 @@ use Rattle.bind.specs.declared.Given.{Given}
 use Rattle.bind.specs.declared.Given.the-variants.{All, Stuck}
 use Rattle.bind.specs.Owners.{Owned, Outcome, outcome, written, droppedOf, handedBy, handed, ownersOf, boundAfter, bound}
 use Rattle.print.specs.Room.{maxContours, Ranges, Printable}
-use Rattle.writing.specs.Write.{Wrote}
 use Rattle.print.specs.Answer as print
-use Rattle.answer.specs.Answered.{totalsOf, bindingText, outcomeText, boundText}
+use Rattle.answer_table.specs.BoundText.{totalsOf, bindingText, outcomeText, boundText}
 
 abbrev printTable : Table → List ℕ → print.Table
 printTable t owner = print.table (t .points) (t .first) (t .len) (t .kind) owner
@@ -90,7 +89,3 @@ module _ (t : Table) (cw : Bool) {a : Binding} {owner : List ℕ} (e : outcome a
   pub bound-text : (x : Binding) → a ≡ x → bindingText t x owner ≡ boundText t cw
   unfolding boundText
   bound-text x h = ap (λ (y : Binding). bindingText t y owner) (sym h) ∙ ap (λ (o : Outcome). outcomeText t o) e
-
--- a writing of one text is one of an equal text
-pub wrote-as : {old new : List ℕ} {at after : ℕ} {t u : List ℕ} → t ≡ u → Wrote old new at after t → Wrote old new at after u
-wrote-as {old} {new} {at} {after} e w = subst (λ (x : List ℕ). Wrote old new at after x) e w

@@ -1,11 +1,12 @@
--- `answer::answer_table` meets its contract: binding, then printing.
+-- `answer_table::answer_table` meets its contract: binding, then printing.
 use Rattle.table.specs.Table.{Table, table}
-use Rattle.answer.proofs.Prints.{printable, bound-text, wrote-as}
+use Rattle.answer_table.proofs.Prints.{printable, bound-text}
+use Rattle.writing.specs.Write.{wrote-as}
 use borrow.Author.Needs.{needs}
-use Rattle.answer.proofs.answer_table.Statement.{statement}
-use Rattle.answer.proofs.answer_table.Tie as tie
-use Rattle.answer.proofs.answer_table.Reads as reads
-use Rattle.answer.proofs.answer_table.Lts as lts
+use Rattle.answer_table.proofs.answer_table.Statement.{statement}
+use Rattle.answer_table.proofs.answer_table.Tie as tie
+use Rattle.answer_table.proofs.answer_table.Reads as reads
+use Rattle.answer_table.proofs.answer_table.Lts as lts
 use Rattle.bind.proofs.bind.Reads as bind-reads
 use Rattle.print.proofs.write_answer.Reads as write-answer-reads
 use Rattle.print.proofs.write_refusal.Reads as write-refusal-reads

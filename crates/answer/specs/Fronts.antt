@@ -16,8 +16,9 @@ use Rattle.writing.specs.Put.{put, over}
 use Rattle.format_records.specs.Records.{Form, form, refused, formOf}
 use Rattle.format.specs.File.{Graph, graph, graphOf, File, refusedFile, fileOf, fileFrom, startsOf, Buffers, Reading, reading, readInto}
 use Rattle.print.specs.Answer.{printedRefusal}
-use Rattle.answer.proofs.Parts.{Part, part}
-use Rattle.answer.specs.Answered.{graphText, fileText, answered}
+use Rattle.answer_graph.specs.Cuts.{Cut, cut}
+use Rattle.answer_graph.specs.GraphText.{graphText}
+use Rattle.answer.specs.Answered.{fileText, answered}
 
 -- ---- a list at the front of another
 module _ {A : Type 0} where
@@ -36,16 +37,16 @@ starts-some (b ∷ bs) = omega arith
 
 -- ---- what was read
 pub record Fronts (n m e : ℕ) (b : Buffers) : Type 0 where
-  pub ax : Part n (b .ax)
-  pub ay : Part n (b .ay)
-  pub bx : Part n (b .bx)
-  pub by : Part n (b .by)
-  pub aId : Part n (b .aId)
-  pub bId : Part n (b .bId)
-  pub top : Part n (b .top)
-  pub state : Part n (b .state)
-  pub start : Part m (b .start)
-  pub list : Part e (b .list)
+  pub ax : Cut n (b .ax)
+  pub ay : Cut n (b .ay)
+  pub bx : Cut n (b .bx)
+  pub by : Cut n (b .by)
+  pub aId : Cut n (b .aId)
+  pub bId : Cut n (b .bId)
+  pub top : Cut n (b .top)
+  pub state : Cut n (b .state)
+  pub start : Cut m (b .start)
+  pub list : Cut e (b .list)
 
 -- the answer to what stands in front
 abbrev pub frontText : ℕ → ℕ → ℕ → Bool → ℕ → Buffers → List ℕ
@@ -92,16 +93,16 @@ Holds text (answer.Refused why) b = printedRefusal (why .number) (why .place) �
 module _ (g : Graph) (b : Buffers) (h : Even g) where
   graph-fronts : Fronts (length (g .aId)) (length (g .start) - 1 + 1) (length (g .list)) (readInto (graph g) b .lent)
   graph-fronts = record {
-    ax = part _ _ (omega (arith, over-long (g .ax) (b .ax), h .ax));
-    ay = part _ _ (omega (arith, over-long (g .ay) (b .ay), h .ay));
-    bx = part _ _ (omega (arith, over-long (g .bx) (b .bx), h .bx));
-    by = part _ _ (omega (arith, over-long (g .by) (b .by), h .by));
-    aId = part _ _ (omega (arith, over-long (g .aId) (b .aId)));
-    bId = part _ _ (omega (arith, over-long (g .bId) (b .bId), h .bId));
-    top = part _ _ (omega (arith, over-long (g .top) (b .top), h .top));
-    state = part _ _ (omega (arith, over-long (g .state) (b .state), h .state));
-    start = part _ _ (omega (arith, over-long (g .start) (b .start), h .start));
-    list = part _ _ (omega (arith, over-long (g .list) (b .list)));
+    ax = cut _ _ (omega (arith, over-long (g .ax) (b .ax), h .ax));
+    ay = cut _ _ (omega (arith, over-long (g .ay) (b .ay), h .ay));
+    bx = cut _ _ (omega (arith, over-long (g .bx) (b .bx), h .bx));
+    by = cut _ _ (omega (arith, over-long (g .by) (b .by), h .by));
+    aId = cut _ _ (omega (arith, over-long (g .aId) (b .aId)));
+    bId = cut _ _ (omega (arith, over-long (g .bId) (b .bId), h .bId));
+    top = cut _ _ (omega (arith, over-long (g .top) (b .top), h .top));
+    state = cut _ _ (omega (arith, over-long (g .state) (b .state), h .state));
+    start = cut _ _ (omega (arith, over-long (g .start) (b .start), h .start));
+    list = cut _ _ (omega (arith, over-long (g .list) (b .list)));
   }
 
   graph-text : frontText (length (g .aId)) (length (g .start) - 1 + 1) (length (g .list)) (g .clockwise) (g .minimum) (readInto (graph g) b .lent)

@@ -1,0 +1,2 @@
+-- What the program answers to a contour table, by the definitions of the crates below.
+pub mod BoundText
