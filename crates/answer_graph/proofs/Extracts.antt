@@ -17,8 +17,9 @@ use Rattle.walk.specs.Walk.{Walk, Scanned, stopped, walks, scan}
 use Rattle.walk.specs.Outcome.{kept, lens, firsts, kinds, allPoints, coordinates, sum, countsOf}
 use Rattle.walk.specs.Extract.{Buffers, Extracted, extractedAs, filled, afterScan, afterChecks, extracted}
 use Rattle.walk.specs.Ledger.{coordinates-length, all-points-length}
-use Rattle.answer_graph.specs.Cuts.{cut}
-use Rattle.answer_graph.specs.GraphText.{lentTable, KeptFits, extractionText, extractedText}
+use Rattle.answer_table.specs.Cuts.{cut}
+use Rattle.answer_graph.specs.GraphText.{lentTable, extractedText}
+use Rattle.answer_table.specs.ExtractionText.{ExtractionFits, extractionText}
 
 filled-long : {A : Type 0} (z : A) (l : List A) (n : ℕ) → length l ≤ length (filled z l n)
 filled-long z l n = omega (arith, length-append l (replicate (n - length l) z))
@@ -27,13 +28,8 @@ firsts-length : (at : ℕ) (ns : List ℕ) → length (firsts at ns) ≡ length 
 firsts-length at [] = refl
 firsts-length at (n ∷ ns) = ap suc (firsts-length (at + n) ns)
 
--- what an extraction counts as done fits
-abbrev DoneFits : Extraction → Buffers → Type 0
-DoneFits (Done c) b = KeptFits c (lentTable b)
-DoneFits (Refused number place) b = Unit
-
 module _ (g : Graph) (minimum : ℕ) (b : Buffers) where
-  scan-fits : (o : Scanned) → DoneFits (afterScan g minimum b o .answer) (afterScan g minimum b o .lent)
+  scan-fits : (o : Scanned) → ExtractionFits (afterScan g minimum b o .answer) (lentTable (afterScan g minimum b o .lent))
   scan-fits (stopped number place) = tt
   scan-fits (walks ws st) =
       let ks = kept g minimum ws in
@@ -48,23 +44,23 @@ module _ (g : Graph) (minimum : ℕ) (b : Buffers) where
       kinds-length [] = refl
       kinds-length (w ∷ ks) = ap suc (kinds-length ks)
 
-checks-fit : (g : Graph) (cw : Bool) (minimum : ℕ) (b : Buffers) (k : Checked) → DoneFits (afterChecks g cw minimum b k .answer) (afterChecks g cw minimum b k .lent)
+checks-fit : (g : Graph) (cw : Bool) (minimum : ℕ) (b : Buffers) (k : Checked) → ExtractionFits (afterChecks g cw minimum b k .answer) (lentTable (afterChecks g cw minimum b k .lent))
 checks-fit g cw minimum b (check.Refused number place) = tt
 checks-fit g cw minimum b check.Fine = scan-fits g minimum b (scan g cw (b .state))
 
 all-fit : (g : Lent) (top : List ℕ) (cw : Bool) (minimum : ℕ) (b : Buffers)
-    → DoneFits (extracted g top cw minimum b .answer) (extracted g top cw minimum b .lent)
+    → ExtractionFits (extracted g top cw minimum b .answer) (lentTable (extracted g top cw minimum b .lent))
 unfolding extracted
 all-fit g top cw minimum b =
     checks-fit (graphOf g top) cw minimum b (checked g top (b .state) (room (length (b .points)) (length (b .first)) (length (b .len)) (length (b .kind))))
 
-module _ (g : Lent) (top : List ℕ) (cw : Bool) (minimum : ℕ) (b : Buffers) {a : Extraction} {b′ : Buffers} (e : extractedAs a b′ ≡ extracted g top cw minimum b) where
-  pub kept-fits : {c : Counts} → a ≡ Done c → KeptFits c (lentTable b′)
-  kept-fits h =
-      subst (λ (x : Extraction). DoneFits x b′) h
-      (subst (λ (x : Extracted). DoneFits (x .answer) (x .lent)) (sym e) (all-fit g top cw minimum b))
+-- what binding's stage is asked, and what it then prints
+module _ (g : Lent) (top : List ℕ) (cw : Bool) (minimum : ℕ) (b : Buffers) {a : Extraction} {b′ : Buffers}
+    (e : extractedAs a b′ ≡ extracted g top cw minimum b) where
+  pub extraction-fits : ExtractionFits a (lentTable b′)
+  extraction-fits =
+      subst (λ (x : Extracted). ExtractionFits (x .answer) (lentTable (x .lent))) (sym e) (all-fit g top cw minimum b)
 
-  pub extracted-text : (x : Extraction) → a ≡ x → extractionText cw x b′ ≡ extractedText g top cw minimum b
+  pub extracted-text : extractionText cw a (lentTable b′) ≡ extractedText g top cw minimum b
   unfolding extractedText
-  extracted-text x h =
-      ap (λ (y : Extraction). extractionText cw y b′) (sym h) ∙ ap (λ (y : Extracted). extractionText cw (y .answer) (y .lent)) e
+  extracted-text = ap (λ (y : Extracted). extractionText cw (y .answer) (lentTable (y .lent))) e

@@ -1,50 +1,19 @@
-// What the program answers to the lists of a graph: extracted, bound and printed into a slice of bytes.
+// What the program answers to the lists of a graph: extracted, then answered into a slice of bytes.
 //
 // Each function has the arrays of its stage and makes one call with them; the stages below see slices only.
 use print::MAX_CONTOURS;
 use turn::MAX_LINKS;
-use walk::Counts;
-use walk::Extraction;
 ghost use mathlib.Core.Path.{_≡_};
 ghost use Prim.Native.Nat.{ℕ, _≤_};
 ghost use lib.ListN.{length};
 ghost use Rattle.graph.specs.Graph.{Lent, lent};
 ghost use Rattle.walk.specs.Extract.{Buffers, buffers};
-ghost use Rattle.table.specs.Table.{Table, table};
 ghost use Rattle.print.specs.Room.{answerBytes};
 ghost use Rattle.writing.specs.Write.{Wrote};
-ghost use Rattle.answer_table.specs.BoundText.{boundText};
-ghost use Rattle.answer_graph.specs.GraphText.{KeptFits, keptPart, extractedText, graphText};
+ghost use Rattle.answer_graph.specs.GraphText.{extractedText, graphText};
 
 // The coordinates of as many points as there may be links, x and y in turn.
 const COORDINATES: usize = 2 * MAX_LINKS;
-
-// Answers the contours that extraction kept, which stand at the fronts of the lent table.
-fn answer_kept(
-    points: &[i32],
-    first: &[u32],
-    len: &[u32],
-    kind: &[u8],
-    counts: Counts,
-    clockwise: bool,
-    out: &mut [u8],
-) -> usize
-    requires { ⌜ KeptFits counts (table (now points) (now first) (now len) (now kind)) ⌝ }
-    requires { ⌜ answerBytes ≤ length (now out) ⌝ }
-    ensures { λ r. ⌜ (let t : Table = table (now (points .entry)) (now (first .entry)) (now (len .entry)) (now (kind .entry)) in
-        Wrote (now (out .entry)) (now (out .exit)) 0 r (boundText (keptPart counts t) clockwise)) ⌝ }
-{
-    let c = counts.contours;
-    let p = counts.points * 2;
-    answer_table::answer_table(
-        &points[..p],
-        &first[..c],
-        &len[..c],
-        &kind[..c],
-        clockwise,
-        out,
-    )
-}
 
 // Extracts the contours of a graph into blank buffers, and answers them.
 fn answer_contours(
@@ -71,7 +40,7 @@ fn answer_contours(
         (extractedText (lent (now (ax .entry)) (now (ay .entry)) (now (bx .entry)) (now (by .entry)) (now («a_id» .entry)) (now («b_id» .entry)) (now (start .entry)) (now (list .entry))) (now (top .entry)) clockwise minimum
         (buffers (now (state .entry)) (now (points .entry)) (now (first .entry)) (now (len .entry)) (now (kind .entry)))) ⌝ }
 {
-    match walk::extract(
+    let extraction = walk::extract(
         ax,
         ay,
         bx,
@@ -88,12 +57,8 @@ fn answer_contours(
         first,
         len,
         kind,
-    ) {
-        Extraction::Refused { number, place } => print::write_refusal(number, place, out),
-        Extraction::Done(counts) => {
-            answer_kept(points, first, len, kind, counts, clockwise, out)
-        }
-    }
+    );
+    answer_table::answer_extraction(extraction, points, first, len, kind, clockwise, out)
 }
 
 // The points and the contour table of the largest answer, all zero, lent to extraction.

@@ -1,7 +1,9 @@
-// What the program answers to a contour table: bound, and printed into a slice of bytes.
+// What the program answers to a contour table, and to what extraction gave: bound, and printed into a slice of bytes.
 use bind::Binding;
 use print::MAX_CONTOURS;
 use print_lines::Totals;
+use walk::Counts;
+use walk::Extraction;
 ghost use mathlib.Core.Path.{_≡_};
 ghost use Prim.Native.Nat.{ℕ, _≤_};
 ghost use lib.ListN.{length};
@@ -9,9 +11,10 @@ ghost use Rattle.table.specs.Table.{Table, table};
 ghost use Rattle.print.specs.Room.{answerBytes};
 ghost use Rattle.writing.specs.Write.{Wrote};
 ghost use Rattle.answer_table.specs.BoundText.{boundText};
+ghost use Rattle.answer_table.specs.ExtractionText.{KeptFits, keptPart, ExtractionFits, extractionText};
 
 // Binds the contours of a table and prints them.
-pub fn answer_table(
+fn answer_table(
     points: &[i32],
     first: &[u32],
     len: &[u32],
@@ -34,5 +37,53 @@ pub fn answer_table(
             };
             print::write_answer(points, first, len, kind, &owner, totals, out)
         }
+    }
+}
+
+// Answers the contours that extraction kept, which stand at the fronts of the lent table.
+fn answer_kept(
+    points: &[i32],
+    first: &[u32],
+    len: &[u32],
+    kind: &[u8],
+    counts: Counts,
+    clockwise: bool,
+    out: &mut [u8],
+) -> usize
+    requires { ⌜ KeptFits counts (table (now points) (now first) (now len) (now kind)) ⌝ }
+    requires { ⌜ answerBytes ≤ length (now out) ⌝ }
+    ensures { λ r. ⌜ (let t : Table = table (now (points .entry)) (now (first .entry)) (now (len .entry)) (now (kind .entry)) in
+        Wrote (now (out .entry)) (now (out .exit)) 0 r (boundText (keptPart counts t) clockwise)) ⌝ }
+{
+    let c = counts.contours;
+    let p = counts.points * 2;
+    answer_table(
+        &points[..p],
+        &first[..c],
+        &len[..c],
+        &kind[..c],
+        clockwise,
+        out,
+    )
+}
+
+// Answers what extraction gave: its refusal, or the contours that it kept of the lent table.
+pub fn answer_extraction(
+    extraction: Extraction,
+    points: &[i32],
+    first: &[u32],
+    len: &[u32],
+    kind: &[u8],
+    clockwise: bool,
+    out: &mut [u8],
+) -> usize
+    requires { ⌜ ExtractionFits extraction (table (now points) (now first) (now len) (now kind)) ⌝ }
+    requires { ⌜ answerBytes ≤ length (now out) ⌝ }
+    ensures { λ r. ⌜ (let t : Table = table (now (points .entry)) (now (first .entry)) (now (len .entry)) (now (kind .entry)) in
+        Wrote (now (out .entry)) (now (out .exit)) 0 r (extractionText clockwise extraction t)) ⌝ }
+{
+    match extraction {
+        Extraction::Refused { number, place } => print::write_refusal(number, place, out),
+        Extraction::Done(counts) => answer_kept(points, first, len, kind, counts, clockwise, out),
     }
 }

@@ -1,23 +1,16 @@
 -- After reading, a graph's lists stand at the fronts of the buffers: they fit, and cut off they are the file's.
-use Prim.Native.Nat.{ℕ, zero, suc, _+_, _-_, _≤_}
+use Prim.Native.Nat.{ℕ, _+_, _-_, _≤_}
 use native.Mathlib.Omega.{arith}
 use mathlib.Core.Path.{_≡_, refl, sym, ap, _∙_, subst}
-use mathlib.Core.Bool.{Bool}
-use mathlib.Core.List.{List, [], _∷_, _++_, map}
-use lib.IntN.{ℤ}
+use mathlib.Core.List.{List, [], _∷_, map}
 use lib.ListN.{length, take, drop, length-append, length-map}
 use lib.Seq.{take-at}
-use Rattle.graph.specs.Graph.{Lent, lent}
-use Rattle.format.specs.declared.Counts.{Counts}
-use Rattle.format_records.specs.declared.Refusal.{Refusal}
 use Rattle.format.specs.declared.FileRead.{FileRead}
-use Rattle.format.specs.declared.FileRead.the-variants as answer
 use Rattle.writing.specs.Put.{put, over}
 use Rattle.format_records.specs.Records.{Form, form, refused, formOf}
-use Rattle.format.specs.File.{Graph, graph, graphOf, File, refusedFile, fileOf, fileFrom, startsOf, Buffers, Reading, reading, readInto}
-use Rattle.print.specs.Answer.{printedRefusal}
-use Rattle.answer_graph.specs.Cuts.{Cut, cut}
-use Rattle.answer_graph.specs.GraphText.{graphText}
+use Rattle.format.specs.File.{Graph, graph, graphOf, fileOf, fileFrom, startsOf, Buffers, Reading, reading, readInto}
+use Rattle.answer_table.specs.Cuts.{cut}
+use Rattle.answer_read.specs.ReadText.{ReadFits, readText}
 use Rattle.answer.specs.Answered.{fileText, answered}
 
 -- ---- a list at the front of another
@@ -35,31 +28,8 @@ unfolding startsOf
 starts-some [] = omega arith
 starts-some (b ∷ bs) = omega arith
 
--- ---- what was read
-pub record Fronts (n m e : ℕ) (b : Buffers) : Type 0 where
-  pub ax : Cut n (b .ax)
-  pub ay : Cut n (b .ay)
-  pub bx : Cut n (b .bx)
-  pub by : Cut n (b .by)
-  pub aId : Cut n (b .aId)
-  pub bId : Cut n (b .bId)
-  pub top : Cut n (b .top)
-  pub state : Cut n (b .state)
-  pub start : Cut m (b .start)
-  pub list : Cut e (b .list)
-
--- the answer to what stands in front
-abbrev pub frontText : ℕ → ℕ → ℕ → Bool → ℕ → Buffers → List ℕ
-frontText n m e cw minimum b =
-    graphText
-    (lent (take n (b .ax)) (take n (b .ay)) (take n (b .bx)) (take n (b .by)) (take n (b .aId)) (take n (b .bId)) (take m (b .start)) (take e (b .list)))
-    (take n (b .top))
-    cw
-    minimum
-    (take n (b .state))
-
 -- a graph whose columns have one length, and some start
-pub record Even (g : Graph) : Type 0 where
+pub record OneLength (g : Graph) : Type 0 where
   pub ax : length (g .ax) ≡ length (g .aId)
   pub ay : length (g .ay) ≡ length (g .aId)
   pub bx : length (g .bx) ≡ length (g .aId)
@@ -72,7 +42,7 @@ pub record Even (g : Graph) : Type 0 where
 columns-even : {A B : Type 0} (f : List ℕ → A) (h : List ℕ → B) (links : List (List ℕ)) → length (map f links) ≡ length (map h links)
 columns-even f h links = length-map links f ∙ sym (length-map links h)
 
-file-even : (s : List ℕ) (links nodes : List (List ℕ)) → Even (graphOf s links nodes)
+file-even : (s : List ℕ) (links nodes : List (List ℕ)) → OneLength (graphOf s links nodes)
 file-even s links nodes = record {
   ax = columns-even _ _ links;
   ay = columns-even _ _ links;
@@ -84,14 +54,8 @@ file-even s links nodes = record {
   start = starts-some nodes;
 }
 
--- ---- what reading promises, for the answer to the file
-abbrev Holds : List ℕ → FileRead → Buffers → Type 0
-Holds text (answer.Graph c) b =
-    (Fronts (c .links) (c .nodes + 1) (c .entries) b) × (frontText (c .links) (c .nodes + 1) (c .entries) (c .clockwise) (c .minimum) b ≡ text)
-Holds text (answer.Refused why) b = printedRefusal (why .number) (why .place) ≡ text
-
-module _ (g : Graph) (b : Buffers) (h : Even g) where
-  graph-fronts : Fronts (length (g .aId)) (length (g .start) - 1 + 1) (length (g .list)) (readInto (graph g) b .lent)
+module _ (g : Graph) (b : Buffers) (h : OneLength g) where
+  graph-fronts : ReadFits (readInto (graph g) b .answer) (readInto (graph g) b .lent)
   graph-fronts = record {
     ax = cut _ _ (omega (arith, over-long (g .ax) (b .ax), h .ax));
     ay = cut _ _ (omega (arith, over-long (g .ay) (b .ay), h .ay));
@@ -105,8 +69,7 @@ module _ (g : Graph) (b : Buffers) (h : Even g) where
     list = cut _ _ (omega (arith, over-long (g .list) (b .list)));
   }
 
-  graph-text : frontText (length (g .aId)) (length (g .start) - 1 + 1) (length (g .list)) (g .clockwise) (g .minimum) (readInto (graph g) b .lent)
-      ≡ fileText (graph g)
+  graph-text : readText (readInto (graph g) b .answer) (readInto (graph g) b .lent) ≡ fileText (graph g)
   graph-text =
       rw (
         over-front (length (g .aId)) (g .ax) (b .ax) (h .ax),
@@ -121,19 +84,20 @@ module _ (g : Graph) (b : Buffers) (h : Even g) where
         over-front (length (g .list)) (g .list) (b .list) refl,
       )
 
-form-holds : (s : List ℕ) (b : Buffers) (f : Form) → Holds (fileText (fileFrom s f)) (readInto (fileFrom s f) b .answer) (readInto (fileFrom s f) b .lent)
-form-holds s b (form links nodes) =
-    let h = file-even s links nodes in
-    (graph-fronts (graphOf s links nodes) b h, graph-text (graphOf s links nodes) b h)
-form-holds s b (refused why) = refl
+-- ---- what answering is asked, and what it then prints
+form-fits : (s : List ℕ) (b : Buffers) (f : Form) → ReadFits (readInto (fileFrom s f) b .answer) (readInto (fileFrom s f) b .lent)
+form-fits s b (form links nodes) = graph-fronts (graphOf s links nodes) b (file-even s links nodes)
+form-fits s b (refused why) = tt
+
+form-text : (s : List ℕ) (b : Buffers) (f : Form)
+    → readText (readInto (fileFrom s f) b .answer) (readInto (fileFrom s f) b .lent) ≡ fileText (fileFrom s f)
+form-text s b (form links nodes) = graph-text (graphOf s links nodes) b (file-even s links nodes)
+form-text s b (refused why) = refl
 
 module _ (s : List ℕ) (b : Buffers) {a : FileRead} {b′ : Buffers} (e : reading a b′ ≡ readInto (fileOf s) b) where
-  holds : Holds (answered s) a b′
+  pub read-fits : ReadFits a b′
+  read-fits = subst (λ (x : Reading). ReadFits (x .answer) (x .lent)) (sym e) (form-fits s b (formOf s))
+
+  pub read-text : readText a b′ ≡ answered s
   unfolding answered
-  holds = subst (λ (x : Reading). Holds (fileText (fileOf s)) (x .answer) (x .lent)) (sym e) (form-holds s b (formOf s))
-
-  pub graph-holds : {c : Counts} → a ≡ answer.Graph c → Holds (answered s) (answer.Graph c) b′
-  graph-holds h = subst (λ (x : FileRead). Holds (answered s) x b′) h holds
-
-  pub refusal-text : {why : Refusal} → a ≡ answer.Refused why → printedRefusal (why .number) (why .place) ≡ answered s
-  refusal-text h = subst (λ (x : FileRead). Holds (answered s) x b′) h holds
+  read-text = ap (λ (x : Reading). readText (x .answer) (x .lent)) e ∙ form-text s b (formOf s)
