@@ -1,4 +1,5 @@
 -- `answer::answer_lists` meets its contract: reading, then the answer to what it gave.
+use mathlib.Core.Path.{_∙_}
 use Rattle.format.specs.File.{Buffers, buffers}
 use Rattle.writing.specs.Write.{wrote-as}
 use Rattle.answer.proofs.Fronts.{read-fits, read-text}
@@ -36,15 +37,19 @@ answered-start c =
     .before .before .before .before .before .before .before .before
 
 read-graph-requires : tie.Need-read-graph-requires
-read-graph-requires c κs = search needs
+read-graph-requires c κs =
+    c .before .before .before .before .before .before .before .before .before .before .before .before .before
+    .before .before .before .before .before .pre .0
 
 answer-read-requires : tie.Need-answer-read-requires
 answer-read-requires c κs =
-    let s = lent-start c in
-    (read-fits (s .args .input .now) (b s)
-    (c .before .before .before .before .before .before .before .before .before .before .before .before .before
-    .before .before .before .before .before .before .before .before .before .before .before .before .before .before
-    .read-graph .ensures), s .pre .1)
+    let s = lent-start c in (
+      read-fits (s .args .input .now) (b s)
+          (c .before .before .before .before .before .before .before .before .before .before .before .before .before
+          .before .before .before .before .before .before .before .before .before .before .before .before .before .before
+          .read-graph .ensures),
+      s .pre .1,
+    )
 
 same-length : tie.Need-same-length
 same-length c =
@@ -76,7 +81,7 @@ same-length-7 : tie.Need-same-length-7
 same-length-7 c = (read-list c) .before .before .before .before .before .before .top .given
 
 same-length-8 : tie.Need-same-length-8
-same-length-8 c = search needs
+same-length-8 c = c .before .before .before .state2 .given ∙ (read-list c) .before .before .before .before .state .given
 
 same-length-9 : tie.Need-same-length-9
 same-length-9 c = (read-list c) .before .before .start .given

@@ -37,10 +37,12 @@ extract-requires c κs = search needs
 
 answer-extraction-requires : tie.Need-answer-extraction-requires
 answer-extraction-requires c κs =
-    let s = lent-start c in
-    (extraction-fits (g s) (s .args .top .now) (s .args .clockwise) (s .args .minimum) (b s)
-    (c .before .before .before .before .before .before .before .before .before .before .before .before .before
-    .before .extract .ensures), s .pre)
+    let s = lent-start c in (
+      extraction-fits (g s) (s .args .top .now) (s .args .clockwise) (s .args .minimum) (b s)
+          (c .before .before .before .before .before .before .before .before .before .before .before .before .before
+          .before .extract .ensures),
+      s .pre,
+    )
 
 same-length : tie.Need-same-length
 same-length c =

@@ -37,8 +37,8 @@ same-length c = search needs
 returns : tie.Need-returns
 returns c =
     let s =
-        c .before .before .before .before .before .before .before .before .before .before .before .before .before
-        .before in
+    c .before .before .before .before .before .before .before .before .before .before .before .before .before
+    .before in
     wrote-as (ap (λ (r : FileRead). readText r (b s)) (sym (c .before .before .before .before .before .read .given .1)))
     (c .before .before .write-refusal .ensures .0)
 
@@ -51,8 +51,8 @@ same-length-3 c = search needs
 returns-2 : tie.Need-returns-2
 returns-2 c =
     let s =
-        c .before .before .before .before .before .before .before .before .before .before .before .before .before
-        .before .before .before .before in
+    c .before .before .before .before .before .before .before .before .before .before .before .before .before
+    .before .before .before .before in
     wrote-as (ap (λ (r : FileRead). readText r (b s)) (sym (c .before .before .before .before .before .before .before .before .read2 .given .1)))
     (c .before .before .before .before .answer-fronts .ensures)
 
