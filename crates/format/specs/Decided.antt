@@ -11,7 +11,8 @@ use lib.ListN.{length, getD, take, drop, length-take, length-drop}
 use lib.Seq.{getD-take, getD-drop, length-take-le, take-all, ext-getD}
 use Rattle.laws.specs.Test.{pick}
 use Rattle.format_numbers.specs.Bytes.{u16At, u32At}
-use Rattle.format_records.specs.Limits.{maxLinks, maxNodes, maxEntries, fileBytes}
+use Rattle.turn.specs.Limits.{maxLinks}
+use Rattle.format_records.specs.Limits.{maxNodes, maxEntries, fileBytes, maxRecords}
 use Rattle.format_records.specs.Records.{lengthAt, kindAt, bodyAt, endAt, headed, headNumber, bodyNumber, firstNumber, recordNumber, refusal, run, past, stepAt, Ran, ran, fault, with, onStep, runFrom, runAt, looks, settingsRight, Form, form, refused, onRan, nodesAfter, formOf}
 use Rattle.format.specs.File.{File, fileFrom, fileOf}
 use Rattle.format_records.specs.Steps.{Told, next-tells, link-zero, node-zero}
@@ -108,7 +109,7 @@ module _ (n : ℕ) (enough : fileBytes ≤ n) (s : List ℕ) (more : n < length 
 
   record LinksWithin (r : Run) : Type 0 where
     place : r .at ≡ 15 + 28 * r .count
-    few : r .count ≤ 4096
+    few : r .count ≤ maxRecords
 
   links-near : (r : Run) → LinksWithin r → r .at + 6 ≤ n
   links-near r w = omega (arith, w .place, w .few)
@@ -128,18 +129,18 @@ module _ (n : ℕ) (enough : fileBytes ≤ n) (s : List ℕ) (more : n < length 
   same-links = same-run 1 LinksWithin links-near links-fine links-keep looks (run 15 0 0) links-begin
 
   -- they end at most here
-  links-end : (r : Run) (ls : List (List ℕ)) → Stands 1 s (run 15 0 0) ls r → r .at ≤ 15 + 28 * 4096
+  links-end : (r : Run) (ls : List (List ℕ)) → Stands 1 s (run 15 0 0) ls r → r .at ≤ 15 + 28 * maxLinks
   links-end r ls h =
       let w = within-end 1 LinksWithin links-near links-fine links-keep ls (run 15 0 0) r links-begin h in
       omega (arith, w .place, w .few)
 
   -- ---- the nodes, from there on
 
-  module _ (a : ℕ) (low : a ≤ 15 + 28 * 4096) where
+  module _ (a : ℕ) (low : a ≤ 15 + 28 * maxLinks) where
     record NodesWithin (r : Run) : Type 0 where
       place : r .at ≡ a + 6 * r .count + r .size
-      few : r .count ≤ 4096
-      small : r .size ≤ 16384
+      few : r .count ≤ maxRecords
+      small : r .size ≤ 2 * maxEntries
 
     nodes-near : (r : Run) → NodesWithin r → r .at + 6 ≤ n
     nodes-near r w = omega (arith, w .place, w .few, w .small)

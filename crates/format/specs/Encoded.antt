@@ -6,7 +6,8 @@ use lib.IntN.{ℤ, pos, negsuc}
 use lib.ListN.{length}
 use lib.Signed.{mag}
 use Rattle.laws.specs.Test.{pick}
-use Rattle.format_records.specs.Limits.{maxLinks, maxNodes, maxEntries}
+use Rattle.turn.specs.Limits.{maxLinks}
+use Rattle.format_records.specs.Limits.{maxNodes, maxEntries}
 use Rattle.format.specs.File.{Graph}
 
 -- a number in so many bytes, little-endian

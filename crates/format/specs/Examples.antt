@@ -1,10 +1,12 @@
 -- The definitions at work on small files: E1's and E2's, and each sort of refusal.
-use Prim.Native.Nat.{ℕ}
+use Prim.Native.Nat.{ℕ, _-_, _*_}
 use mathlib.Core.Path.{_≡_, refl}
 use mathlib.Core.Bool.{false}
 use mathlib.Core.List.{List, [], _∷_, _++_}
 use lib.IntN.{pos, negsuc}
 use lib.ListN.{take, set}
+use Rattle.turn.specs.Limits.{maxLinks, maxCoordinate}
+use Rattle.format_records.specs.Limits.{maxNodes, maxEntries}
 use Rattle.format_records.specs.declared.Step.the-variants.{Next, Fault}
 use Rattle.format_numbers.specs.Bytes.{u16At, u32At, u64At, signed, i32At, every}
 use Rattle.format_records.specs.Records.{refusal, run, stepAt, recordNumber, runFrom, settingsRight, formOf, listOf}
@@ -129,29 +131,29 @@ link-head = 22 ∷ 0 ∷ 0 ∷ 0 ∷ 1 ∷ 0 ∷ []
 node-head : List ℕ
 node-head = 4 ∷ 0 ∷ 0 ∷ 0 ∷ 2 ∷ 0 ∷ []
 
-link-4097 : stepAt 1 link-head (run 0 4096 0) ≡ Fault (refusal 1 0)
+link-above : stepAt 1 link-head (run 0 maxLinks 0) ≡ Fault (refusal 1 0)
 unfolding link-head stepAt recordNumber u16At u32At
-link-4097 = refl
+link-above = refl
 
 -- the 4,096th is cut
-link-4096 : stepAt 1 link-head (run 0 4095 0) ≡ Fault (refusal 13 0)
+link-last : stepAt 1 link-head (run 0 (maxLinks - 1) 0) ≡ Fault (refusal 13 0)
 unfolding link-head stepAt recordNumber u16At u32At
-link-4096 = refl
+link-last = refl
 
-node-4097 : stepAt 2 node-head (run 0 4096 0) ≡ Fault (refusal 5 0)
+node-above : stepAt 2 node-head (run 0 maxNodes 0) ≡ Fault (refusal 5 0)
 unfolding node-head stepAt recordNumber u16At u32At
-node-4097 = refl
+node-above = refl
 
 -- two entries more than 8,191
-entry-8193 : stepAt 2 node-head (run 0 1 16382) ≡ Fault (refusal 5 0)
+entry-above : stepAt 2 node-head (run 0 1 (2 * maxEntries - 2)) ≡ Fault (refusal 5 0)
 unfolding node-head stepAt recordNumber u16At u32At
-entry-8193 = refl
+entry-above = refl
 
-entry-8192 : stepAt 2 (node-head ++ (7 ∷ 0 ∷ 8 ∷ 0 ∷ [])) (run 0 1 16380) ≡ Next (run 10 2 16384)
+entry-last : stepAt 2 (node-head ++ (7 ∷ 0 ∷ 8 ∷ 0 ∷ [])) (run 0 1 (2 * maxEntries - 4)) ≡ Next (run 10 2 (2 * maxEntries))
 unfolding node-head stepAt recordNumber u16At u32At
-entry-8192 = refl
+entry-last = refl
 
 -- -524,288 and -1
-below-zero : (i32At (0 ∷ 0 ∷ 248 ∷ 255 ∷ []) 0 ≡ negsuc 524287) × (i32At (255 ∷ 255 ∷ 255 ∷ 255 ∷ []) 0 ≡ negsuc 0)
+below-zero : (i32At (0 ∷ 0 ∷ 248 ∷ 255 ∷ []) 0 ≡ negsuc (maxCoordinate - 1)) × (i32At (255 ∷ 255 ∷ 255 ∷ 255 ∷ []) 0 ≡ negsuc 0)
 unfolding signed u32At u16At
 below-zero = (refl, refl)

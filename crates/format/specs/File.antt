@@ -7,7 +7,8 @@ use lib.IntN.{ℤ}
 use lib.ListN.{length, getD}
 use Rattle.writing.specs.Put.{over}
 use Rattle.format_numbers.specs.Bytes.{u16At, u64At, i32At}
-use Rattle.format_records.specs.Limits.{maxLinks, maxNodes, maxEntries}
+use Rattle.turn.specs.Limits.{maxLinks}
+use Rattle.format_records.specs.Limits.{maxNodes, maxEntries}
 use Rattle.format_records.specs.Records.{Form, form, refused, formOf, listOf}
 use Rattle.format_records.specs.declared.Refusal.{Refusal}
 use Rattle.format.specs.declared.FileRead.{FileRead}

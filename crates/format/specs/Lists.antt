@@ -13,7 +13,8 @@ use lib.Seq.{getD-take, getD-drop}
 use Rattle.laws.specs.Test.{pick, pick-ind}
 use Rattle.writing.specs.Put.{over}
 use Rattle.format_numbers.specs.Bytes.{u16At, u32At, u64At, i32At, signed, every}
-use Rattle.format_records.specs.Limits.{maxLinks, maxNodes, maxEntries}
+use Rattle.turn.specs.Limits.{maxLinks}
+use Rattle.format_records.specs.Limits.{maxNodes, maxEntries}
 use Rattle.format_records.specs.Records.{lengthAt, bodyAt, endAt, refusal, run, past, Ran, ran, fault, runAt, looks, Form, form, refused, onRan, nodesAfter, formOf, settingsRight, listOf}
 use Rattle.format.specs.File.{startsOf, fileOf, Buffers, buffers, filled, reading, readInto}
 use Rattle.format_records.specs.Shape.{shapeOf}
@@ -26,9 +27,6 @@ use Rattle.format_records.specs.declared.Run.{Run}
 use Rattle.format_records.specs.declared.Refusal.{Refusal}
 use Rattle.format.specs.declared.FileRead.the-variants as answer
 use Rattle.format_records.specs.declared.Shape.the-variants as shape
-
-never : _≡_ {A = ℕ} 0 1 → ⊥
-never e = omega arith
 
 -- ---- the bytes of a body, where they stand in the file
 

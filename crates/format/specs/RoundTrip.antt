@@ -12,6 +12,8 @@ use lib.ListN.{length, getD, take, drop, length-append, length-map, List·getD-a
 use lib.Seq.{getD-append-add, drop-append-add, take-append-seam}
 use lib.Signed.{mag}
 use Rattle.laws.specs.Test.{pick, true-and}
+use Rattle.turn.specs.Limits.{maxLinks}
+use Rattle.format_records.specs.Limits.{maxNodes, maxEntries}
 use Rattle.format_numbers.specs.Bytes.{u16At, u32At, u64At, i32At, signed, every}
 use Rattle.format_records.specs.Records.{lengthAt, kindAt, bodyAt, headNumber, nodeNumber, run, past, stepAt, ran, with, runFrom, looks, settingsRight, form, formOf, entriesOf, listOf}
 use Rattle.format.specs.File.{startsOf, graph, fileOf}
@@ -134,7 +136,7 @@ not-a-link before (b ∷ bs) g r p =
     never e = omega arith
 
 module _ (settings : List ℕ) (nine : length settings ≡ 9) (dir : getD settings 0 0 ≤ 1) (links nodes : List (List ℕ))
-    (goes-links : Goes 1 0 0 links) (few-links : length links ≤ 4096) (goes-nodes : Goes 2 0 0 nodes) (few-nodes : length nodes ≤ 4096) where
+    (goes-links : Goes 1 0 0 links) (few-links : length links ≤ maxLinks) (goes-nodes : Goes 2 0 0 nodes) (few-nodes : length nodes ≤ maxNodes) where
   right : settingsRight (recordOf 3 settings ++ (recordsOf 1 links ++ recordsOf 2 nodes)) ≡ true
   unfolding settingsRight
   right =
@@ -154,7 +156,7 @@ module _ (settings : List ℕ) (nine : length settings ≡ 9) (dir : getD settin
   links-reach =
       reaches 1 (omega arith) _ (length (recordOf 3 settings ++ recordsOf 1 links))
       (λ r p. subst (λ (t : List ℕ). stepAt 1 t r ≡ Other) regrouped (not-a-link (recordOf 3 settings ++ recordsOf 1 links) nodes goes-nodes r p))
-      links 4096 (recordOf 3 settings) (recordsOf 2 nodes) (run 15 0 0) few-links goes-links (omega (arith, nine))
+      links maxLinks (recordOf 3 settings) (recordsOf 2 nodes) (run 15 0 0) few-links goes-links (omega (arith, nine))
       (length-append (recordOf 3 settings) (recordsOf 1 links)) refl
 
   nodes-reach : (at : ℕ) → at ≡ length (recordOf 3 settings ++ recordsOf 1 links)
@@ -162,7 +164,7 @@ module _ (settings : List ℕ) (nine : length settings ≡ 9) (dir : getD settin
   nodes-reach at p =
       reaches 2 (omega arith) _ (length (recordOf 3 settings ++ (recordsOf 1 links ++ recordsOf 2 nodes)))
       (λ r q. step-cut 2 _ r (omega (arith, q)))
-      nodes 4096 (recordOf 3 settings ++ recordsOf 1 links) [] (run at 0 0) few-nodes goes-nodes p
+      nodes maxNodes (recordOf 3 settings ++ recordsOf 1 links) [] (run at 0 0) few-nodes goes-nodes p
       (ap length (sym regrouped) ∙ length-append (recordOf 3 settings ++ recordsOf 1 links) (recordsOf 2 nodes))
       (sym regrouped ∙ ap (λ (t : List ℕ). (recordOf 3 settings ++ recordsOf 1 links) ++ t) (sym (append-nil (recordsOf 2 nodes))))
 
@@ -227,10 +229,10 @@ column-read : {A : Type 0} (of : List ℕ → A) (field : Link → A) → ((l : 
 column-read of field same [] h = refl
 column-read of field same (l ∷ ls) h = ap₂ (λ (x : _) (xs : List _). x ∷ xs) (same l (h .0)) (column-read of field same ls (h .1))
 
-links-go : (ls : List Link) (count size : ℕ) → count + length ls ≤ 4096 → Goes 1 count size (map linkBody ls)
+links-go : (ls : List Link) (count size : ℕ) → count + length ls ≤ maxLinks → Goes 1 count size (map linkBody ls)
 unfolding linkBody
 links-go [] count size h = tt
-links-go (l ∷ ls) count size h = (rw (lt-ltb count 4096 (omega arith)), omega arith, links-go ls (count + 1) (size + 22) (omega arith))
+links-go (l ∷ ls) count size h = (rw (lt-ltb count maxLinks (omega arith)), omega arith, links-go ls (count + 1) (size + 22) (omega arith))
 
 -- ---- the entries of a node
 
@@ -269,7 +271,7 @@ starts-read [] e = refl
 starts-read (n ∷ ns) e =
     ap (λ (xs : List ℕ). e ∷ xs) (ap (λ k. startsOf (e + k) (map nodeBody ns)) (half-length n) ∙ starts-read ns (e + length n))
 
-nodes-go : (ns : List (List ℕ)) (count size : ℕ) → count + length ns ≤ 4096 → size + 2 * length (joined ns) ≤ 16384 → Goes 2 count size (map nodeBody ns)
+nodes-go : (ns : List (List ℕ)) (count size : ℕ) → count + length ns ≤ maxNodes → size + 2 * length (joined ns) ≤ 2 * maxEntries → Goes 2 count size (map nodeBody ns)
 unfolding joined
 nodes-go [] count size h r = tt
 nodes-go (n ∷ ns) count size h r =
@@ -280,8 +282,8 @@ nodes-go (n ∷ ns) count size h r =
       nodes-go ns (count + 1) (size + length (nodeBody n)) (omega arith) (omega arith),
     )
   where
-    right-head : (len : ℕ) → len % 2 ≡ 0 → size + len ≤ 16384 → nodeNumber count size len ≡ 0
-    right-head len e f = rw (eq-eqb (len % 2) 0 e, lt-ltb count 4096 (omega arith), le-leb (size + len) 16384 f)
+    right-head : (len : ℕ) → len % 2 ≡ 0 → size + len ≤ 2 * maxEntries → nodeNumber count size len ≡ 0
+    right-head len e f = rw (eq-eqb (len % 2) 0 e, lt-ltb count maxNodes (omega arith), le-leb (size + len) (2 * maxEntries) f)
 
 -- ---- the whole file
 

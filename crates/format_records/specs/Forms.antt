@@ -9,18 +9,16 @@ use lib.Dec.{leb, eqb}
 use lib.ListN.{length, length-take, length-drop, length-append}
 use Rattle.laws.specs.Test.{and-true, pick-ind, pick}
 use Rattle.format_numbers.specs.Bytes.{u16At, every, length-every}
+use Rattle.format_records.specs.Limits.{maxRecords}
 use Rattle.format_records.specs.Records.{lengthAt, bodyAt, refusal, run, past, Ran, ran, fault, runAt, looks, form, nodesAfter, formOf, settingsRight, entriesOf, listOf, onRan, Form, refused}
 use Rattle.format_records.specs.Shape.{endOf, shapeOf}
 use Rattle.format_records.specs.Steps.{Told, link-zero, node-zero, count-below}
-use Rattle.format_records.specs.Runs.{Stands, stands}
+use Rattle.format_records.specs.Runs.{never, Stands, stands}
 use Rattle.format_records.specs.declared.Run.{Run}
 use Rattle.format_records.specs.declared.Refusal.{Refusal}
 use Rattle.format_records.specs.declared.RunEnd.the-variants as end
 use Rattle.format_records.specs.declared.Shape.{Shape}
 use Rattle.format_records.specs.declared.Shape.the-variants as shape
-
-never : _≡_ {A = ℕ} 0 1 → ⊥
-never e = omega arith
 
 -- ---- a run's end with the bodies that were taken
 
@@ -46,7 +44,7 @@ module _ (kind : ℕ) (s : List ℕ) where
   stands-count [] r r′ h = let e : r′ .count ≡ r .count = ap (λ (x : Run). x .count) (sym h) in omega arith
   stands-count (b ∷ bs) r r′ h = let e = stands-count bs (past s r) r′ (h .2) in omega arith
 
-  pub stands-few : (bs : List (List ℕ)) (r r′ : Run) → r .count ≤ 4096 → Stands kind s r bs r′ → r′ .count ≤ 4096
+  pub stands-few : (bs : List (List ℕ)) (r r′ : Run) → r .count ≤ maxRecords → Stands kind s r bs r′ → r′ .count ≤ maxRecords
   stands-few [] r r′ few h = let e : r′ .count ≡ r .count = ap (λ (x : Run). x .count) (sym h) in omega arith
   stands-few (b ∷ bs) r r′ few h =
       stands-few bs (past s r) r′ (omega (arith, count-below kind (r .count) (r .size) (lengthAt s (r .at)) (h .0 .number))) (h .2)

@@ -6,7 +6,8 @@ use lib.Dec.{eqb, ltb, leb}
 use lib.ListN.{length, getD, take, drop}
 use Rattle.laws.specs.Test.{pick}
 use Rattle.format_numbers.specs.Bytes.{u16At, u32At, every}
-use Rattle.format_records.specs.Limits.{maxLinks, maxNodes, maxEntries}
+use Rattle.turn.specs.Limits.{maxLinks}
+use Rattle.format_records.specs.Limits.{maxNodes, maxEntries, maxRecords}
 use Rattle.format_records.specs.declared.Run.{Run}
 use Rattle.format_records.specs.declared.Refusal.{Refusal}
 use Rattle.format_records.specs.declared.Step.{Step}
@@ -92,9 +93,9 @@ unfoldable pub runFrom : ℕ → ℕ → List ℕ → Run → Ran
 runFrom zero kind s r = ran r []
 runFrom (suc looks) kind s r = onStep (stepAt kind s r) (λ r′. with (bodyAt s (r .at)) (runFrom looks kind s r′)) (ran r [])
 
--- a run has at most 4,096 records, so that 4,097 looks see its end
+-- one look more than a run may have records sees its end
 abbrev pub looks : ℕ
-looks = 4097
+looks = suc maxRecords
 
 abbrev pub runAt : ℕ → List ℕ → ℕ → Ran
 runAt kind s at = runFrom looks kind s (run at 0 0)

@@ -4,6 +4,7 @@ use mathlib.Core.Path.{_≡_, refl, sym, ap, _∙_, subst}
 use mathlib.Core.List.{List, [], _∷_}
 use native.Mathlib.Omega.{arith}
 use lib.ListN.{length}
+use Rattle.format_records.specs.Limits.{maxRecords}
 use Rattle.format_records.specs.Records.{lengthAt, bodyAt, run, past, stepAt, Ran, ran, fault, with, onStep, runFrom, runAt, looks}
 use Rattle.format_records.specs.Shape.{endOf}
 use Rattle.format_records.specs.Steps.{Told, next-tells, count-below}
@@ -36,7 +37,7 @@ module _ (kind : ℕ) (s : List ℕ) (n : ℕ) (r : Run) where
 pub record Running (kind : ℕ) (s : List ℕ) (at : ℕ) (r : Run) : Type 0 where
   pub inside : r .at ≤ length s
   pub size : r .size ≤ r .at
-  pub few : r .count ≤ 4096
+  pub few : r .count ≤ maxRecords
   pub same : endOf (runFrom (looks - r .count) kind s r) ≡ endOf (runAt kind s at)
 
 module _ (kind : ℕ) (s : List ℕ) (at : ℕ) where
@@ -44,17 +45,17 @@ module _ (kind : ℕ) (s : List ℕ) (at : ℕ) where
   running-first h = record { inside = h; size = omega arith; few = omega arith; same = refl }
 
   module _ (r : Run) (i : Running kind s at r) where
-    look : looks - r .count ≡ suc (4096 - r .count)
+    look : looks - r .count ≡ suc (maxRecords - r .count)
     look = omega (arith, i .few)
 
-    at-look : endOf (runFrom (suc (4096 - r .count)) kind s r) ≡ endOf (runAt kind s at)
+    at-look : endOf (runFrom (suc (maxRecords - r .count)) kind s r) ≡ endOf (runAt kind s at)
     at-look = ap (λ n. endOf (runFrom n kind s r)) (sym look) ∙ i .same
 
     pub running-other : stepAt kind s r ≡ Other → end.To r ≡ endOf (runAt kind s at)
-    running-other e = sym (end-other kind s (4096 - r .count) r e) ∙ at-look
+    running-other e = sym (end-other kind s (maxRecords - r .count) r e) ∙ at-look
 
     pub running-fault : (f : Refusal) → stepAt kind s r ≡ Fault f → end.Fault f ≡ endOf (runAt kind s at)
-    running-fault f e = sym (end-fault kind s (4096 - r .count) r f e) ∙ at-look
+    running-fault f e = sym (end-fault kind s (maxRecords - r .count) r f e) ∙ at-look
 
     pub running-next : (x : Run) → stepAt kind s r ≡ Next x → Running kind s at x
     running-next x e =
@@ -65,11 +66,11 @@ module _ (kind : ℕ) (s : List ℕ) (at : ℕ) where
           size = omega (arith, i .size);
           few = omega arith;
           same = ap (λ n. endOf (runFrom n kind s (past s r))) (after b)
-              ∙ sym (end-next kind s (4096 - r .count) r (past s r) (e ∙ ap Next (t .0)))
+              ∙ sym (end-next kind s (maxRecords - r .count) r (past s r) (e ∙ ap Next (t .0)))
               ∙ at-look;
         } in subst (Running kind s at) (sym (t .0)) p
       where
-        after : r .count < 4096 → looks - (r .count + 1) ≡ 4096 - r .count
+        after : r .count < maxRecords → looks - (r .count + 1) ≡ maxRecords - r .count
         after h = omega arith
 
     pub running-less : (x : Run) → stepAt kind s r ≡ Next x → looks - x .count < looks - r .count
@@ -78,7 +79,7 @@ module _ (kind : ℕ) (s : List ℕ) (at : ℕ) where
         let b = count-below kind (r .count) (r .size) (lengthAt s (r .at)) (t .1 .number) in
         subst (λ (y : Run). looks - y .count < looks - r .count) (sym (t .0)) (less b)
       where
-        less : r .count < 4096 → looks - (r .count + 1) < looks - r .count
+        less : r .count < maxRecords → looks - (r .count + 1) < looks - r .count
         less h = omega arith
 
 -- ---- where the records of a run stand
@@ -88,7 +89,8 @@ abbrev pub Stands : ℕ → List ℕ → Run → List (List ℕ) → Run → Typ
 Stands kind s r [] r′ = r ≡ r′
 Stands kind s r (b ∷ bs) r′ = Told kind s r × (b ≡ bodyAt s (r .at)) × Stands kind s (past s r) bs r′
 
-never : _≡_ {A = ℕ} 0 1 → ⊥
+-- two constructors are never equal: `cc` then finds 0 ≡ 1
+pub never : _≡_ {A = ℕ} 0 1 → ⊥
 never e = omega arith
 
 module _ (kind : ℕ) (s : List ℕ) (r r′ : Run) (bs : List (List ℕ)) where

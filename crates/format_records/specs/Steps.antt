@@ -8,7 +8,8 @@ use borrow.Author.Tests.{le-leb, lt-leb, eq-eqb, ne-eqb, ltb-true, leb-true, eqb
 use lib.Dec.{eqb, ltb, leb}
 use lib.ListN.{length}
 use Rattle.laws.specs.Test.{pick, pick-ind, and-true}
-use Rattle.format_records.specs.Limits.{maxLinks, maxNodes, maxEntries}
+use Rattle.turn.specs.Limits.{maxLinks}
+use Rattle.format_records.specs.Limits.{maxNodes, maxEntries, maxRecords}
 use Rattle.format_records.specs.Records.{lengthAt, kindAt, endAt, headed, linkNumber, nodeNumber, headNumber, bodyNumber, firstNumber, recordNumber, refusal, run, past, stepAt}
 use Rattle.format_records.specs.declared.Run.{Run}
 use Rattle.format_records.specs.declared.Refusal.{Refusal}
@@ -97,8 +98,8 @@ node-zero count size len h =
     (eqb-true (len % 2) 0 (p .0), ltb-true count maxNodes (q .0), leb-true (size + len) (2 * maxEntries) (q .1))
 
 -- a run of either kind has at most 4,096 records
-pub count-below : (kind count size len : ℕ) → headNumber kind count size len ≡ 0 → count < 4096
-count-below kind count size len = pick-ind (eqb kind 1) (linkNumber count len) (nodeNumber count size len) (λ n. n ≡ 0 → count < 4096)
+pub count-below : (kind count size len : ℕ) → headNumber kind count size len ≡ 0 → count < maxRecords
+count-below kind count size len = pick-ind (eqb kind 1) (linkNumber count len) (nodeNumber count size len) (λ n. n ≡ 0 → count < maxRecords)
     (λ t h. link-zero count len h .1)
     (λ t h. node-zero count size len h .1)
 

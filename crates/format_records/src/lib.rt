@@ -3,6 +3,7 @@ ghost use mathlib.Core.Path.{_≡_};
 ghost use Prim.Native.Nat.{ℕ, _+_, _^_, _<_, _≤_};
 ghost use mathlib.Core.List.{List};
 ghost use lib.ListN.{length};
+ghost use Rattle.format_records.specs.Limits.{maxRecords};
 ghost use Rattle.format_records.specs.Records.{headNumber, refusal, stepAt, runAt, settingsRight, formOf, nodesAfter};
 ghost use Rattle.format_records.specs.Shape.{endOf, shapeOf};
 use turn::MAX_LINKS;
@@ -82,7 +83,7 @@ fn refused(number: u32, at: usize) -> Refusal
 
 // The record at a run's end.
 fn step_at(s: &[u8], kind: u32, r: Run) -> Step
-    requires { ⌜ (r .at ≤ length (now s)) × (r .size ≤ r .at) × (r .count ≤ 4096) ⌝ }
+    requires { ⌜ (r .at ≤ length (now s)) × (r .size ≤ r .at) × (r .count ≤ maxRecords) ⌝ }
     ensures { λ n. ⌜ n ≡ stepAt kind (now (s .entry)) r ⌝ }
 {
     let at = r.at;
