@@ -6,20 +6,20 @@ use mathlib.Core.List.{List, [], _∷_, map}
 use lib.ListN.{length, take, drop, length-append, length-map}
 use lib.Seq.{take-at}
 use Rattle.format.specs.declared.FileRead.{FileRead}
-use Rattle.writing.specs.Put.{put, over}
+use Rattle.writing.specs.Put.{put, atFront}
 use Rattle.format_records.specs.Records.{Form, form, refused, formOf}
-use Rattle.format.specs.File.{Graph, graph, graphOf, fileOf, fileFrom, startsOf, Buffers, Reading, reading, readInto}
+use Rattle.format.specs.File.{Contents, holding, contentsOf, fileOf, fileFrom, startsOf, FileLists, Reading, reading, readInto}
 use Rattle.answer_table.specs.Cuts.{cut}
 use Rattle.answer_read.specs.ReadText.{ReadFits, readText}
-use Rattle.answer.specs.Answered.{fileText, answered}
+use Rattle.answer.specs.AnswerText.{fileText, answerText}
 
 -- ---- a list at the front of another
 module _ {A : Type 0} where
-  over-long : (t l : List A) → length t ≤ length (over t l)
+  over-long : (t l : List A) → length t ≤ length (atFront t l)
   unfolding put
   over-long t l = omega (arith, length-append t (drop (0 + length t) l))
 
-  over-front : (n : ℕ) (t l : List A) → length t ≡ n → take n (over t l) ≡ t
+  over-front : (n : ℕ) (t l : List A) → length t ≡ n → take n (atFront t l) ≡ t
   unfolding put
   over-front n t l e = take-at t (drop (0 + length t) l) n e
 
@@ -29,7 +29,7 @@ starts-some [] = omega arith
 starts-some (b ∷ bs) = omega arith
 
 -- a graph whose columns have one length, and some start
-pub record OneLength (g : Graph) : Type 0 where
+pub record OneLength (g : Contents) : Type 0 where
   pub ax : length (g .ax) ≡ length (g .aId)
   pub ay : length (g .ay) ≡ length (g .aId)
   pub bx : length (g .bx) ≡ length (g .aId)
@@ -42,7 +42,7 @@ pub record OneLength (g : Graph) : Type 0 where
 columns-even : {A B : Type 0} (f : List ℕ → A) (h : List ℕ → B) (links : List (List ℕ)) → length (map f links) ≡ length (map h links)
 columns-even f h links = length-map links f ∙ sym (length-map links h)
 
-file-even : (s : List ℕ) (links nodes : List (List ℕ)) → OneLength (graphOf s links nodes)
+file-even : (s : List ℕ) (links nodes : List (List ℕ)) → OneLength (contentsOf s links nodes)
 file-even s links nodes = record {
   ax = columns-even _ _ links;
   ay = columns-even _ _ links;
@@ -54,8 +54,8 @@ file-even s links nodes = record {
   start = starts-some nodes;
 }
 
-module _ (g : Graph) (b : Buffers) (h : OneLength g) where
-  graph-fronts : ReadFits (readInto (graph g) b .answer) (readInto (graph g) b .lent)
+module _ (g : Contents) (b : FileLists) (h : OneLength g) where
+  graph-fronts : ReadFits (readInto (holding g) b .answer) (readInto (holding g) b .lent)
   graph-fronts = record {
     ax = cut _ _ (omega (arith, over-long (g .ax) (b .ax), h .ax));
     ay = cut _ _ (omega (arith, over-long (g .ay) (b .ay), h .ay));
@@ -69,7 +69,7 @@ module _ (g : Graph) (b : Buffers) (h : OneLength g) where
     list = cut _ _ (omega (arith, over-long (g .list) (b .list)));
   }
 
-  graph-text : readText (readInto (graph g) b .answer) (readInto (graph g) b .lent) ≡ fileText (graph g)
+  graph-text : readText (readInto (holding g) b .answer) (readInto (holding g) b .lent) ≡ fileText (holding g)
   graph-text =
       rw (
         over-front (length (g .aId)) (g .ax) (b .ax) (h .ax),
@@ -85,19 +85,19 @@ module _ (g : Graph) (b : Buffers) (h : OneLength g) where
       )
 
 -- ---- what answering is asked, and what it then prints
-form-fits : (s : List ℕ) (b : Buffers) (f : Form) → ReadFits (readInto (fileFrom s f) b .answer) (readInto (fileFrom s f) b .lent)
-form-fits s b (form links nodes) = graph-fronts (graphOf s links nodes) b (file-even s links nodes)
+form-fits : (s : List ℕ) (b : FileLists) (f : Form) → ReadFits (readInto (fileFrom s f) b .answer) (readInto (fileFrom s f) b .lent)
+form-fits s b (form links nodes) = graph-fronts (contentsOf s links nodes) b (file-even s links nodes)
 form-fits s b (refused why) = tt
 
-form-text : (s : List ℕ) (b : Buffers) (f : Form)
+form-text : (s : List ℕ) (b : FileLists) (f : Form)
     → readText (readInto (fileFrom s f) b .answer) (readInto (fileFrom s f) b .lent) ≡ fileText (fileFrom s f)
-form-text s b (form links nodes) = graph-text (graphOf s links nodes) b (file-even s links nodes)
+form-text s b (form links nodes) = graph-text (contentsOf s links nodes) b (file-even s links nodes)
 form-text s b (refused why) = refl
 
-module _ (s : List ℕ) (b : Buffers) {a : FileRead} {b′ : Buffers} (e : reading a b′ ≡ readInto (fileOf s) b) where
+module _ (s : List ℕ) (b : FileLists) {a : FileRead} {b′ : FileLists} (e : reading a b′ ≡ readInto (fileOf s) b) where
   pub read-fits : ReadFits a b′
   read-fits = subst (λ (x : Reading). ReadFits (x .answer) (x .lent)) (sym e) (form-fits s b (formOf s))
 
-  pub read-text : readText a b′ ≡ answered s
-  unfolding answered
+  pub read-text : readText a b′ ≡ answerText s
+  unfolding answerText
   read-text = ap (λ (x : Reading). readText (x .answer) (x .lent)) e ∙ form-text s b (formOf s)

@@ -1,2 +1,2 @@
 -- What the program answers to a file, by the definitions of the crates below.
-pub mod Answered
+pub mod AnswerText

@@ -5,10 +5,10 @@ use turn::MAX_LINKS;
 ghost use mathlib.Core.Path.{_≡_};
 ghost use Prim.Native.Nat.{ℕ, _≤_};
 ghost use lib.ListN.{length};
-ghost use Rattle.format.specs.File.{Room, buffers};
+ghost use Rattle.format.specs.File.{FileLists, fileLists, FileRoom};
 ghost use Rattle.print.specs.Room.{answerBytes};
 ghost use Rattle.writing.specs.Write.{Wrote};
-ghost use Rattle.answer.specs.Answered.{answered};
+ghost use Rattle.answer.specs.AnswerText.{answerText};
 
 // The starts of as many nodes as there may be, and the end of the last.
 const STARTS: usize = MAX_NODES + 1;
@@ -28,9 +28,12 @@ fn answer_lists(
     list: &mut [u32],
     out: &mut [u8],
 ) -> usize
-    requires { ⌜ Room (buffers (now ax) (now ay) (now bx) (now by) (now «a_id») (now «b_id») (now top) (now state) (now start) (now list)) ⌝ }
+    requires { ⌜
+        (let b : FileLists = fileLists (now ax) (now ay) (now bx) (now by) (now «a_id») (now «b_id»)
+        (now top) (now state) (now start) (now list) in
+        FileRoom b) ⌝ }
     requires { ⌜ answerBytes ≤ length (now out) ⌝ }
-    ensures { λ r. ⌜ Wrote (now (out .entry)) (now (out .exit)) 0 r (answered (now (input .entry))) ⌝ }
+    ensures { λ r. ⌜ Wrote (now (out .entry)) (now (out .exit)) 0 r (answerText (now (input .entry))) ⌝ }
 {
     let read = format::read_graph(input, ax, ay, bx, by, a_id, b_id, top, state, start, list);
     answer_read::answer_read(
@@ -52,7 +55,7 @@ fn answer_lists(
 // The answer to a file, from the start of `out`; it asks for room for the longest. The program's 4,096 visit states are all zero before reading.
 pub fn answer(input: &[u8], out: &mut [u8]) -> usize
     requires { ⌜ answerBytes ≤ length (now out) ⌝ }
-    ensures { λ r. ⌜ Wrote (now (out .entry)) (now (out .exit)) 0 r (answered (now (input .entry))) ⌝ }
+    ensures { λ r. ⌜ Wrote (now (out .entry)) (now (out .exit)) 0 r (answerText (now (input .entry))) ⌝ }
 {
     let mut ax = [0i32; MAX_LINKS];
     let mut ay = [0i32; MAX_LINKS];

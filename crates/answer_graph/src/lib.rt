@@ -36,9 +36,11 @@ fn answer_contours(
     out: &mut [u8],
 ) -> usize
     requires { ⌜ answerBytes ≤ length (now out) ⌝ }
-    ensures { λ r. ⌜ Wrote (now (out .entry)) (now (out .exit)) 0 r
-        (extractedText (lent (now (ax .entry)) (now (ay .entry)) (now (bx .entry)) (now (by .entry)) (now («a_id» .entry)) (now («b_id» .entry)) (now (start .entry)) (now (list .entry))) (now (top .entry)) clockwise minimum
-        (buffers (now (state .entry)) (now (points .entry)) (now (first .entry)) (now (len .entry)) (now (kind .entry)))) ⌝ }
+    ensures { λ r. ⌜
+        (let g : Lent = lent (now (ax .entry)) (now (ay .entry)) (now (bx .entry)) (now (by .entry))
+        (now («a_id» .entry)) (now («b_id» .entry)) (now (start .entry)) (now (list .entry)) in
+        let b : Buffers = buffers (now (state .entry)) (now (points .entry)) (now (first .entry)) (now (len .entry)) (now (kind .entry)) in
+        Wrote (now (out .entry)) (now (out .exit)) 0 r (extractedText g (now (top .entry)) clockwise minimum b)) ⌝ }
 {
     let extraction = walk::extract(
         ax,
@@ -78,8 +80,10 @@ pub fn answer_graph(
     out: &mut [u8],
 ) -> usize
     requires { ⌜ answerBytes ≤ length (now out) ⌝ }
-    ensures { λ r. ⌜ Wrote (now (out .entry)) (now (out .exit)) 0 r
-        (graphText (lent (now (ax .entry)) (now (ay .entry)) (now (bx .entry)) (now (by .entry)) (now («a_id» .entry)) (now («b_id» .entry)) (now (start .entry)) (now (list .entry))) (now (top .entry)) clockwise minimum (now (state .entry))) ⌝ }
+    ensures { λ r. ⌜
+        (let g : Lent = lent (now (ax .entry)) (now (ay .entry)) (now (bx .entry)) (now (by .entry))
+        (now («a_id» .entry)) (now («b_id» .entry)) (now (start .entry)) (now (list .entry)) in
+        Wrote (now (out .entry)) (now (out .exit)) 0 r (graphText g (now (top .entry)) clockwise minimum (now (state .entry)))) ⌝ }
 {
     let mut points = [0i32; COORDINATES];
     let mut first = [0u32; MAX_CONTOURS];

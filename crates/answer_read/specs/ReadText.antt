@@ -3,16 +3,16 @@ use Prim.Native.Nat.{ℕ, _+_}
 use mathlib.Core.List.{List}
 use lib.ListN.{take}
 use Rattle.graph.specs.Graph.{lent}
-use Rattle.format.specs.declared.Counts.{Counts}
+use Rattle.format.specs.declared.FileCounts.{FileCounts}
 use Rattle.format.specs.declared.FileRead.{FileRead}
 use Rattle.format.specs.declared.FileRead.the-variants as answer
-use Rattle.format.specs.File.{Buffers}
+use Rattle.format.specs.File.{FileLists}
 use Rattle.print.specs.Answer.{printedRefusal}
 use Rattle.answer_table.specs.Cuts.{Cut}
 use Rattle.answer_graph.specs.GraphText.{graphText}
 
 -- the lists are long enough to be cut so
-pub record FrontsFit (c : Counts) (b : Buffers) : Type 0 where
+pub record FrontsFit (c : FileCounts) (b : FileLists) : Type 0 where
   pub ax : Cut (c .links) (b .ax)
   pub ay : Cut (c .links) (b .ay)
   pub bx : Cut (c .links) (b .bx)
@@ -25,7 +25,7 @@ pub record FrontsFit (c : Counts) (b : Buffers) : Type 0 where
   pub list : Cut (c .entries) (b .list)
 
 -- the answer to what stands in front
-abbrev pub frontText : Counts → Buffers → List ℕ
+abbrev pub frontText : FileCounts → FileLists → List ℕ
 frontText c b =
     let n = c .links in
     graphText
@@ -36,10 +36,10 @@ frontText c b =
     (c .minimum)
     (take n (b .state))
 
-abbrev pub ReadFits : FileRead → Buffers → Type 0
+abbrev pub ReadFits : FileRead → FileLists → Type 0
 ReadFits (answer.Graph c) b = FrontsFit c b
 ReadFits (answer.Refused why) b = Unit
 
-abbrev pub readText : FileRead → Buffers → List ℕ
+abbrev pub readText : FileRead → FileLists → List ℕ
 readText (answer.Graph c) b = frontText c b
 readText (answer.Refused why) b = printedRefusal (why .number) (why .place)

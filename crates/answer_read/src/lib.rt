@@ -1,10 +1,10 @@
 // What the program answers to what reading gave: its refusal, or the answer to the graph that it left in the lent lists.
-use format::Counts;
+use format::FileCounts;
 use format::FileRead;
 ghost use mathlib.Core.Path.{_≡_};
 ghost use Prim.Native.Nat.{ℕ, _≤_};
 ghost use lib.ListN.{length};
-ghost use Rattle.format.specs.File.{Buffers, buffers};
+ghost use Rattle.format.specs.File.{FileLists, fileLists};
 ghost use Rattle.print.specs.Room.{answerBytes};
 ghost use Rattle.writing.specs.Write.{Wrote};
 ghost use Rattle.answer_read.specs.ReadText.{FrontsFit, frontText, ReadFits, readText};
@@ -21,13 +21,16 @@ fn answer_fronts(
     state: &mut [u8],
     start: &[u32],
     list: &[u32],
-    counts: Counts,
+    counts: FileCounts,
     out: &mut [u8],
 ) -> usize
-    requires { ⌜ FrontsFit counts (buffers (now ax) (now ay) (now bx) (now by) (now «a_id») (now «b_id») (now top) (now state) (now start) (now list)) ⌝ }
+    requires { ⌜
+        (let b : FileLists = fileLists (now ax) (now ay) (now bx) (now by) (now «a_id») (now «b_id»)
+        (now top) (now state) (now start) (now list) in
+        FrontsFit counts b) ⌝ }
     requires { ⌜ answerBytes ≤ length (now out) ⌝ }
     ensures { λ r. ⌜
-        (let b : Buffers = buffers (now (ax .entry)) (now (ay .entry)) (now (bx .entry)) (now (by .entry))
+        (let b : FileLists = fileLists (now (ax .entry)) (now (ay .entry)) (now (bx .entry)) (now (by .entry))
         (now («a_id» .entry)) (now («b_id» .entry)) (now (top .entry)) (now (state .entry)) (now (start .entry)) (now (list .entry)) in
         Wrote (now (out .entry)) (now (out .exit)) 0 r (frontText counts b)) ⌝ }
 {
@@ -66,10 +69,13 @@ pub fn answer_read(
     list: &[u32],
     out: &mut [u8],
 ) -> usize
-    requires { ⌜ ReadFits read (buffers (now ax) (now ay) (now bx) (now by) (now «a_id») (now «b_id») (now top) (now state) (now start) (now list)) ⌝ }
+    requires { ⌜
+        (let b : FileLists = fileLists (now ax) (now ay) (now bx) (now by) (now «a_id») (now «b_id»)
+        (now top) (now state) (now start) (now list) in
+        ReadFits read b) ⌝ }
     requires { ⌜ answerBytes ≤ length (now out) ⌝ }
     ensures { λ r. ⌜
-        (let b : Buffers = buffers (now (ax .entry)) (now (ay .entry)) (now (bx .entry)) (now (by .entry))
+        (let b : FileLists = fileLists (now (ax .entry)) (now (ay .entry)) (now (bx .entry)) (now (by .entry))
         (now («a_id» .entry)) (now («b_id» .entry)) (now (top .entry)) (now (state .entry)) (now (start .entry)) (now (list .entry)) in
         Wrote (now (out .entry)) (now (out .exit)) 0 r (readText read b)) ⌝ }
 {

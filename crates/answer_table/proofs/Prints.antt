@@ -19,12 +19,12 @@ use Rattle.bind.specs.declared.Binding.the-variants.{Bound, Refused}
 use Rattle.bind.specs.declared.Given.{Given}
 use Rattle.bind.specs.declared.Given.the-variants.{All, Stuck}
 use Rattle.bind.specs.Owners.{Owned, Outcome, outcome, written, droppedOf, handedBy, handed, ownersOf, boundAfter, bound}
-use Rattle.print.specs.Room.{maxContours, Ranges, Printable}
+use Rattle.print.specs.Room.{maxContours, RangesInside, Printable}
 use Rattle.print.specs.Answer as print
 use Rattle.answer_table.specs.BoundText.{totalsOf, bindingText, outcomeText, boundText}
 
-abbrev printTable : Table → List ℕ → print.Table
-printTable t owner = print.table (t .points) (t .first) (t .len) (t .kind) owner
+abbrev printTable : Table → List ℕ → print.OwnedTable
+printTable t owner = print.ownedTable (t .points) (t .first) (t .len) (t .kind) owner
 
 hulls-few : (l : List ℕ) → hulls l ≤ length l
 unfolding hulls

@@ -16,7 +16,7 @@ totalsOf t shapes dropped = record { contours = contourCount t; shapes = shapes;
 
 abbrev pub bindingText : Table → Binding → List ℕ → List ℕ
 bindingText t (Bound shapes dropped) owner =
-    print.printed (print.table (t .points) (t .first) (t .len) (t .kind) owner) (totalsOf t shapes dropped)
+    print.printed (print.ownedTable (t .points) (t .first) (t .len) (t .kind) owner) (totalsOf t shapes dropped)
 bindingText t (Refused number place) owner = print.printedRefusal number place
 
 abbrev pub outcomeText : Table → Outcome → List ℕ

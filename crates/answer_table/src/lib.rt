@@ -23,7 +23,8 @@ fn answer_table(
     out: &mut [u8],
 ) -> usize
     requires { ⌜ answerBytes ≤ length (now out) ⌝ }
-    ensures { λ r. ⌜ Wrote (now (out .entry)) (now (out .exit)) 0 r (boundText (table (now (points .entry)) (now (first .entry)) (now (len .entry)) (now (kind .entry))) clockwise) ⌝ }
+    ensures { λ r. ⌜ (let t : Table = table (now (points .entry)) (now (first .entry)) (now (len .entry)) (now (kind .entry)) in
+        Wrote (now (out .entry)) (now (out .exit)) 0 r (boundText t clockwise)) ⌝ }
 {
     let mut owner = [0u16; MAX_CONTOURS];
     match bind::bind(points, first, len, kind, clockwise, &mut owner) {

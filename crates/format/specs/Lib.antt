@@ -1,6 +1,6 @@
 -- What a file says, and the theorems on it, leaves first.
 pub mod File
-pub mod Lists
+pub mod ReadLists
 pub mod Encoded
 pub mod RoundTrip
 pub mod Accepted

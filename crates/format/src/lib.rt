@@ -3,18 +3,18 @@
 // The form of the whole file is looked at first, by its heads, so that a refusal leaves every lent list alone;
 // then the lists are filled.
 ghost use mathlib.Core.Path.{_≡_};
-ghost use Rattle.format.specs.File.{fileOf, Room, buffers, reading, readInto};
+ghost use Rattle.format.specs.File.{fileOf, FileLists, fileLists, FileRoom, reading, readInto};
+use format_records::FileShape;
 use format_records::MAX_ENTRIES;
 use format_records::MAX_NODES;
 use format_records::Refusal;
-use format_records::Shape;
 use turn::MAX_LINKS;
 
 // The bytes that decide every input: the settings, as many links, nodes and entries as may be, and one head more.
 pub const FILE_BYTES: usize = 15 + MAX_LINKS * 28 + MAX_NODES * 6 + MAX_ENTRIES * 2 + 6;
 
 // What a file holds.
-pub struct Counts {
+pub struct FileCounts {
     pub links: usize,
     pub nodes: usize,
     pub entries: usize,
@@ -23,7 +23,7 @@ pub struct Counts {
 }
 
 pub enum FileRead {
-    Graph(Counts),
+    Graph(FileCounts),
     Refused(Refusal),
 }
 
@@ -42,20 +42,27 @@ pub fn read_graph(
     start: &mut [u32],
     list: &mut [u32],
 ) -> FileRead
-    requires { ⌜ Room (buffers (now ax) (now ay) (now bx) (now by) (now «a_id») (now «b_id») (now top) (now state) (now start) (now list)) ⌝ }
-    ensures { λ r. ⌜ reading r (buffers (now (ax .exit)) (now (ay .exit)) (now (bx .exit)) (now (by .exit)) (now («a_id» .exit)) (now («b_id» .exit)) (now (top .exit)) (now (state .exit)) (now (start .exit)) (now (list .exit)))
-        ≡ readInto (fileOf (now (s .entry))) (buffers (now (ax .entry)) (now (ay .entry)) (now (bx .entry)) (now (by .entry)) (now («a_id» .entry)) (now («b_id» .entry)) (now (top .entry)) (now (state .entry)) (now (start .entry)) (now (list .entry))) ⌝ }
+    requires { ⌜
+        (let before : FileLists = fileLists (now ax) (now ay) (now bx) (now by) (now «a_id») (now «b_id»)
+        (now top) (now state) (now start) (now list) in
+        FileRoom before) ⌝ }
+    ensures { λ r. ⌜
+        (let before : FileLists = fileLists (now (ax .entry)) (now (ay .entry)) (now (bx .entry)) (now (by .entry))
+        (now («a_id» .entry)) (now («b_id» .entry)) (now (top .entry)) (now (state .entry)) (now (start .entry)) (now (list .entry)) in
+        let after : FileLists = fileLists (now (ax .exit)) (now (ay .exit)) (now (bx .exit)) (now (by .exit))
+        (now («a_id» .exit)) (now («b_id» .exit)) (now (top .exit)) (now (state .exit)) (now (start .exit)) (now (list .exit)) in
+        reading r after ≡ readInto (fileOf (now (s .entry))) before) ⌝ }
 {
     match format_records::shape_of(s) {
-        Shape::Wrong(e) => FileRead::Refused(e),
-        Shape::Right {
+        FileShape::Wrong(e) => FileRead::Refused(e),
+        FileShape::Right {
             links,
             nodes,
             entries,
         } => {
             format_lists::fill_links(s, links, ax, ay, bx, by, a_id, b_id, top, state);
             format_lists::fill_nodes(s, 15 + 28 * links, nodes, start, list);
-            FileRead::Graph(Counts {
+            FileRead::Graph(FileCounts {
                 links,
                 nodes,
                 entries,

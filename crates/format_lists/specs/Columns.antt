@@ -3,7 +3,7 @@ use Prim.Native.Nat.{ℕ, _+_, _≤_}
 use mathlib.Core.List.{List}
 use lib.ListN.{length, getD}
 use lib.IntN.{ℤ}
-use Rattle.writing.specs.Put.{over}
+use Rattle.writing.specs.Put.{atFront}
 use Rattle.format_numbers.specs.Bytes.{u16At, i32At, every}
 
 pub record Columns : Type 0 where
@@ -36,9 +36,9 @@ column f j n = every f 28 (21 + j) n
 
 abbrev pub linksInto : List ℕ → ℕ → Columns → Columns
 linksInto s n c =
-    columns (over (column (i32At s) 0 n) (c .ax)) (over (column (i32At s) 4 n) (c .ay)) (over (column (i32At s) 8 n) (c .bx))
-    (over (column (i32At s) 12 n) (c .by))
-    (over (column (u16At s) 16 n) (c .aId))
-    (over (column (u16At s) 18 n) (c .bId))
-    (over (column (λ i. getD s i 0) 20 n) (c .top))
-    (over (column (λ i. getD s i 0) 21 n) (c .state))
+    columns (atFront (column (i32At s) 0 n) (c .ax)) (atFront (column (i32At s) 4 n) (c .ay)) (atFront (column (i32At s) 8 n) (c .bx))
+    (atFront (column (i32At s) 12 n) (c .by))
+    (atFront (column (u16At s) 16 n) (c .aId))
+    (atFront (column (u16At s) 18 n) (c .bId))
+    (atFront (column (λ i. getD s i 0) 20 n) (c .top))
+    (atFront (column (λ i. getD s i 0) 21 n) (c .state))

@@ -3,16 +3,16 @@ ghost use mathlib.Core.Path.{_≡_};
 ghost use Prim.Native.Nat.{ℕ, _+_, _*_, _<_, _≤_};
 ghost use mathlib.Core.List.{List};
 ghost use lib.ListN.{length, getD};
-ghost use Rattle.writing.specs.Put.{put, over};
+ghost use Rattle.writing.specs.Put.{put, atFront};
 ghost use Rattle.format_numbers.specs.Bytes.{u16At, i32At, every};
 ghost use Rattle.format_records.specs.Limits.{maxEntries};
-ghost use Rattle.format_lists.specs.Columns.{columns, LinkRoom, linksInto};
+ghost use Rattle.format_lists.specs.Columns.{Columns, columns, LinkRoom, linksInto};
 ghost use Rattle.format_lists.specs.NodeLists.{entriesFrom, startsFrom, NodesStand};
 
 // The numbers at every 28th byte, the bytes of a link's record.
 fn fill_i32(s: &[u8], from: usize, n: usize, out: &mut [i32])
     requires { ⌜ (from + 28 * n ≤ length (now s) + 24) × (n ≤ length (now out)) ⌝ }
-    ensures { λ _. ⌜ now (out .exit) ≡ over (every (i32At (now (s .entry))) 28 from n) (now (out .entry)) ⌝ }
+    ensures { λ _. ⌜ now (out .exit) ≡ atFront (every (i32At (now (s .entry))) 28 from n) (now (out .entry)) ⌝ }
 {
     let mut at = from;
     let mut k = 0;
@@ -40,7 +40,7 @@ fn fill_u16(s: &[u8], from: usize, step: usize, n: usize, out: &mut [u32], to: u
 
 fn fill_u8(s: &[u8], from: usize, n: usize, out: &mut [u8])
     requires { ⌜ (from + 28 * n ≤ length (now s) + 27) × (n ≤ length (now out)) ⌝ }
-    ensures { λ _. ⌜ now (out .exit) ≡ over (every (λ (i : ℕ). getD (now (s .entry)) i 0) 28 from n) (now (out .entry)) ⌝ }
+    ensures { λ _. ⌜ now (out .exit) ≡ atFront (every (λ (i : ℕ). getD (now (s .entry)) i 0) 28 from n) (now (out .entry)) ⌝ }
 {
     let mut at = from;
     let mut k = 0;
@@ -66,8 +66,12 @@ pub fn fill_links(
 )
     requires { ⌜ 15 + 28 * n ≤ length (now s) ⌝ }
     requires { ⌜ LinkRoom n (columns (now ax) (now ay) (now bx) (now by) (now «a_id») (now «b_id») (now top) (now state)) ⌝ }
-    ensures { λ _. ⌜ columns (now (ax .exit)) (now (ay .exit)) (now (bx .exit)) (now (by .exit)) (now («a_id» .exit)) (now («b_id» .exit)) (now (top .exit)) (now (state .exit))
-        ≡ linksInto (now (s .entry)) n (columns (now (ax .entry)) (now (ay .entry)) (now (bx .entry)) (now (by .entry)) (now («a_id» .entry)) (now («b_id» .entry)) (now (top .entry)) (now (state .entry))) ⌝ }
+    ensures { λ _. ⌜
+        (let before : Columns = columns (now (ax .entry)) (now (ay .entry)) (now (bx .entry)) (now (by .entry))
+        (now («a_id» .entry)) (now («b_id» .entry)) (now (top .entry)) (now (state .entry)) in
+        let after : Columns = columns (now (ax .exit)) (now (ay .exit)) (now (bx .exit)) (now (by .exit))
+        (now («a_id» .exit)) (now («b_id» .exit)) (now (top .exit)) (now (state .exit)) in
+        after ≡ linksInto (now (s .entry)) n before) ⌝ }
 {
     fill_i32(s, 21, n, ax);
     fill_i32(s, 25, n, ay);
@@ -82,8 +86,8 @@ pub fn fill_links(
 // The starts and the entries of m nodes whose records stand from an offset on.
 pub fn fill_nodes(s: &[u8], from: usize, m: usize, start: &mut [u32], list: &mut [u32])
     requires { ⌜ (m < length (now start)) × (maxEntries ≤ length (now list)) × NodesStand (now s) maxEntries m from 0 ⌝ }
-    ensures { λ _. ⌜ now (start .exit) ≡ over (startsFrom (now (s .entry)) m from 0) (now (start .entry)) ⌝ }
-    ensures { λ _. ⌜ now (list .exit) ≡ over (entriesFrom (now (s .entry)) m from) (now (list .entry)) ⌝ }
+    ensures { λ _. ⌜ now (start .exit) ≡ atFront (startsFrom (now (s .entry)) m from 0) (now (start .entry)) ⌝ }
+    ensures { λ _. ⌜ now (list .exit) ≡ atFront (entriesFrom (now (s .entry)) m from) (now (list .entry)) ⌝ }
 {
     let mut at = from;
     let mut e: u32 = 0;

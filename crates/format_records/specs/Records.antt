@@ -10,8 +10,8 @@ use Rattle.turn.specs.Limits.{maxLinks}
 use Rattle.format_records.specs.Limits.{maxNodes, maxEntries, maxRecords}
 use Rattle.format_records.specs.declared.Run.{Run}
 use Rattle.format_records.specs.declared.Refusal.{Refusal}
-use Rattle.format_records.specs.declared.Step.{Step}
-use Rattle.format_records.specs.declared.Step.the-variants.{Next, Other, Fault}
+use Rattle.format_records.specs.declared.RunStep.{RunStep}
+use Rattle.format_records.specs.declared.RunStep.the-variants.{Next, Other, Fault}
 
 -- ---- one record, whose first byte is at an offset
 
@@ -25,8 +25,8 @@ abbrev pub bodyAt : List ℕ → ℕ → List ℕ
 bodyAt s at = take (lengthAt s at) (drop (at + 6) s)
 
 -- the offset after it
-abbrev pub endAt : List ℕ → ℕ → ℕ
-endAt s at = at + 6 + lengthAt s at
+abbrev pub recordEnd : List ℕ → ℕ → ℕ
+recordEnd s at = at + 6 + lengthAt s at
 
 -- a whole head of this kind stands there
 abbrev pub headed : ℕ → List ℕ → ℕ → Bool
@@ -47,7 +47,7 @@ headNumber kind count size len = pick (eqb kind 1) (linkNumber count len) (nodeN
 
 -- the limits are judged at the head, whether or not the body is cut; a cut body is 13
 abbrev pub bodyNumber : List ℕ → ℕ → ℕ
-bodyNumber s at = pick (leb (endAt s at) (length s)) 0 13
+bodyNumber s at = pick (leb (recordEnd s at) (length s)) 0 13
 
 abbrev pub firstNumber : ℕ → ℕ → ℕ
 firstNumber a b = pick (eqb a 0) b a
@@ -61,14 +61,14 @@ refusal number at = record { number = number; place = pick (eqb number 13) at 0 
 
 -- ---- the records of one kind that come one after the other
 
-abbrev pub run : ℕ → ℕ → ℕ → Run
-run at count size = record { at = at; count = count; size = size }
+abbrev pub runTo : ℕ → ℕ → ℕ → Run
+runTo at count size = record { at = at; count = count; size = size }
 
 abbrev pub past : List ℕ → Run → Run
-past s r = run (endAt s (r .at)) (r .count + 1) (r .size + lengthAt s (r .at))
+past s r = runTo (recordEnd s (r .at)) (r .count + 1) (r .size + lengthAt s (r .at))
 
 -- the record at the run's end: one more of the run, something else, or at fault
-unfoldable pub stepAt : ℕ → List ℕ → Run → Step
+unfoldable pub stepAt : ℕ → List ℕ → Run → RunStep
 stepAt kind s r =
     pick (headed kind s (r .at))
     (pick (eqb (recordNumber kind s r) 0) (Next (past s r)) (Fault (refusal (recordNumber kind s r) (r .at))))
@@ -83,7 +83,7 @@ abbrev pub with : List ℕ → Ran → Ran
 with b (ran r bs) = ran r (b ∷ bs)
 with b (fault e) = fault e
 
-abbrev pub onStep : Step → (Run → Ran) → Ran → Ran
+abbrev pub onStep : RunStep → (Run → Ran) → Ran → Ran
 onStep (Next r) go stop = go r
 onStep Other go stop = stop
 onStep (Fault e) go stop = fault e
@@ -98,7 +98,7 @@ abbrev pub looks : ℕ
 looks = suc maxRecords
 
 abbrev pub runAt : ℕ → List ℕ → ℕ → Ran
-runAt kind s at = runFrom looks kind s (run at 0 0)
+runAt kind s at = runFrom looks kind s (runTo at 0 0)
 
 -- ---- the whole file
 
@@ -126,9 +126,9 @@ formOf s = pick (settingsRight s) (onRan (runAt 1 s 15) (λ r links. nodesAfter 
 -- ---- the entries of the nodes
 
 -- a node's body: "16-bit link numbers"
-abbrev pub entriesOf : List ℕ → List ℕ
-entriesOf body = every (u16At body) 2 0 (length body / 2)
+abbrev pub nodeEntries : List ℕ → List ℕ
+nodeEntries body = every (u16At body) 2 0 (length body / 2)
 
-unfoldable pub listOf : List (List ℕ) → List ℕ
-listOf [] = []
-listOf (body ∷ rest) = entriesOf body ++ listOf rest
+unfoldable pub flatList : List (List ℕ) → List ℕ
+flatList [] = []
+flatList (body ∷ rest) = nodeEntries body ++ flatList rest

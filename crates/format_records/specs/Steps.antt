@@ -10,10 +10,10 @@ use lib.ListN.{length}
 use Rattle.laws.specs.Test.{pick, pick-ind, and-true}
 use Rattle.turn.specs.Limits.{maxLinks}
 use Rattle.format_records.specs.Limits.{maxNodes, maxEntries, maxRecords}
-use Rattle.format_records.specs.Records.{lengthAt, kindAt, endAt, headed, linkNumber, nodeNumber, headNumber, bodyNumber, firstNumber, recordNumber, refusal, run, past, stepAt}
+use Rattle.format_records.specs.Records.{lengthAt, kindAt, recordEnd, headed, linkNumber, nodeNumber, headNumber, bodyNumber, firstNumber, recordNumber, refusal, runTo, past, stepAt}
 use Rattle.format_records.specs.declared.Run.{Run}
 use Rattle.format_records.specs.declared.Refusal.{Refusal}
-use Rattle.format_records.specs.declared.Step.the-variants.{Next, Other, Fault}
+use Rattle.format_records.specs.declared.RunStep.the-variants.{Next, Other, Fault}
 
 -- ---- forward: the tests decide the step
 module _ (kind : ℕ) (s : List ℕ) (r : Run) where
@@ -35,17 +35,17 @@ module _ (kind : ℕ) (s : List ℕ) (r : Run) where
           ≡ Fault (refusal m (r .at))
       by-number m z = rw (le-leb (r .at + 6) (length s) h, eq-eqb (kindAt s (r .at)) kind k, ne-eqb m 0 z, ne-eqb m 0 z)
 
-  pub step-body : r .at + 6 ≤ length s → kindAt s (r .at) ≡ kind → headNumber kind (r .count) (r .size) (lengthAt s (r .at)) ≡ 0 → length s < endAt s (r .at)
+  pub step-body : r .at + 6 ≤ length s → kindAt s (r .at) ≡ kind → headNumber kind (r .count) (r .size) (lengthAt s (r .at)) ≡ 0 → length s < recordEnd s (r .at)
       → stepAt kind s r ≡ Fault (refusal 13 (r .at))
   unfolding stepAt recordNumber
   step-body h k n b =
-      rw (le-leb (r .at + 6) (length s) h, eq-eqb (kindAt s (r .at)) kind k, n, lt-leb (endAt s (r .at)) (length s) b)
+      rw (le-leb (r .at + 6) (length s) h, eq-eqb (kindAt s (r .at)) kind k, n, lt-leb (recordEnd s (r .at)) (length s) b)
 
-  pub step-next : r .at + 6 ≤ length s → kindAt s (r .at) ≡ kind → headNumber kind (r .count) (r .size) (lengthAt s (r .at)) ≡ 0 → endAt s (r .at) ≤ length s
+  pub step-next : r .at + 6 ≤ length s → kindAt s (r .at) ≡ kind → headNumber kind (r .count) (r .size) (lengthAt s (r .at)) ≡ 0 → recordEnd s (r .at) ≤ length s
       → stepAt kind s r ≡ Next (past s r)
   unfolding stepAt recordNumber
   step-next h k n b =
-      rw (le-leb (r .at + 6) (length s) h, eq-eqb (kindAt s (r .at)) kind k, n, le-leb (endAt s (r .at)) (length s) b)
+      rw (le-leb (r .at + 6) (length s) h, eq-eqb (kindAt s (r .at)) kind k, n, le-leb (recordEnd s (r .at)) (length s) b)
 
 -- the same with the length and the number as they were read
 module _ (kind : ℕ) (s : List ℕ) (r : Run) (len n : ℕ) (h : r .at + 6 ≤ length s) (k : kindAt s (r .at) ≡ kind) (l : len ≡ lengthAt s (r .at))
@@ -59,9 +59,9 @@ module _ (kind : ℕ) (s : List ℕ) (r : Run) (len n : ℕ) (h : r .at + 6 ≤ 
   pub read-body : n ≡ 0 → length s < r .at + 6 + len → Fault (refusal 13 (r .at)) ≡ stepAt kind s r
   read-body z b = sym (step-body kind s r h k (sym number-is ∙ z) (rw l at b))
 
-  pub read-next : n ≡ 0 → r .at + 6 + len ≤ length s → Next (run (r .at + 6 + len) (r .count + 1) (r .size + len)) ≡ stepAt kind s r
+  pub read-next : n ≡ 0 → r .at + 6 + len ≤ length s → Next (runTo (r .at + 6 + len) (r .count + 1) (r .size + len)) ≡ stepAt kind s r
   read-next z b =
-      ap (λ m. Next (run (r .at + 6 + m) (r .count + 1) (r .size + m))) l
+      ap (λ m. Next (runTo (r .at + 6 + m) (r .count + 1) (r .size + m))) l
       ∙ sym (step-next kind s r h k (sym number-is ∙ z) (rw l at b))
 
 -- ---- back: what the head of a record that is taken tells
@@ -69,7 +69,7 @@ pub record Told (kind : ℕ) (s : List ℕ) (r : Run) : Type 0 where
   pub head : r .at + 6 ≤ length s
   pub kind-is : kindAt s (r .at) ≡ kind
   pub number : headNumber kind (r .count) (r .size) (lengthAt s (r .at)) ≡ 0
-  pub whole : endAt s (r .at) ≤ length s
+  pub whole : recordEnd s (r .at) ≤ length s
 
 never-suc : (a : ℕ) → suc a ≡ 0 → ⊥
 never-suc a e = omega arith
@@ -113,7 +113,7 @@ module _ (kind : ℕ) (s : List ℕ) (r x : Run) where
         head = leb-true (r .at + 6) (length s) (a .0);
         kind-is = eqb-true (kindAt s (r .at)) kind (a .1);
         number = z .0;
-        whole = leb-true (endAt s (r .at)) (length s) (choice-zero (leb (endAt s (r .at)) (length s)) 0 (z .1) .0);
+        whole = leb-true (recordEnd s (r .at)) (length s) (choice-zero (leb (recordEnd s (r .at)) (length s)) 0 (z .1) .0);
       }
 
   pub next-tells : stepAt kind s r ≡ Next x → (x ≡ past s r) × Told kind s r

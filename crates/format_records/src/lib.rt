@@ -5,7 +5,7 @@ ghost use mathlib.Core.List.{List};
 ghost use lib.ListN.{length};
 ghost use Rattle.format_records.specs.Limits.{maxRecords};
 ghost use Rattle.format_records.specs.Records.{headNumber, refusal, stepAt, runAt, settingsRight, formOf, nodesAfter};
-ghost use Rattle.format_records.specs.Shape.{endOf, shapeOf};
+ghost use Rattle.format_records.specs.Shape.{runEndOf, fileShapeOf};
 use turn::MAX_LINKS;
 
 // "a 4,097th node or 8,193rd list entry" ends the reading with 5, as a link past MAX_LINKS does with 1.
@@ -27,7 +27,7 @@ pub struct Run {
 }
 
 // What stands at a run's end: one record more, something else, or a record of the kind that is at fault.
-pub enum Step {
+pub enum RunStep {
     Next(Run),
     Other,
     Fault(Refusal),
@@ -40,7 +40,7 @@ pub enum RunEnd {
 }
 
 // The form of a file: how many links, nodes and list entries it has, or its first fault.
-pub enum Shape {
+pub enum FileShape {
     Right {
         links: usize,
         nodes: usize,
@@ -82,30 +82,30 @@ fn refused(number: u32, at: usize) -> Refusal
 }
 
 // The record at a run's end.
-fn step_at(s: &[u8], kind: u32, r: Run) -> Step
+fn step_at(s: &[u8], kind: u32, r: Run) -> RunStep
     requires { ⌜ (r .at ≤ length (now s)) × (r .size ≤ r .at) × (r .count ≤ maxRecords) ⌝ }
     ensures { λ n. ⌜ n ≡ stepAt kind (now (s .entry)) r ⌝ }
 {
     let at = r.at;
     if s.len() - at < 6 {
-        return Step::Other;
+        return RunStep::Other;
     }
     if format_numbers::u16_at(s, at + 4) != kind {
-        return Step::Other;
+        return RunStep::Other;
     }
     let len = format_numbers::u32_at(s, at) as usize;
     let number = head_number(kind, r.count, r.size, len);
     if number != 0 {
-        return Step::Fault(refused(number, at));
+        return RunStep::Fault(refused(number, at));
     }
     let body = at + 6;
     if s.len() - body < len {
-        return Step::Fault(Refusal {
+        return RunStep::Fault(Refusal {
             number: 13,
             place: at,
         });
     }
-    Step::Next(Run {
+    RunStep::Next(Run {
         at: body + len,
         count: r.count + 1,
         size: r.size + len,
@@ -115,7 +115,7 @@ fn step_at(s: &[u8], kind: u32, r: Run) -> Step
 // The run of a kind from an offset on.
 fn run_at(s: &[u8], kind: u32, at: usize) -> RunEnd
     requires { ⌜ at ≤ length (now s) ⌝ }
-    ensures { λ r. ⌜ r ≡ endOf (runAt kind (now (s .entry)) at) ⌝ }
+    ensures { λ r. ⌜ r ≡ runEndOf (runAt kind (now (s .entry)) at) ⌝ }
 {
     let mut r = Run {
         at,
@@ -124,13 +124,13 @@ fn run_at(s: &[u8], kind: u32, at: usize) -> RunEnd
     };
     loop {
         match step_at(s, kind, r) {
-            Step::Next(next) => {
+            RunStep::Next(next) => {
                 r = next;
             }
-            Step::Other => {
+            RunStep::Other => {
                 return RunEnd::To(r);
             }
-            Step::Fault(e) => {
+            RunStep::Fault(e) => {
                 return RunEnd::Fault(e);
             }
         }
@@ -148,20 +148,20 @@ fn settings_right(s: &[u8]) -> bool
 }
 
 // The form of the whole file: after so many links the nodes, and after them the end.
-fn nodes_after(s: &[u8], links: usize, at: usize) -> Shape
+fn nodes_after(s: &[u8], links: usize, at: usize) -> FileShape
     requires { ⌜ at ≤ length (now s) ⌝ }
-    ensures { λ r. ⌜ ((bodies : List (List ℕ)) → length bodies ≡ links → r ≡ shapeOf (nodesAfter (now (s .entry)) bodies at)) ⌝ }
+    ensures { λ r. ⌜ ((bodies : List (List ℕ)) → length bodies ≡ links → r ≡ fileShapeOf (nodesAfter (now (s .entry)) bodies at)) ⌝ }
 {
     match run_at(s, 2, at) {
-        RunEnd::Fault(e) => Shape::Wrong(e),
+        RunEnd::Fault(e) => FileShape::Wrong(e),
         RunEnd::To(r) => {
             if r.at != s.len() {
-                return Shape::Wrong(Refusal {
+                return FileShape::Wrong(Refusal {
                     number: 13,
                     place: r.at,
                 });
             }
-            Shape::Right {
+            FileShape::Right {
                 links,
                 nodes: r.count,
                 entries: r.size / 2,
@@ -170,17 +170,17 @@ fn nodes_after(s: &[u8], links: usize, at: usize) -> Shape
     }
 }
 
-pub fn shape_of(s: &[u8]) -> Shape
-    ensures { λ r. ⌜ r ≡ shapeOf (formOf (now (s .entry))) ⌝ }
+pub fn shape_of(s: &[u8]) -> FileShape
+    ensures { λ r. ⌜ r ≡ fileShapeOf (formOf (now (s .entry))) ⌝ }
 {
     if !settings_right(s) {
-        return Shape::Wrong(Refusal {
+        return FileShape::Wrong(Refusal {
             number: 13,
             place: 0,
         });
     }
     match run_at(s, 1, 15) {
-        RunEnd::Fault(e) => Shape::Wrong(e),
+        RunEnd::Fault(e) => FileShape::Wrong(e),
         RunEnd::To(r) => nodes_after(s, r.count, r.at),
     }
 }

@@ -9,11 +9,11 @@ use Rattle.writing.specs.Put.{put}
 use Rattle.writing.specs.Write.{Wrote}
 use Rattle.outline.specs.declared.Input.{Input}
 use Rattle.outline.specs.declared.Input.the-variants.{Read, Failed}
-use Rattle.outline.specs.Inputs.{Within}
+use Rattle.outline.specs.Inputs.{InputFits}
 
 -- what a read answers as its count
-pub read-within : {r : Input} {n most : ℕ} → r ≡ Read n → Within r most → n ≤ most
-read-within {r} {n} {most} e w = subst (λ (x : Input). Within x most) e w
+pub read-within : {r : Input} {n most : ℕ} → r ≡ Read n → InputFits r most → n ≤ most
+read-within {r} {n} {most} e w = subst (λ (x : Input). InputFits x most) e w
 
 -- a count within the rest of a buffer, from an index on
 pub rest-within : (a n : ℕ) (l : List ℕ) → a ≤ length l → n ≤ length (midOf a (length l - a) l) → a + n ≤ length l

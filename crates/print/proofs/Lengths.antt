@@ -14,7 +14,7 @@ use Rattle.turn.specs.Points.{Grid}
 use Rattle.table.specs.Table.{droppedOwner}
 use Rattle.print_text.specs.Text.{text}
 use Rattle.print_text.specs.Decimal.{decimal, decimalZ, length-digits, said}
-use Rattle.print.specs.Answer.{Table, pointLines, contourLines, contoursFrom, printed, printedRefusal}
+use Rattle.print.specs.Answer.{OwnedTable, pointLines, contourLines, contoursFrom, printed, printedRefusal}
 use Rattle.print_lines.specs.Lines.{header, roleText, contourLine, pointLine}
 use Rattle.print.specs.Room.{maxContours, answerBytes, refusalBytes, Printable}
 use Rattle.print_lines.specs.declared.Totals.{Totals}
@@ -78,39 +78,39 @@ points-short points f (suc count) p h =
     )
 
 -- the points of so many contours from number i on
-unfoldable pointCount : List ℕ → ℕ → ℕ → ℕ
-pointCount len i zero = 0
-pointCount len i (suc count) = getD len i 0 + pointCount len (i + 1) count
+unfoldable pointsFrom : List ℕ → ℕ → ℕ → ℕ
+pointsFrom len i zero = 0
+pointsFrom len i (suc count) = getD len i 0 + pointsFrom len (i + 1) count
 
-module _ (t : Table) (totals : Totals) (p : Printable t totals) where
+module _ (t : OwnedTable) (totals : Totals) (p : Printable t totals) where
   -- as the ranges follow each other, the contours have no more points than there are
-  count-within : (n i : ℕ) → i + suc n ≡ totals .contours → getD (t .first) i 0 + pointCount (t .len) i (suc n) ≤ totals .points
-  unfolding pointCount
+  count-within : (n i : ℕ) → i + suc n ≡ totals .contours → getD (t .first) i 0 + pointsFrom (t .len) i (suc n) ≤ totals .points
+  unfolding pointsFrom
   count-within zero i h = omega (arith, p .within i (omega arith))
   count-within (suc n) i h = omega (arith, count-within n (i + 1) (omega arith), p .follows i (omega arith))
 
-  count-few : (n : ℕ) → n ≡ totals .contours → pointCount (t .len) 0 n ≤ maxLinks
-  unfolding pointCount
+  count-few : (n : ℕ) → n ≡ totals .contours → pointsFrom (t .len) 0 n ≤ maxLinks
+  unfolding pointsFrom
   count-few zero h = omega arith
   count-few (suc n) h = omega (arith, count-within n 0 (omega arith), p .few)
 
-  three-each : (n i : ℕ) → i + n ≤ totals .contours → 3 * n ≤ pointCount (t .len) i n
-  unfolding pointCount
+  three-each : (n i : ℕ) → i + n ≤ totals .contours → 3 * n ≤ pointsFrom (t .len) i n
+  unfolding pointsFrom
   three-each zero i h = omega arith
   three-each (suc n) i h = omega (arith, p .long i (omega arith), three-each n (i + 1) (omega arith))
 
   contours-few : totals .contours ≤ maxContours
   contours-few = omega (arith, three-each (totals .contours) 0 (omega arith), count-few (totals .contours) refl)
 
-  contours-short : ((j : ℕ) → Fits w16 (getD (t .owner) j 0)) → (n i : ℕ) → i + n ≡ totals .contours → pointCount (t .len) i n ≤ maxLinks
-      → length (contoursFrom t i n) ≤ 24 * n + 16 * pointCount (t .len) i n
-  unfolding contoursFrom pointCount
+  contours-short : ((j : ℕ) → Fits w16 (getD (t .owner) j 0)) → (n i : ℕ) → i + n ≡ totals .contours → pointsFrom (t .len) i n ≤ maxLinks
+      → length (contoursFrom t i n) ≤ 24 * n + 16 * pointsFrom (t .len) i n
+  unfolding contoursFrom pointsFrom
   contours-short owners zero i h k = omega arith
   contours-short owners (suc n) i h k =
       let len = getD (t .len) i 0 in
       omega (
         arith,
-        both (contourLines t i) (contoursFrom t (i + 1) n) (24 + 16 * len) (24 * n + 16 * pointCount (t .len) (i + 1) n)
+        both (contourLines t i) (contoursFrom t (i + 1) n) (24 + 16 * len) (24 * n + 16 * pointsFrom (t .len) (i + 1) n)
             (both (contourLine i (getD (t .kind) i 0) (getD (t .owner) i 0) len) (pointLines (t .points) (getD (t .first) i 0) len) 24 (16 * len)
             (line-short i (getD (t .kind) i 0) (getD (t .owner) i 0) len (omega (arith, contours-few)) (omega (arith, owners i .fits)) (omega arith))
             (points-short (t .points) (p .grid) len (getD (t .first) i 0) (p .ranges .points i (omega arith))))
@@ -124,7 +124,7 @@ module _ (t : Table) (totals : Totals) (p : Printable t totals) where
       let points = count-few (totals .contours) refl in
       omega (
         arith,
-        both (header totals) (contoursFrom t 0 (totals .contours)) 51 (24 * totals .contours + 16 * pointCount (t .len) 0 (totals .contours))
+        both (header totals) (contoursFrom t 0 (totals .contours)) 51 (24 * totals .contours + 16 * pointsFrom (t .len) 0 (totals .contours))
             (header-short totals (omega arith) (omega (arith, p .shapes)) (omega (arith, p .few)) (omega (arith, p .dropped)))
             (contours-short owners (totals .contours) 0 (omega arith) points),
       )

@@ -11,32 +11,32 @@ use Rattle.print_lines.specs.Lines.{header, contourLine, pointLine}
 use Rattle.print_lines.specs.declared.Totals.{Totals}
 
 -- the contour table with its points (x, y in turn) and owners
-pub record Table : Type 0 where
+pub record OwnedTable : Type 0 where
   pub points : List ℤ
   pub first : List ℕ
   pub len : List ℕ
   pub kind : List ℕ
   pub owner : List ℕ
 
-abbrev pub table : List ℤ → List ℕ → List ℕ → List ℕ → List ℕ → Table
-table points first len kind owner = record { points = points; first = first; len = len; kind = kind; owner = owner }
+abbrev pub ownedTable : List ℤ → List ℕ → List ℕ → List ℕ → List ℕ → OwnedTable
+ownedTable points first len kind owner = record { points = points; first = first; len = len; kind = kind; owner = owner }
 
 -- count points from number p on, one a line
 unfoldable pub pointLines : List ℤ → ℕ → ℕ → List ℕ
 pointLines points p zero = []
 pointLines points p (suc count) = pointLine (getD points (2 * p) (pos 0)) (getD points (2 * p + 1) (pos 0)) ++ pointLines points (p + 1) count
 
-abbrev pub contourLines : Table → ℕ → List ℕ
+abbrev pub contourLines : OwnedTable → ℕ → List ℕ
 contourLines t i =
     contourLine i (getD (t .kind) i 0) (getD (t .owner) i 0) (getD (t .len) i 0) ++ pointLines (t .points) (getD (t .first) i 0) (getD (t .len) i 0)
 
 -- count contours from number i on
-unfoldable pub contoursFrom : Table → ℕ → ℕ → List ℕ
+unfoldable pub contoursFrom : OwnedTable → ℕ → ℕ → List ℕ
 contoursFrom t i zero = []
 contoursFrom t i (suc count) = contourLines t i ++ contoursFrom t (i + 1) count
 
 -- the whole answer
-abbrev pub printed : Table → Totals → List ℕ
+abbrev pub printed : OwnedTable → Totals → List ℕ
 printed t totals = header totals ++ contoursFrom t 0 (totals .contours)
 
 -- "A program's refusal prints one line, as `refused 3 at 2`"

@@ -7,11 +7,11 @@ use Rattle.turn.specs.Limits.{maxCoordinate}
 use Rattle.table.specs.Table.{droppedOwner}
 use Rattle.print_text.specs.Text.{text}
 use Rattle.print_text.specs.Decimal.{digits, decimal}
-use Rattle.print.specs.Answer.{table, pointLines, contoursFrom, printed, printedRefusal}
+use Rattle.print.specs.Answer.{ownedTable, pointLines, contoursFrom, printed, printedRefusal}
 use Rattle.print_lines.specs.Lines.{header, contourLine, pointLine}
 
 square : printed
-    (table (pos 0 ∷ pos 4 ∷ pos 0 ∷ pos 0 ∷ pos 4 ∷ pos 0 ∷ pos 4 ∷ pos 4 ∷ []) (0 ∷ []) (4 ∷ []) (0 ∷ []) (0 ∷ []))
+    (ownedTable (pos 0 ∷ pos 4 ∷ pos 0 ∷ pos 0 ∷ pos 4 ∷ pos 0 ∷ pos 4 ∷ pos 4 ∷ []) (0 ∷ []) (4 ∷ []) (0 ∷ []) (0 ∷ []))
     (record { contours = 1; shapes = 1; points = 4; dropped = 0 })
     ≡ text "contours 1 shapes 1 points 4 dropped 0\n0 hull 0 4\n0 4\n0 0\n4 0\n4 4\n"
 unfolding digits header contourLine pointLine pointLines contoursFrom

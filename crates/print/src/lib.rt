@@ -7,21 +7,16 @@ ghost use mathlib.Core.Path.{_≡_};
 ghost use mathlib.Core.List.{List};
 ghost use Prim.Native.Nat.{ℕ, _+_, _*_, _<_, _≤_};
 ghost use lib.ListN.{length, getD};
-ghost use Rattle.print_text.specs.Text.{text};
-ghost use Rattle.print_text.specs.Decimal.{decimal, decimalZ, said};
-ghost use Rattle.writing.specs.Write.{Wrote, Counts};
-ghost use Rattle.print.specs.Room.{answerBytes, refusalBytes, Ranges, Printable};
-ghost use Rattle.print_lines.specs.Lines.{header, roleText, contourLine, pointLine};
-ghost use Rattle.print.specs.Answer.{pointLines, contourLines, contoursFrom, table, printed, printedRefusal};
+ghost use Rattle.writing.specs.Write.{Wrote, IsFront};
+ghost use Rattle.print.specs.Room.{answerBytes, refusalBytes, RangesInside, Printable};
+
+ghost use Rattle.print.specs.Answer.{OwnedTable, pointLines, contourLines, contoursFrom, ownedTable, printed, printedRefusal};
 
 // The most contours of a table: each has at least 3 points.
 pub const MAX_CONTOURS: usize = MAX_LINKS / 3;
 
 // Room for every answer: the first line, 24 bytes for a contour's line and 16 for a point's.
 pub const ANSWER_BYTES: usize = 51 + 24 * MAX_CONTOURS + 16 * MAX_LINKS;
-
-// Room for every refusal.
-pub const REFUSAL_BYTES: usize = 43;
 
 fn write_points(points: &[i32], first: usize, count: usize, out: &mut [u8], at: usize) -> usize
     requires { ⌜ 2 * (first + count) ≤ length (now points) ⌝ }
@@ -51,9 +46,14 @@ fn write_contour(
     out: &mut [u8],
     at: usize,
 ) -> usize
-    requires { ⌜ Ranges (table (now points) (now first) (now len) (now kind) (now owner)) (i + 1) ⌝ }
-    requires { ⌜ at + length (contourLines (table (now points) (now first) (now len) (now kind) (now owner)) i) ≤ length (now out) ⌝ }
-    ensures { λ r. ⌜ Wrote (now (out .entry)) (now (out .exit)) at r (contourLines (table (now (points .entry)) (now (first .entry)) (now (len .entry)) (now (kind .entry)) (now (owner .entry))) i) ⌝ }
+    requires { ⌜ (let t : OwnedTable = ownedTable (now points) (now first) (now len) (now kind) (now owner) in
+        RangesInside t (i + 1)) ⌝ }
+    requires { ⌜ (let t : OwnedTable = ownedTable (now points) (now first) (now len) (now kind) (now owner) in
+        at + length (contourLines t i) ≤ length (now out)) ⌝ }
+    ensures { λ r. ⌜
+        (let t : OwnedTable =
+        ownedTable (now (points .entry)) (now (first .entry)) (now (len .entry)) (now (kind .entry)) (now (owner .entry)) in
+        Wrote (now (out .entry)) (now (out .exit)) at r (contourLines t i)) ⌝ }
 {
     let count = len[i];
     let next = print_lines::write_contour_line(i, kind[i], owner[i], count, out, at);
@@ -70,9 +70,14 @@ fn write_contours(
     out: &mut [u8],
     at: usize,
 ) -> usize
-    requires { ⌜ Ranges (table (now points) (now first) (now len) (now kind) (now owner)) contours ⌝ }
-    requires { ⌜ at + length (contoursFrom (table (now points) (now first) (now len) (now kind) (now owner)) 0 contours) ≤ length (now out) ⌝ }
-    ensures { λ r. ⌜ Wrote (now (out .entry)) (now (out .exit)) at r (contoursFrom (table (now (points .entry)) (now (first .entry)) (now (len .entry)) (now (kind .entry)) (now (owner .entry))) 0 contours) ⌝ }
+    requires { ⌜ (let t : OwnedTable = ownedTable (now points) (now first) (now len) (now kind) (now owner) in
+        RangesInside t contours) ⌝ }
+    requires { ⌜ (let t : OwnedTable = ownedTable (now points) (now first) (now len) (now kind) (now owner) in
+        at + length (contoursFrom t 0 contours) ≤ length (now out)) ⌝ }
+    ensures { λ r. ⌜
+        (let t : OwnedTable =
+        ownedTable (now (points .entry)) (now (first .entry)) (now (len .entry)) (now (kind .entry)) (now (owner .entry)) in
+        Wrote (now (out .entry)) (now (out .exit)) at r (contoursFrom t 0 contours)) ⌝ }
 {
     let mut i = 0;
     let mut next = at;
@@ -94,10 +99,14 @@ pub fn write_answer(
     totals: Totals,
     out: &mut [u8],
 ) -> usize
-    requires { ⌜ Printable (table (now points) (now first) (now len) (now kind) (now owner)) totals ⌝ }
+    requires { ⌜ (let t : OwnedTable = ownedTable (now points) (now first) (now len) (now kind) (now owner) in
+        Printable t totals) ⌝ }
     requires { ⌜ answerBytes ≤ length (now out) ⌝ }
-    ensures { λ r. ⌜ Wrote (now (out .entry)) (now (out .exit)) 0 r (printed (table (now (points .entry)) (now (first .entry)) (now (len .entry)) (now (kind .entry)) (now (owner .entry))) totals) ⌝ }
-    ensures { λ r. ⌜ Counts r (now (out .exit)) ⌝ }
+    ensures { λ r. ⌜
+        (let t : OwnedTable =
+        ownedTable (now (points .entry)) (now (first .entry)) (now (len .entry)) (now (kind .entry)) (now (owner .entry)) in
+        Wrote (now (out .entry)) (now (out .exit)) 0 r (printed t totals)) ⌝ }
+    ensures { λ r. ⌜ IsFront r (now (out .exit)) ⌝ }
 {
     let contours = totals.contours;
     let next = print_lines::write_header(totals, out);
@@ -107,7 +116,7 @@ pub fn write_answer(
 pub fn write_refusal(number: u32, place: usize, out: &mut [u8]) -> usize
     requires { ⌜ refusalBytes ≤ length (now out) ⌝ }
     ensures { λ r. ⌜ Wrote (now (out .entry)) (now (out .exit)) 0 r (printedRefusal number place) ⌝ }
-    ensures { λ r. ⌜ Counts r (now (out .exit)) ⌝ }
+    ensures { λ r. ⌜ IsFront r (now (out .exit)) ⌝ }
 {
     let a = print_text::write_said(b"refused ", number as u64, out, 0);
     let b = print_text::write_said(b" at ", place as u64, out, a);

@@ -7,7 +7,7 @@ use lib.ListN.{length}
 use mir.Syntax.{w32}
 use mir.Val.{SFits, toZ, ofZ}
 use mir.ValLaws.{toZ-ofZ}
-use Rattle.writing.specs.Write.{Left, left-all}
+use Rattle.writing.specs.Write.{Unwritten, left-all}
 use Rattle.print_lines.specs.Lines.{pointLine}
 
 -- a number of 32 bits and back
@@ -18,5 +18,5 @@ module _ (x y : ℤ) (f : SFits w32 x) (g : SFits w32 y) where
   pub same-line : pointLine x y ≡ pointLine (again x) (again y)
   same-line = ap₂ pointLine (sym (toZ-ofZ w32 x f)) (sym (toZ-ofZ w32 y g))
 
-  pub point-left : (old : List ℕ) (at : ℕ) → at + length (pointLine x y) ≤ length old → Left old old at at (pointLine (again x) (again y)) (pointLine x y)
-  point-left old at h = subst (λ (t : List ℕ). Left old old at at t (pointLine x y)) same-line (left-all old at (pointLine x y) h)
+  pub point-left : (old : List ℕ) (at : ℕ) → at + length (pointLine x y) ≤ length old → Unwritten old old at at (pointLine (again x) (again y)) (pointLine x y)
+  point-left old at h = subst (λ (t : List ℕ). Unwritten old old at at t (pointLine x y)) same-line (left-all old at (pointLine x y) h)

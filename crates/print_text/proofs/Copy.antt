@@ -7,11 +7,11 @@ use native.Mathlib.Numerals.{add-one}
 use native.Mathlib.Omega.{arith}
 use lib.ListN.{length, getD, set, drop, drop-of-length-le}
 use lib.Seq.{drop-cons}
-use Rattle.writing.specs.Write.{Wrote, wrote-byte, Left, left-all, left-after, left-none, piece-fits}
+use Rattle.writing.specs.Write.{Wrote, wrote-byte, Unwritten, left-all, left-after, left-none, piece-fits}
 
 pub record Copying (word old new : List ℕ) (at i : ℕ) : Type 0 where
   pub done : i ≤ length word
-  pub left : Left old new at (at + i) (drop i word) word
+  pub left : Unwritten old new at (at + i) (drop i word) word
 
 module _ (word old : List ℕ) (at : ℕ) where
   pub copying-first : at + length word ≤ length old → Copying word old old at 0
@@ -19,8 +19,8 @@ module _ (word old : List ℕ) (at : ℕ) where
 
   module _ (new : List ℕ) (i : ℕ) (c : Copying word old new at i) where
     module _ (l : i < length word) where
-      next-left : Left old new at (at + i) ((getD word i 0 ∷ []) ++ drop (i + 1) word) word
-      next-left = subst (λ (t : List ℕ). Left old new at (at + i) t word) (drop-cons word i 0 l ∙ ap (λ k. getD word i 0 ∷ drop k word) (sym (add-one i))) (c .left)
+      next-left : Unwritten old new at (at + i) ((getD word i 0 ∷ []) ++ drop (i + 1) word) word
+      next-left = subst (λ (t : List ℕ). Unwritten old new at (at + i) t word) (drop-cons word i 0 l ∙ ap (λ k. getD word i 0 ∷ drop k word) (sym (add-one i))) (c .left)
 
       pub copying-fits : at + i < length new
       copying-fits = omega (arith, piece-fits (getD word i 0 ∷ []) (drop (i + 1) word) next-left)
@@ -33,4 +33,4 @@ module _ (word old : List ℕ) (at : ℕ) where
       }
 
     pub copying-last : length word ≤ i → Wrote old new at (at + i) word
-    copying-last l = left-none (subst (λ (t : List ℕ). Left old new at (at + i) t word) (drop-of-length-le word l) (c .left))
+    copying-last l = left-none (subst (λ (t : List ℕ). Unwritten old new at (at + i) t word) (drop-of-length-le word l) (c .left))

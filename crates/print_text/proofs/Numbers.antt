@@ -13,7 +13,7 @@ use Rattle.laws.specs.Test.{true≢false}
 use mir.Syntax.{w32, w64}
 use mir.Val.{SFits, toZ, ofZ}
 use mir.ValLaws.{toZ-ofZ}
-use Rattle.writing.specs.Write.{Wrote, wrote-both, wrote-byte, wrote-long, Left, left-all, left-after, piece-fits}
+use Rattle.writing.specs.Write.{Wrote, wrote-both, wrote-byte, wrote-long, Unwritten, left-all, left-after, piece-fits}
 
 -- a number of one digit
 module _ (n at : ℕ) (out : List ℕ) (d : n < 10) (room : at + length (decimal n) ≤ length out) where
@@ -68,20 +68,20 @@ module _ (x : ℤ) (f : SFits w32 x) where
 
     -- with a sign, before it and after it
     module _ (test : ltZ (toZ w32 (ofZ w32 x)) (pos 0) ≡ true) where
-      minus-left : Left old old at at ((45 ∷ []) ++ decimal n) (decimalZ x)
+      minus-left : Unwritten old old at at ((45 ∷ []) ++ decimal n) (decimalZ x)
       minus-left =
-          subst (λ (t : List ℕ). Left old old at at t (decimalZ x))
+          subst (λ (t : List ℕ). Unwritten old old at at t (decimalZ x))
           (below-zero x (rw same32 at test) ∙ ap (λ m. (45 ∷ []) ++ decimal m) (sym size-is))
           (left-all old at (decimalZ x) room)
 
       pub minus-fits : at < length old
       minus-fits = omega (arith, piece-fits (45 ∷ []) (decimal n) minus-left)
 
-      pub after-minus : Left old (set old at 45) at (at + 1) (decimal n) (decimalZ x)
+      pub after-minus : Unwritten old (set old at 45) at (at + 1) (decimal n) (decimalZ x)
       after-minus = left-after (45 ∷ []) (decimal n) minus-left (wrote-byte old at 45 minus-fits)
 
     -- without
-    pub no-minus : ltZ (toZ w32 (ofZ w32 x)) (pos 0) ≡ false → Left old old at at (decimal n) (decimalZ x)
+    pub no-minus : ltZ (toZ w32 (ofZ w32 x)) (pos 0) ≡ false → Unwritten old old at at (decimal n) (decimalZ x)
     no-minus test =
-        subst (λ (t : List ℕ). Left old old at at t (decimalZ x)) (not-below x (rw same32 at test) ∙ ap decimal (sym size-is))
+        subst (λ (t : List ℕ). Unwritten old old at at t (decimalZ x)) (not-below x (rw same32 at test) ∙ ap decimal (sym size-is))
         (left-all old at (decimalZ x) room)

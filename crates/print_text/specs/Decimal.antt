@@ -114,12 +114,12 @@ value-decimal n h =
     last-digit n v e = omega arith
 
 -- none is missing, each is a digit, and the first is '0' only for 0 itself
-pub record Right (n : ℕ) (l : List ℕ) : Type 0 where
+pub record DigitsRight (n : ℕ) (l : List ℕ) : Type 0 where
   pub some : 0 < length l
   pub each : (i : ℕ) → i < length l → (48 ≤ getD l i 0) × (getD l i 0 < 58)
   pub leading : 0 < n → 48 < getD l 0 0
 
-one-right : (n : ℕ) → n < 10 → Right n (glyph n ∷ [])
+one-right : (n : ℕ) → n < 10 → DigitsRight n (glyph n ∷ [])
 one-right n h = record { some = omega arith; each = each; leading = λ z. omega arith }
   where
     each : (i : ℕ) → i < 1 → (48 ≤ getD (glyph n ∷ []) i 0) × (getD (glyph n ∷ []) i 0 < 58)
@@ -129,7 +129,7 @@ one-right n h = record { some = omega arith; each = each; leading = λ z. omega 
         never : (i : ℕ) → suc i < 1 → ⊥
         never i k = omega arith
 
-more-right : (n d : ℕ) (l : List ℕ) → 10 ≤ n → d < 10 → Right (n / 10) l → Right n (l ++ (glyph d ∷ []))
+more-right : (n d : ℕ) (l : List ℕ) → 10 ≤ n → d < 10 → DigitsRight (n / 10) l → DigitsRight n (l ++ (glyph d ∷ []))
 more-right n d l h k e = record {
   some = omega (arith, length-append l (glyph d ∷ []));
   each = λ i b. by i (ltb i (length l)) refl (omega (arith, length-append l (glyph d ∷ [])));
@@ -142,8 +142,8 @@ more-right n d l h k e = record {
         let q : i ≡ length l = omega (arith, ltb-false i (length l) t) in
         rw (q, getD-append-seam l (glyph d) [] 0) (omega arith, omega arith)
 
-pub right-decimal : (n : ℕ) → n < 2 ^ 64 → Right n (decimal n)
-right-decimal n h = by-digits Right one-right (λ n l k e. more-right n (n % 10) l k (omega arith) e) 19 n (omega arith)
+pub right-decimal : (n : ℕ) → n < 2 ^ 64 → DigitsRight n (decimal n)
+right-decimal n h = by-digits DigitsRight one-right (λ n l k e. more-right n (n % 10) l k (omega arith) e) 19 n (omega arith)
 
 -- a number below 10 ^ k has at most k digits
 pub length-digits : (f k n : ℕ) → n < 10 ^ suc f → n < 10 ^ suc k → length (digits f n) ≤ suc k

@@ -13,8 +13,8 @@ unfoldable pub put : {A : Type 0} → List A → ℕ → List A → List A
 put l i t = take i l ++ (t ++ drop (i + length t) l)
 
 -- the same from index 0
-abbrev pub over : {A : Type 0} → List A → List A → List A
-over t l = put l 0 t
+abbrev pub atFront : {A : Type 0} → List A → List A → List A
+atFront t l = put l 0 t
 
 module _ {A : Type 0} where
   pub length-put : (l : List A) (i : ℕ) (t : List A) → i + length t ≤ length l → length (put l i t) ≡ length l

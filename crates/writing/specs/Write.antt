@@ -37,34 +37,34 @@ pub wrote-as : {old new : List ℕ} {at after : ℕ} {t u : List ℕ} → t ≡ 
 wrote-as {old} {new} {at} {after} e w = subst (λ (x : List ℕ). Wrote old new at after x) e w
 
 -- n counts bytes at the start of l; the second part follows from the first, and is stated so that a caller's `&out[..n]` needs no proof
-abbrev pub Counts : ℕ → List ℕ → Type 0
-Counts n l = (n ≤ length l) × (n ≡ length (take n l))
+abbrev pub IsFront : ℕ → List ℕ → Type 0
+IsFront n l = (n ≤ length l) × (n ≡ length (take n l))
 
-pub counted : {old new : List ℕ} {next : ℕ} {t : List ℕ} → length t ≤ length old → Wrote old new 0 next t → Counts next new
-counted {old} {new} {next} {t} h w =
+pub is-front : {old new : List ℕ} {next : ℕ} {t : List ℕ} → length t ≤ length old → Wrote old new 0 next t → IsFront next new
+is-front {old} {new} {next} {t} h w =
     let e = wrote-long {p = 0} (omega arith) w in
     let k : next ≤ length new = omega (arith, w .next) in
     (k, sym (length-take-le next new k))
 
 -- ---- writing piece after piece: what is written of `whole`, from `at` on, up to `next`, and what is left of it
 
-pub record Left (old new : List ℕ) (at next : ℕ) (left whole : List ℕ) : Type 0 where
+pub record Unwritten (old new : List ℕ) (at next : ℕ) (left whole : List ℕ) : Type 0 where
   pub long : length new ≡ length old
   pub room : next + length left ≡ at + length whole
   pub fits : at + length whole ≤ length old
   pub same : put new next left ≡ put old at whole
 
-pub left-all : (old : List ℕ) (at : ℕ) (whole : List ℕ) → at + length whole ≤ length old → Left old old at at whole whole
+pub left-all : (old : List ℕ) (at : ℕ) (whole : List ℕ) → at + length whole ≤ length old → Unwritten old old at at whole whole
 left-all old at whole h = record { long = refl; room = refl; fits = h; same = refl }
 
-pub left-from-0 : (old whole : List ℕ) → length whole ≤ length old → Left old old 0 0 whole whole
+pub left-from-0 : (old whole : List ℕ) → length whole ≤ length old → Unwritten old old 0 0 whole whole
 left-from-0 old whole h = left-all old 0 whole (omega arith)
 
-module _ {old new : List ℕ} {at next : ℕ} {whole : List ℕ} (piece left : List ℕ) (w : Left old new at next (piece ++ left) whole) where
+module _ {old new : List ℕ} {at next : ℕ} {whole : List ℕ} (piece left : List ℕ) (w : Unwritten old new at next (piece ++ left) whole) where
   pub piece-fits : next + length piece ≤ length new
   piece-fits = omega (arith, w .long, w .room, w .fits, length-append piece left)
 
-  pub left-after : {new′ : List ℕ} {next′ : ℕ} → Wrote new new′ next next′ piece → Left old new′ at next′ left whole
+  pub left-after : {new′ : List ℕ} {next′ : ℕ} → Wrote new new′ next next′ piece → Unwritten old new′ at next′ left whole
   left-after x = record {
     long = wrote-long piece-fits x ∙ w .long;
     room = omega (arith, x .next, w .room, length-append piece left);
@@ -72,11 +72,11 @@ module _ {old new : List ℕ} {at next : ℕ} {whole : List ℕ} (piece left : L
     same = ap₂ (λ (l : List ℕ) i. put l i left) (x .bytes) (x .next) ∙ put-put new next piece left piece-fits ∙ w .same;
   }
 
-pub left-none : {old new : List ℕ} {at next : ℕ} {whole : List ℕ} → Left old new at next [] whole → Wrote old new at next whole
+pub left-none : {old new : List ℕ} {at next : ℕ} {whole : List ℕ} → Unwritten old new at next [] whole → Wrote old new at next whole
 left-none {old} {new} {at} {next} w = record { next = omega (arith, w .room); bytes = sym (put-none new next) ∙ w .same }
 
 -- the last piece
-module _ {old new : List ℕ} {at next : ℕ} {whole : List ℕ} (piece : List ℕ) (w : Left old new at next piece whole) where
+module _ {old new : List ℕ} {at next : ℕ} {whole : List ℕ} (piece : List ℕ) (w : Unwritten old new at next piece whole) where
   pub last-fits : next + length piece ≤ length new
   last-fits = omega (arith, w .long, w .room, w .fits)
 

@@ -1,6 +1,6 @@
 -- `answer::answer_lists` meets its contract: reading, then the answer to what it gave.
 use mathlib.Core.Path.{_∙_}
-use Rattle.format.specs.File.{Buffers, buffers}
+use Rattle.format.specs.File.{FileLists, fileLists}
 use Rattle.writing.specs.Write.{wrote-as}
 use Rattle.answer.proofs.Fronts.{read-fits, read-text}
 use borrow.Author.Needs.{needs}
@@ -11,9 +11,9 @@ use Rattle.answer.proofs.answer_lists.Lts as lts
 use Rattle.answer_read.proofs.answer_read.Reads as answer-read-reads
 use Rattle.format.proofs.read_graph.Reads as read-graph-reads
 
-abbrev b : tie.Start → Buffers
+abbrev b : tie.Start → FileLists
 b s =
-    buffers (s .args .ax .now) (s .args .ay .now) (s .args .bx .now) (s .args .by .now) (s .args .a-id .now) (s .args .b-id .now)
+    fileLists (s .args .ax .now) (s .args .ay .now) (s .args .bx .now) (s .args .by .now) (s .args .a-id .now) (s .args .b-id .now)
     (s .args .top .now) (s .args .state .now) (s .args .start .now) (s .args .list .now)
 
 -- from the return to the last of the lists that were read

@@ -1,7 +1,7 @@
 -- `answer_read::answer_read` meets its contract: what reading gave, case by case.
 use mathlib.Core.Path.{sym, ap, subst}
 use Rattle.format.specs.declared.FileRead.{FileRead}
-use Rattle.format.specs.File.{Buffers, buffers}
+use Rattle.format.specs.File.{FileLists, fileLists}
 use Rattle.writing.specs.Write.{wrote-as}
 use Rattle.answer_read.specs.ReadText.{ReadFits, readText}
 use borrow.Author.Needs.{needs}
@@ -12,9 +12,9 @@ use Rattle.answer_read.proofs.answer_read.Lts as lts
 use Rattle.answer_read.proofs.answer_fronts.Reads as answer-fronts-reads
 use Rattle.print.proofs.write_refusal.Reads as write-refusal-reads
 
-abbrev b : tie.Start → Buffers
+abbrev b : tie.Start → FileLists
 b s =
-    buffers (s .args .ax .now) (s .args .ay .now) (s .args .bx .now) (s .args .by .now) (s .args .a-id .now) (s .args .b-id .now)
+    fileLists (s .args .ax .now) (s .args .ay .now) (s .args .bx .now) (s .args .by .now) (s .args .a-id .now) (s .args .b-id .now)
     (s .args .top .now) (s .args .state .now) (s .args .start .now) (s .args .list .now)
 
 enum-known-read : tie.Need-enum-known-read

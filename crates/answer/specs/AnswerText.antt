@@ -2,14 +2,14 @@
 use mathlib.Core.List.{List}
 use Prim.Native.Nat.{ℕ}
 use Rattle.graph.specs.Graph.{lent}
-use Rattle.format.specs.File.{File, graph, refusedFile, fileOf}
+use Rattle.format.specs.File.{File, holding, refusedFile, fileOf}
 use Rattle.print.specs.Answer.{printedRefusal}
 use Rattle.answer_graph.specs.GraphText.{graphText}
 
 abbrev pub fileText : File → List ℕ
-fileText (graph g) =
+fileText (holding g) =
     graphText (lent (g .ax) (g .ay) (g .bx) (g .by) (g .aId) (g .bId) (g .start) (g .list)) (g .top) (g .clockwise) (g .minimum) (g .state)
 fileText (refusedFile e) = printedRefusal (e .number) (e .place)
 
-unfoldable pub answered : List ℕ → List ℕ
-answered s = fileText (fileOf s)
+unfoldable pub answerText : List ℕ → List ℕ
+answerText s = fileText (fileOf s)

@@ -1,10 +1,10 @@
--- `outline::write_answer` meets its contract: what is written is the front of the buffer.
+-- `outline::print_answer` meets its contract: what is written is the front of the buffer.
 use Rattle.outline.proofs.Counted.{wrote-within, wrote-part}
 use borrow.Author.Needs.{needs}
-use Rattle.outline.proofs.write_answer.Statement.{statement}
-use Rattle.outline.proofs.write_answer.Tie as tie
-use Rattle.outline.proofs.write_answer.Reads as reads
-use Rattle.outline.proofs.write_answer.Lts as lts
+use Rattle.outline.proofs.print_answer.Statement.{statement}
+use Rattle.outline.proofs.print_answer.Tie as tie
+use Rattle.outline.proofs.print_answer.Reads as reads
+use Rattle.outline.proofs.print_answer.Lts as lts
 use Rattle.answer.proofs.answer.Reads as answer-reads
 use Rattle.io.proofs.write_all.Reads as write-all-reads
 
@@ -32,8 +32,8 @@ same-length c = search needs
 returns : tie.Need-returns
 returns c = search needs
 
-pub write-answer-spec : {M : Type 1} → statement M
-write-answer-spec =
+pub print-answer-spec : {M : Type 1} → statement M
+print-answer-spec =
     tie.close
     (tie.spec
     answer-requires
