@@ -1,31 +1,25 @@
 -- After reading, a graph's lists stand at the fronts of the buffers: they fit, and cut off they are the file's.
-use Prim.Native.Nat.{ℕ, zero, suc, _+_, _-_, _≤_}
+use Prim.Native.Nat.{ℕ, _+_, _-_, _≤_}
 use native.Mathlib.Omega.{arith}
 use mathlib.Core.Path.{_≡_, refl, sym, ap, _∙_, subst}
-use mathlib.Core.Bool.{Bool}
-use mathlib.Core.List.{List, [], _∷_, _++_, map}
-use lib.IntN.{ℤ}
+use mathlib.Core.List.{List, [], _∷_, map}
 use lib.ListN.{length, take, drop, length-append, length-map}
 use lib.Seq.{take-at}
-use Rattle.graph.specs.Graph.{Lent, lent}
-use Rattle.format.specs.declared.Counts.{Counts}
-use Rattle.format.specs.declared.Refusal.{Refusal}
 use Rattle.format.specs.declared.FileRead.{FileRead}
-use Rattle.format.specs.declared.FileRead.the-variants as answer
-use Rattle.format.specs.Put.{put, over}
-use Rattle.format.specs.Records.{Form, form, refused, formOf}
-use Rattle.format.specs.File.{Graph, graph, graphOf, File, refusedFile, fileOf, fileFrom, startsOf, Buffers, Reading, reading, readInto}
-use Rattle.print.specs.Answer.{printedRefusal}
-use Rattle.answer.proofs.Parts.{Part, part}
-use Rattle.answer.specs.Answered.{graphText, fileText, answered}
+use Rattle.writing.specs.Put.{put, atFront}
+use Rattle.format_records.specs.Records.{Form, form, refused, formOf}
+use Rattle.format.specs.File.{Contents, holding, contentsOf, fileOf, fileFrom, startsOf, FileLists, Reading, reading, readInto}
+use Rattle.answer_table.specs.Cuts.{cut}
+use Rattle.answer_read.specs.ReadText.{ReadFits, readText}
+use Rattle.answer.specs.AnswerText.{fileText, answerText}
 
 -- ---- a list at the front of another
 module _ {A : Type 0} where
-  over-long : (t l : List A) → length t ≤ length (over t l)
+  over-long : (t l : List A) → length t ≤ length (atFront t l)
   unfolding put
   over-long t l = omega (arith, length-append t (drop (0 + length t) l))
 
-  over-front : (n : ℕ) (t l : List A) → length t ≡ n → take n (over t l) ≡ t
+  over-front : (n : ℕ) (t l : List A) → length t ≡ n → take n (atFront t l) ≡ t
   unfolding put
   over-front n t l e = take-at t (drop (0 + length t) l) n e
 
@@ -34,31 +28,8 @@ unfolding startsOf
 starts-some [] = omega arith
 starts-some (b ∷ bs) = omega arith
 
--- ---- what was read
-pub record Fronts (n m e : ℕ) (b : Buffers) : Type 0 where
-  pub ax : Part n (b .ax)
-  pub ay : Part n (b .ay)
-  pub bx : Part n (b .bx)
-  pub by : Part n (b .by)
-  pub aId : Part n (b .aId)
-  pub bId : Part n (b .bId)
-  pub top : Part n (b .top)
-  pub state : Part n (b .state)
-  pub start : Part m (b .start)
-  pub list : Part e (b .list)
-
--- the answer to what stands in front
-abbrev pub frontText : ℕ → ℕ → ℕ → Bool → ℕ → Buffers → List ℕ
-frontText n m e cw minimum b =
-    graphText
-    (lent (take n (b .ax)) (take n (b .ay)) (take n (b .bx)) (take n (b .by)) (take n (b .aId)) (take n (b .bId)) (take m (b .start)) (take e (b .list)))
-    (take n (b .top))
-    cw
-    minimum
-    (take n (b .state))
-
 -- a graph whose columns have one length, and some start
-pub record Even (g : Graph) : Type 0 where
+pub record OneLength (g : Contents) : Type 0 where
   pub ax : length (g .ax) ≡ length (g .aId)
   pub ay : length (g .ay) ≡ length (g .aId)
   pub bx : length (g .bx) ≡ length (g .aId)
@@ -71,7 +42,7 @@ pub record Even (g : Graph) : Type 0 where
 columns-even : {A B : Type 0} (f : List ℕ → A) (h : List ℕ → B) (links : List (List ℕ)) → length (map f links) ≡ length (map h links)
 columns-even f h links = length-map links f ∙ sym (length-map links h)
 
-file-even : (s : List ℕ) (links nodes : List (List ℕ)) → Even (graphOf s links nodes)
+file-even : (s : List ℕ) (links nodes : List (List ℕ)) → OneLength (contentsOf s links nodes)
 file-even s links nodes = record {
   ax = columns-even _ _ links;
   ay = columns-even _ _ links;
@@ -83,29 +54,22 @@ file-even s links nodes = record {
   start = starts-some nodes;
 }
 
--- ---- what reading promises, for the answer to the file
-abbrev Holds : List ℕ → FileRead → Buffers → Type 0
-Holds text (answer.Graph c) b =
-    (Fronts (c .links) (c .nodes + 1) (c .entries) b) × (frontText (c .links) (c .nodes + 1) (c .entries) (c .clockwise) (c .minimum) b ≡ text)
-Holds text (answer.Refused why) b = printedRefusal (why .number) (why .place) ≡ text
-
-module _ (g : Graph) (b : Buffers) (h : Even g) where
-  graph-fronts : Fronts (length (g .aId)) (length (g .start) - 1 + 1) (length (g .list)) (readInto (graph g) b .lent)
+module _ (g : Contents) (b : FileLists) (h : OneLength g) where
+  graph-fronts : ReadFits (readInto (holding g) b .answer) (readInto (holding g) b .lent)
   graph-fronts = record {
-    ax = part _ _ (omega (arith, over-long (g .ax) (b .ax), h .ax));
-    ay = part _ _ (omega (arith, over-long (g .ay) (b .ay), h .ay));
-    bx = part _ _ (omega (arith, over-long (g .bx) (b .bx), h .bx));
-    by = part _ _ (omega (arith, over-long (g .by) (b .by), h .by));
-    aId = part _ _ (omega (arith, over-long (g .aId) (b .aId)));
-    bId = part _ _ (omega (arith, over-long (g .bId) (b .bId), h .bId));
-    top = part _ _ (omega (arith, over-long (g .top) (b .top), h .top));
-    state = part _ _ (omega (arith, over-long (g .state) (b .state), h .state));
-    start = part _ _ (omega (arith, over-long (g .start) (b .start), h .start));
-    list = part _ _ (omega (arith, over-long (g .list) (b .list)));
+    ax = cut _ _ (omega (arith, over-long (g .ax) (b .ax), h .ax));
+    ay = cut _ _ (omega (arith, over-long (g .ay) (b .ay), h .ay));
+    bx = cut _ _ (omega (arith, over-long (g .bx) (b .bx), h .bx));
+    by = cut _ _ (omega (arith, over-long (g .by) (b .by), h .by));
+    aId = cut _ _ (omega (arith, over-long (g .aId) (b .aId)));
+    bId = cut _ _ (omega (arith, over-long (g .bId) (b .bId), h .bId));
+    top = cut _ _ (omega (arith, over-long (g .top) (b .top), h .top));
+    state = cut _ _ (omega (arith, over-long (g .state) (b .state), h .state));
+    start = cut _ _ (omega (arith, over-long (g .start) (b .start), h .start));
+    list = cut _ _ (omega (arith, over-long (g .list) (b .list)));
   }
 
-  graph-text : frontText (length (g .aId)) (length (g .start) - 1 + 1) (length (g .list)) (g .clockwise) (g .minimum) (readInto (graph g) b .lent)
-      ≡ fileText (graph g)
+  graph-text : readText (readInto (holding g) b .answer) (readInto (holding g) b .lent) ≡ fileText (holding g)
   graph-text =
       rw (
         over-front (length (g .aId)) (g .ax) (b .ax) (h .ax),
@@ -120,19 +84,20 @@ module _ (g : Graph) (b : Buffers) (h : Even g) where
         over-front (length (g .list)) (g .list) (b .list) refl,
       )
 
-form-holds : (s : List ℕ) (b : Buffers) (f : Form) → Holds (fileText (fileFrom s f)) (readInto (fileFrom s f) b .answer) (readInto (fileFrom s f) b .lent)
-form-holds s b (form links nodes) =
-    let h = file-even s links nodes in
-    (graph-fronts (graphOf s links nodes) b h, graph-text (graphOf s links nodes) b h)
-form-holds s b (refused why) = refl
+-- ---- what answering is asked, and what it then prints
+form-fits : (s : List ℕ) (b : FileLists) (f : Form) → ReadFits (readInto (fileFrom s f) b .answer) (readInto (fileFrom s f) b .lent)
+form-fits s b (form links nodes) = graph-fronts (contentsOf s links nodes) b (file-even s links nodes)
+form-fits s b (refused why) = tt
 
-module _ (s : List ℕ) (b : Buffers) {a : FileRead} {b′ : Buffers} (e : reading a b′ ≡ readInto (fileOf s) b) where
-  holds : Holds (answered s) a b′
-  unfolding answered
-  holds = subst (λ (x : Reading). Holds (fileText (fileOf s)) (x .answer) (x .lent)) (sym e) (form-holds s b (formOf s))
+form-text : (s : List ℕ) (b : FileLists) (f : Form)
+    → readText (readInto (fileFrom s f) b .answer) (readInto (fileFrom s f) b .lent) ≡ fileText (fileFrom s f)
+form-text s b (form links nodes) = graph-text (contentsOf s links nodes) b (file-even s links nodes)
+form-text s b (refused why) = refl
 
-  pub graph-holds : {c : Counts} → a ≡ answer.Graph c → Holds (answered s) (answer.Graph c) b′
-  graph-holds h = subst (λ (x : FileRead). Holds (answered s) x b′) h holds
+module _ (s : List ℕ) (b : FileLists) {a : FileRead} {b′ : FileLists} (e : reading a b′ ≡ readInto (fileOf s) b) where
+  pub read-fits : ReadFits a b′
+  read-fits = subst (λ (x : Reading). ReadFits (x .answer) (x .lent)) (sym e) (form-fits s b (formOf s))
 
-  pub refusal-text : {why : Refusal} → a ≡ answer.Refused why → printedRefusal (why .number) (why .place) ≡ answered s
-  refusal-text h = subst (λ (x : FileRead). Holds (answered s) x b′) h holds
+  pub read-text : readText a b′ ≡ answerText s
+  unfolding answerText
+  read-text = ap (λ (x : Reading). readText (x .answer) (x .lent)) e ∙ form-text s b (formOf s)

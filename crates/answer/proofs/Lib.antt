@@ -1,5 +1,2 @@
--- What the proofs cite: what each stage's promise comes to for the next stage.
-pub mod Parts
+-- What the promise of reading comes to for the answer.
 pub mod Fronts
-pub mod Extracts
-pub mod Prints

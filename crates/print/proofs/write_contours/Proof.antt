@@ -1,13 +1,13 @@
 -- `print::write_contours` meets its contract.
 use Prim.Native.Nat.{_-_}
 use native.Mathlib.Omega.{arith}
-use Rattle.print.specs.Answer.{table}
+use Rattle.print.specs.Answer.{ownedTable}
 use Rattle.print.proofs.Points.{Listing, listing-first, listing-fits, listing-next, listing-last, fewer}
 use Rattle.print.proofs.write_contours.Statement.{statement}
 use Rattle.print.proofs.write_contours.Tie as tie
 
 abbrev Inv-loop : tie.InvT-loop
-Inv-loop points first len kind owner contours out₀ at i₀ next₀ out i next = Listing (table points first len kind owner) contours out₀ at out i next
+Inv-loop points first len kind owner contours out₀ at i₀ next₀ out i next = Listing (ownedTable points first len kind owner) contours out₀ at out i next
 
 abbrev μ-loop : tie.MeasureT-loop
 μ-loop points first len kind owner contours out₀ at i₀ next₀ out i next = contours - i

@@ -2,9 +2,10 @@
 use mathlib.Core.List.{_++_}
 use native.Mathlib.Nat.{le-trans}
 use Rattle.print.proofs.Lengths.{refusal-short}
-use Rattle.print.specs.Text.{text}
-use Rattle.print.specs.Answer.{said, printedRefusal}
-use Rattle.print.specs.Write.{left-from-0, left-after, left-last, piece-fits, last-fits, counted}
+use Rattle.print_text.specs.Text.{text}
+use Rattle.print_text.specs.Decimal.{said}
+use Rattle.print.specs.Answer.{printedRefusal}
+use Rattle.writing.specs.Write.{left-from-0, left-after, left-last, piece-fits, last-fits, is-front}
 use borrow.Author.Needs.{needs}
 use Rattle.print.proofs.write_refusal.Statement.{statement}
 use Rattle.print.proofs.write_refusal.Tie as tie
@@ -60,7 +61,7 @@ returns c =
     let q = said (text " at ") (a .place) in
     let l = left-from-0 (a .out .now) (printedRefusal (a .number) (a .place)) (le-trans (refusal-short (a .number) (a .place) (s .fits .number .fits) (s .fits .place .fits)) (s .pre)) in
     let w = left-last (text "\n") (left-after q (text "\n") (left-after p (q ++ text "\n") l (c .before .before .before .before .before .before .before .before .before .before .before .before .write-said .ensures)) (c .before .before .before .before .before .before .before .write-said2 .ensures)) (c .before .before .write-text .ensures) in
-    (w, counted (le-trans (refusal-short (a .number) (a .place) (s .fits .number .fits) (s .fits .place .fits)) (s .pre)) w)
+    (w, is-front (le-trans (refusal-short (a .number) (a .place) (s .fits .number .fits) (s .fits .place .fits)) (s .pre)) w)
 
 pub write-refusal-spec : {M : Type 1} → statement M
 write-refusal-spec =
