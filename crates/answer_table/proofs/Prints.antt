@@ -9,6 +9,7 @@ use lib.ListN.{length, drop, replicate, length-append, length-drop}
 use Rattle.laws.specs.Test.{pick-ind}
 use Rattle.turn.specs.declared.Checked.{Checked}
 use Rattle.turn.specs.declared.Checked.the-variants.{Fine, Refused as AtFault}
+use Rattle.laws.specs.Count.{count}
 use Rattle.table.specs.Table.{Table, contourCount, hulls, hullCount}
 use Rattle.table.specs.TableChecks.{tableChecked}
 use Rattle.turn.specs.Refusals.{first-fine}
@@ -23,13 +24,13 @@ use Rattle.print.specs.Answer as print
 use Rattle.answer_table.specs.BoundText.{totalsOf, bindingText, outcomeText, boundText}
 use Rattle.anchor.specs.AnchorChecks.{anchorsChecked, bothChecked}
 use Rattle.owners.specs.Owners.{ownersOf}
-use Rattle.bind.specs.Outcome.{Outcome, outcome, droppedOf, handedBy, boundAfter, bound}
+use Rattle.bind.specs.Outcome.{Outcome, outcome, droppedOf, handedBy, boundAfter, bound, overFront}
 
 abbrev printTable : Table → List ℕ → print.OwnedTable
 printTable t owner = print.ownedTable (t .points) (t .first) (t .len) (t .kind) owner
 
 hulls-few : (l : List ℕ) → hulls l ≤ length l
-unfolding hulls
+unfolding count
 hulls-few [] = omega arith
 hulls-few (k ∷ l) = pick-ind (eqb k 0) 1 0 (λ (n : ℕ). n + hulls l ≤ suc (length l)) (λ _. omega (arith, hulls-few l)) (λ _. omega (arith, hulls-few l))
 
@@ -60,14 +61,14 @@ abbrev MayPrint : Table → Binding → List ℕ → Type 0
 MayPrint t (Bound shapes dropped) owner = Printable (printTable t owner) (totalsOf t shapes dropped)
 MayPrint t (Refused number place) owner = Unit
 
-written-long : (owners buffer : List ℕ) → length buffer ≤ length (written owners buffer)
-written-long owners buffer = omega (arith, length-append owners (drop (length owners) buffer), length-drop (length owners) buffer)
+over-front-long : (owners buffer : List ℕ) → length buffer ≤ length (overFront owners buffer)
+over-front-long owners buffer = omega (arith, length-append owners (drop (length owners) buffer), length-drop (length owners) buffer)
 
 module _ (t : Table) (cw : Bool) (buffer : List ℕ) where
   handed-may : (s : Sound t) → contourCount t ≤ length buffer → (a : Given) (owners : List ℕ)
       → MayPrint t (handedBy t a owners buffer .answer) (handedBy t a owners buffer .owner)
   handed-may s r All owners =
-      sound-printable t (written owners buffer) (hullCount t) (droppedOf t) s (omega (arith, written-long owners buffer))
+      sound-printable t (overFront owners buffer) (hullCount t) (droppedOf t) s (omega (arith, over-front-long owners buffer))
       (omega (arith, hulls-few (t .kind), s .kind-long))
       (dropped-few t)
   handed-may s r (Stuck c) owners = tt
