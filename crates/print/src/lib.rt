@@ -9,7 +9,6 @@ ghost use Prim.Native.Nat.{ℕ, _+_, _*_, _<_, _≤_};
 ghost use lib.ListN.{length, getD};
 ghost use Rattle.writing.specs.Write.{Wrote, IsFront};
 ghost use Rattle.print.specs.Room.{answerBytes, refusalBytes, RangesInside, Printable};
-
 ghost use Rattle.print.specs.Answer.{OwnedTable, pointLines, contourLines, contoursFrom, ownedTable, printed, printedRefusal};
 
 // The most contours of a table: each has at least 3 points.
