@@ -5,52 +5,12 @@ use turn::MAX_LINKS;
 ghost use mathlib.Core.Path.{_≡_};
 ghost use Prim.Native.Nat.{ℕ, _≤_};
 ghost use lib.ListN.{length};
-ghost use Rattle.format.specs.File.{FileLists, fileLists, FileRoom};
 ghost use Rattle.print.specs.Room.{answerBytes};
 ghost use Rattle.writing.specs.Write.{Wrote};
 ghost use Rattle.answer.specs.AnswerText.{answerText};
 
 // The starts of as many nodes as there may be, and the end of the last.
 const STARTS: usize = MAX_NODES + 1;
-
-// Reads a file into the lent lists, and answers what reading gave.
-fn answer_lists(
-    input: &[u8],
-    ax: &mut [i32],
-    ay: &mut [i32],
-    bx: &mut [i32],
-    by: &mut [i32],
-    a_id: &mut [u32],
-    b_id: &mut [u32],
-    top: &mut [u8],
-    state: &mut [u8],
-    start: &mut [u32],
-    list: &mut [u32],
-    out: &mut [u8],
-) -> usize
-    requires { ⌜
-        (let b : FileLists = fileLists (now ax) (now ay) (now bx) (now by) (now «a_id») (now «b_id»)
-        (now top) (now state) (now start) (now list) in
-        FileRoom b) ⌝ }
-    requires { ⌜ answerBytes ≤ length (now out) ⌝ }
-    ensures { λ r. ⌜ Wrote (now (out .entry)) (now (out .exit)) 0 r (answerText (now (input .entry))) ⌝ }
-{
-    let read = format::read_graph(input, ax, ay, bx, by, a_id, b_id, top, state, start, list);
-    answer_read::answer_read(
-        read,
-        ax,
-        ay,
-        bx,
-        by,
-        a_id,
-        b_id,
-        top,
-        state,
-        start,
-        list,
-        out,
-    )
-}
 
 // The answer to a file, from the start of `out`; it asks for room for the longest. The program's 4,096 visit states are all zero before reading.
 pub fn answer(input: &[u8], out: &mut [u8]) -> usize
@@ -67,7 +27,7 @@ pub fn answer(input: &[u8], out: &mut [u8]) -> usize
     let mut state = [0u8; MAX_LINKS];
     let mut start = [0u32; STARTS];
     let mut list = [0u32; MAX_ENTRIES];
-    answer_lists(
+    answer_file::answer_file(
         input,
         &mut ax,
         &mut ay,

@@ -11,7 +11,7 @@ use Rattle.format_records.specs.Records.{Form, form, refused, formOf}
 use Rattle.format.specs.File.{Contents, holding, contentsOf, fileOf, fileFrom, startsOf, FileLists, Reading, reading, readInto}
 use Rattle.answer_table.specs.Cuts.{cut}
 use Rattle.answer_read.specs.ReadText.{ReadFits, readText}
-use Rattle.answer.specs.AnswerText.{fileText, answerText}
+use Rattle.answer_file.specs.FileText.{fileText}
 
 -- ---- a list at the front of another
 module _ {A : Type 0} where
@@ -70,6 +70,7 @@ module _ (g : Contents) (b : FileLists) (h : OneLength g) where
   }
 
   graph-text : readText (readInto (holding g) b .answer) (readInto (holding g) b .lent) ≡ fileText (holding g)
+  unfolding fileText
   graph-text =
       rw (
         over-front (length (g .aId)) (g .ax) (b .ax) (h .ax),
@@ -91,6 +92,7 @@ form-fits s b (refused why) = tt
 
 form-text : (s : List ℕ) (b : FileLists) (f : Form)
     → readText (readInto (fileFrom s f) b .answer) (readInto (fileFrom s f) b .lent) ≡ fileText (fileFrom s f)
+unfolding fileText
 form-text s b (form links nodes) = graph-text (contentsOf s links nodes) b (file-even s links nodes)
 form-text s b (refused why) = refl
 
@@ -98,6 +100,5 @@ module _ (s : List ℕ) (b : FileLists) {a : FileRead} {b′ : FileLists} (e : r
   pub read-fits : ReadFits a b′
   read-fits = subst (λ (x : Reading). ReadFits (x .answer) (x .lent)) (sym e) (form-fits s b (formOf s))
 
-  pub read-text : readText a b′ ≡ answerText s
-  unfolding answerText
+  pub read-text : readText a b′ ≡ fileText (fileOf s)
   read-text = ap (λ (x : Reading). readText (x .answer) (x .lent)) e ∙ form-text s b (formOf s)

@@ -1,13 +1,13 @@
--- `answer::answer_lists` meets its contract: reading, then the answer to what it gave.
+-- `answer_file::answer_file` meets its contract: reading, then the answer to what it gave.
 use mathlib.Core.Path.{_∙_}
 use Rattle.format.specs.File.{FileLists, fileLists}
 use Rattle.writing.specs.Write.{wrote-as}
-use Rattle.answer.proofs.Fronts.{read-fits, read-text}
+use Rattle.answer_file.proofs.Fronts.{read-fits, read-text}
 use borrow.Author.Needs.{needs}
-use Rattle.answer.proofs.answer_lists.Statement.{statement}
-use Rattle.answer.proofs.answer_lists.Tie as tie
-use Rattle.answer.proofs.answer_lists.Reads as reads
-use Rattle.answer.proofs.answer_lists.Lts as lts
+use Rattle.answer_file.proofs.answer_file.Statement.{statement}
+use Rattle.answer_file.proofs.answer_file.Tie as tie
+use Rattle.answer_file.proofs.answer_file.Reads as reads
+use Rattle.answer_file.proofs.answer_file.Lts as lts
 use Rattle.answer_read.proofs.answer_read.Reads as answer-read-reads
 use Rattle.format.proofs.read_graph.Reads as read-graph-reads
 
@@ -101,8 +101,8 @@ returns c =
     .before .before .before .read-graph .ensures))
     (c .before .before .before .before .answer-read .ensures)
 
-pub answer-lists-spec : {M : Type 1} → statement M
-answer-lists-spec =
+pub answer-file-spec : {M : Type 1} → statement M
+answer-file-spec =
     tie.close
     (tie.spec
     read-graph-requires
