@@ -36,8 +36,20 @@ module _ (g : Graph) (minimum : ℕ) (b : Buffers) where
   scan-fits (walks ws st) =
       let ks = kept g minimum ws in
       record {
-        points = cut _ _ (omega (arith, padded-long (pos 0) (coordinates (allPoints g ks)) (length (b .points)), coordinates-length (allPoints g ks), all-points-length g ks));
-        first = cut _ _ (omega (arith, padded-long 0 (firsts 0 (lens ks)) (length (b .first)), firsts-length 0 (lens ks), length-map ks (λ (w : Walk). length (w .steps))));
+        points = cut _ _
+            (omega (
+              arith,
+              padded-long (pos 0) (coordinates (allPoints g ks)) (length (b .points)),
+              coordinates-length (allPoints g ks),
+              all-points-length g ks,
+            ));
+        first = cut _ _
+            (omega (
+              arith,
+              padded-long 0 (firsts 0 (lens ks)) (length (b .first)),
+              firsts-length 0 (lens ks),
+              length-map ks (λ (w : Walk). length (w .steps)),
+            ));
         len = cut _ _ (omega (arith, padded-long 0 (lens ks) (length (b .len)), length-map ks (λ (w : Walk). length (w .steps))));
         kind = cut _ _ (omega (arith, padded-long 0 (kinds ks) (length (b .kind)), kinds-length ks));
       }
@@ -46,7 +58,8 @@ module _ (g : Graph) (minimum : ℕ) (b : Buffers) where
       kinds-length [] = refl
       kinds-length (w ∷ ks) = ap suc (kinds-length ks)
 
-checks-fit : (g : Graph) (cw : Bool) (minimum : ℕ) (b : Buffers) (k : Checked) → ExtractionFits (afterChecks g cw minimum b k .answer) (lentTable (afterChecks g cw minimum b k .lent))
+checks-fit : (g : Graph) (cw : Bool) (minimum : ℕ) (b : Buffers) (k : Checked) → ExtractionFits (afterChecks g cw minimum b k .answer)
+    (lentTable (afterChecks g cw minimum b k .lent))
 checks-fit g cw minimum b (check.Refused number place) = tt
 checks-fit g cw minimum b check.Fine = scan-fits g minimum b (scan g cw (b .state))
 

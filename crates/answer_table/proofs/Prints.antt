@@ -37,7 +37,8 @@ hulls-few (k ∷ l) = pick-ind (eqb k 0) 1 0 (λ (n : ℕ). n + hulls l ≤ suc 
 dropped-few : (t : Table) → droppedOf t ≤ contourCount t
 dropped-few t = pick-ind (eqb (hullCount t) 0) (contourCount t) 0 (λ (n : ℕ). n ≤ contourCount t) (λ _. omega arith) (λ _. omega arith)
 
-sound-printable : (t : Table) (owner : List ℕ) (shapes dropped : ℕ) → Sound t → contourCount t ≤ length owner → shapes ≤ contourCount t → dropped ≤ contourCount t
+sound-printable : (t : Table) (owner : List ℕ) (shapes dropped : ℕ) → Sound t → contourCount t ≤ length owner → shapes ≤ contourCount t
+    → dropped ≤ contourCount t
     → Printable (printTable t owner) (totalsOf t shapes dropped)
 sound-printable t owner shapes dropped s o h d = record {
   ranges = record {

@@ -79,7 +79,8 @@ module _ (s : List ℕ) (bytes : Bytes s) (at : ℕ) where
 
 -- ---- a run, and the whole file
 
-stands-back : (kind : ℕ) (s : List ℕ) → Bytes s → (bs : List (List ℕ)) (r r′ : Run) → RecordsStand kind s r bs r′ → drop (r .at) s ≡ recordsBytes kind bs ++ drop (r′ .at) s
+stands-back : (kind : ℕ) (s : List ℕ) → Bytes s → (bs : List (List ℕ)) (r r′ : Run) → RecordsStand kind s r bs r′ → drop (r .at) s
+    ≡ recordsBytes kind bs ++ drop (r′ .at) s
 unfolding recordsBytes
 stands-back kind s bytes [] r r′ h = ap (λ (x : Run). drop (x .at) s) h
 stands-back kind s bytes (b ∷ bs) r r′ h =

@@ -13,7 +13,9 @@ use Rattle.laws.specs.Test.{pick}
 use Rattle.format_numbers.specs.Bytes.{u16At, u32At}
 use Rattle.turn.specs.Limits.{maxLinks}
 use Rattle.format_records.specs.Limits.{maxNodes, maxEntries, fileBytes, maxRecords}
-use Rattle.format_records.specs.Records.{lengthAt, kindAt, bodyAt, recordEnd, headed, headNumber, bodyNumber, firstNumber, recordNumber, refusal, runTo, past, stepAt, Ran, ran, fault, with, onStep, runFrom, runAt, looks, settingsRight, Form, form, refused, onRan, nodesAfter, formOf}
+use Rattle.format_records.specs.Records.{lengthAt, kindAt, bodyAt, recordEnd, headed, headNumber, bodyNumber, firstNumber, recordNumber, refusal}
+use Rattle.format_records.specs.Records.{runTo, past, stepAt, Ran, ran, fault, with, onStep, runFrom, runAt, looks, settingsRight, Form, form}
+use Rattle.format_records.specs.Records.{refused, onRan, nodesAfter, formOf}
 use Rattle.format.specs.File.{File, fileFrom, fileOf}
 use Rattle.format_records.specs.Steps.{Told, next-tells, link-zero, node-zero}
 use Rattle.format_records.specs.Runs.{RecordsStand, stands}
@@ -184,7 +186,14 @@ module _ (n : ℕ) (enough : fileBytes ≤ n) (s : List ℕ) (more : n < length 
   same-settings : settingsRight (take n s) ≡ settingsRight s
   unfolding settingsRight
   same-settings =
-      rw (short-length, le-leb 15 n (omega arith), le-leb 15 (length s) (omega arith), same-u32 0 (omega arith), same-u16 4 (omega arith), getD-take n s 6 0 (omega arith))
+      rw (
+        short-length,
+        le-leb 15 n (omega arith),
+        le-leb 15 (length s) (omega arith),
+        same-u32 0 (omega arith),
+        same-u16 4 (omega arith),
+        getD-take n s 6 0 (omega arith),
+      )
 
   same-form : formOf (take n s) ≡ formOf s
   unfolding formOf

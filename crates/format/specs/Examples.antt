@@ -25,13 +25,16 @@ e2-links =
     22 ∷ 0 ∷ 0 ∷ 0 ∷ 1 ∷ 0 ∷ 4 ∷ 0 ∷ 0 ∷ 0 ∷ 0 ∷ 0 ∷ 0 ∷ 0 ∷ 4 ∷ 0 ∷ 0 ∷ 0 ∷ 4 ∷ 0 ∷ 0 ∷ 0 ∷ 2 ∷ 0 ∷ 3 ∷ 0 ∷ 1 ∷ 0 ∷ []
 
 e2-nodes : List ℕ
-e2-nodes = 4 ∷ 0 ∷ 0 ∷ 0 ∷ 2 ∷ 0 ∷ 0 ∷ 0 ∷ 1 ∷ 0 ∷ 4 ∷ 0 ∷ 0 ∷ 0 ∷ 2 ∷ 0 ∷ 1 ∷ 0 ∷ 2 ∷ 0 ∷ 4 ∷ 0 ∷ 0 ∷ 0 ∷ 2 ∷ 0 ∷ 0 ∷ 0 ∷ 3 ∷ 0 ∷ 4 ∷ 0 ∷ 0 ∷ 0 ∷ 2 ∷ 0 ∷ 2 ∷ 0 ∷ 3 ∷ 0 ∷ []
+e2-nodes =
+    4 ∷ 0 ∷ 0 ∷ 0 ∷ 2 ∷ 0 ∷ 0 ∷ 0 ∷ 1 ∷ 0 ∷ 4 ∷ 0 ∷ 0 ∷ 0 ∷ 2 ∷ 0 ∷ 1 ∷ 0 ∷ 2 ∷ 0 ∷ 4 ∷ 0 ∷ 0 ∷ 0 ∷ 2 ∷ 0 ∷ 0 ∷ 0 ∷ 3 ∷ 0 ∷ 4 ∷ 0 ∷ 0 ∷ 0 ∷ 2 ∷ 0 ∷ 2
+    ∷ 0 ∷ 3 ∷ 0 ∷ []
 
 e2 : List ℕ
 e2 = e1 ++ (e2-links ++ e2-nodes)
 
 none : fileOf e1
-    ≡ holding (record { clockwise = false; minimum = 0; ax = []; ay = []; bx = []; by = []; aId = []; bId = []; top = []; state = []; start = 0 ∷ []; list = [] })
+    ≡ holding
+    (record { clockwise = false; minimum = 0; ax = []; ay = []; bx = []; by = []; aId = []; bId = []; top = []; state = []; start = 0 ∷ []; list = [] })
 unfolding e1 u16At u32At u64At signed recordNumber stepAt runFrom settingsRight formOf every flatList startsOf
 none = refl
 

@@ -15,14 +15,16 @@ use Rattle.writing.specs.Put.{atFront}
 use Rattle.format_numbers.specs.Bytes.{u16At, u32At, u64At, i32At, signed, every}
 use Rattle.turn.specs.Limits.{maxLinks}
 use Rattle.format_records.specs.Limits.{maxNodes, maxEntries}
-use Rattle.format_records.specs.Records.{lengthAt, bodyAt, recordEnd, refusal, runTo, past, Ran, ran, fault, runAt, looks, Form, form, refused, onRan, nodesAfter, formOf, settingsRight, flatList}
+use Rattle.format_records.specs.Records.{lengthAt, bodyAt, recordEnd, refusal, runTo, past, Ran, ran, fault, runAt, looks, Form, form, refused, onRan}
+use Rattle.format_records.specs.Records.{nodesAfter, formOf, settingsRight, flatList}
 use Rattle.format.specs.File.{startsOf, fileOf, FileLists, fileLists, contentsInto, reading, readInto}
 use Rattle.format_records.specs.Shape.{fileShapeOf}
 use Rattle.format_lists.specs.Columns.{Columns, columns, column, linksInto}
 use Rattle.format_lists.specs.NodeLists.{entriesFrom, startsFrom, NodesStand}
 use Rattle.format_records.specs.Steps.{link-zero, node-zero}
 use Rattle.format_records.specs.Runs.{RecordsStand, stands}
-use Rattle.format_records.specs.Forms.{length-body, stands-count, stands-few, stands-inside, stands-links, settings-long, Formed, wronged, FormPlaced, form-placed}
+use Rattle.format_records.specs.Forms.{length-body, stands-count, stands-few, stands-inside, stands-links, settings-long, Formed, wronged, FormPlaced}
+use Rattle.format_records.specs.Forms.{form-placed}
 use Rattle.format_records.specs.declared.Run.{Run}
 use Rattle.format_records.specs.declared.Refusal.{Refusal}
 use Rattle.format.specs.declared.FileRead.the-variants as answer
@@ -60,7 +62,8 @@ column-is s f g j agree (b ∷ bs) r r′ h =
 
 -- ---- the nodes
 
-every-moved : {A : Type 0} (f g : ℕ → A) (p top : ℕ) → ((i : ℕ) → i + 2 ≤ top → f (p + i) ≡ g i) → (n i : ℕ) → i + 2 * n ≤ top → every f 2 (p + i) n ≡ every g 2 i n
+every-moved : {A : Type 0} (f g : ℕ → A) (p top : ℕ) → ((i : ℕ) → i + 2 ≤ top → f (p + i) ≡ g i) → (n i : ℕ) → i + 2 * n ≤ top → every f 2 (p + i) n
+    ≡ every g 2 i n
 unfolding every
 every-moved f g p top same zero i h = refl
 every-moved f g p top same (suc n) i h =
@@ -88,7 +91,8 @@ starts-are s (b ∷ bs) r r′ e h =
     let l : lengthAt s (r .at) ≡ length b = sym (ap length (h .1) ∙ length-body 2 s r (h .0)) in
     ap (λ (xs : List ℕ). e ∷ xs) (starts-are s bs (past s r) r′ (e + lengthAt s (r .at) / 2) (h .2) ∙ ap (λ k. startsOf (e + k / 2) bs) l)
 
-nodes-stand : (s : List ℕ) (bs : List (List ℕ)) (r r′ : Run) (e : ℕ) → r .size ≡ 2 * e → e ≤ maxEntries → RecordsStand 2 s r bs r′ → NodesStand s maxEntries (length bs) (r .at) e
+nodes-stand : (s : List ℕ) (bs : List (List ℕ)) (r r′ : Run) (e : ℕ) → r .size ≡ 2 * e → e ≤ maxEntries → RecordsStand 2 s r bs r′
+    → NodesStand s maxEntries (length bs) (r .at) e
 unfolding NodesStand
 nodes-stand s [] r r′ e z few h = few
 nodes-stand s (b ∷ bs) r r′ e z few h =

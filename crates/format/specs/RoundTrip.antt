@@ -15,9 +15,11 @@ use Rattle.laws.specs.Test.{pick, true-and}
 use Rattle.turn.specs.Limits.{maxLinks}
 use Rattle.format_records.specs.Limits.{maxNodes, maxEntries}
 use Rattle.format_numbers.specs.Bytes.{u16At, u32At, u64At, i32At, signed, every}
-use Rattle.format_records.specs.Records.{lengthAt, kindAt, bodyAt, headNumber, nodeNumber, runTo, past, stepAt, ran, with, runFrom, looks, settingsRight, form, formOf, nodeEntries, flatList}
+use Rattle.format_records.specs.Records.{lengthAt, kindAt, bodyAt, headNumber, nodeNumber, runTo, past, stepAt, ran, with, runFrom, looks}
+use Rattle.format_records.specs.Records.{settingsRight, form, formOf, nodeEntries, flatList}
 use Rattle.format.specs.File.{startsOf, holding, fileOf}
-use Rattle.format.specs.Encoded.{little, bitsOf, recordBytes, recordsBytes, LinkRecord, linkBody, nodeBody, settingsBody, encoded, joined, positions, graphContents, LinkFits, LinksFit, NodeFits, NodesFit, FileFits}
+use Rattle.format.specs.Encoded.{little, bitsOf, recordBytes, recordsBytes, LinkRecord, linkBody, nodeBody, settingsBody, encoded, joined}
+use Rattle.format.specs.Encoded.{positions, graphContents, LinkFits, LinksFit, NodeFits, NodesFit, FileFits}
 use Rattle.format_records.specs.Steps.{step-cut, step-kind, step-next}
 use Rattle.format_records.specs.declared.Run.{Run}
 use Rattle.format_records.specs.declared.RunStep.the-variants.{Next, Other}
@@ -94,7 +96,8 @@ module _ (kind : ℕ) (k : kind < 65536) (s : List ℕ) (place : ℕ) (stop : (r
   one-step : (n : ℕ) (r : Run) (b : List ℕ) (bs : List (List ℕ)) → stepAt kind s r ≡ Next (past s r) → bodyAt s (r .at) ≡ b
       → Reaches kind n s (past s r) bs place → Reaches kind (suc n) s r (b ∷ bs) place
   unfolding runFrom
-  one-step n r b bs e q h = record { last = h .last; is = rw e (ap (with (bodyAt s (r .at))) (h .is) ∙ ap (λ (c : List ℕ). ran (h .last) (c ∷ bs)) q); ends = h .ends }
+  one-step n r b bs e q h =
+      record { last = h .last; is = rw e (ap (with (bodyAt s (r .at))) (h .is) ∙ ap (λ (c : List ℕ). ran (h .last) (c ∷ bs)) q); ends = h .ends }
 
   reaches : (bs : List (List ℕ)) (n : ℕ) (before after : List ℕ) (r : Run) → length bs ≤ n → HeadsRight kind (r .count) (r .size) bs
       → r .at ≡ length before → place ≡ length before + length (recordsBytes kind bs) → s ≡ before ++ (recordsBytes kind bs ++ after)
@@ -107,7 +110,8 @@ module _ (kind : ℕ) (k : kind < 65536) (s : List ℕ) (place : ℕ) (stop : (r
       never x h = omega arith
   reaches (b ∷ bs) (suc n) before after r m g p q e =
       let rest = recordsBytes kind bs ++ after in
-      let e′ : s ≡ before ++ (recordBytes kind b ++ rest) = e ∙ ap (λ (t : List ℕ). before ++ t) (append-assoc (recordBytes kind b) (recordsBytes kind bs) after) in
+      let e′ : s ≡ before ++ (recordBytes kind b ++ rest) = e
+      ∙ ap (λ (t : List ℕ). before ++ t) (append-assoc (recordBytes kind b) (recordsBytes kind bs) after) in
       let l = length-there kind b rest k (g .1) s before (r .at) p e′ in
       let long = long-enough kind b rest k (g .1) s before (r .at) p e′ in
       let step = step-next kind s r (omega arith) (kind-there kind b rest k (g .1) s before (r .at) p e′)
@@ -136,7 +140,8 @@ not-a-link before (b ∷ bs) g r p =
     never e = omega arith
 
 module _ (settings : List ℕ) (nine : length settings ≡ 9) (dir : getD settings 0 0 ≤ 1) (links nodes : List (List ℕ))
-    (goes-links : HeadsRight 1 0 0 links) (few-links : length links ≤ maxLinks) (goes-nodes : HeadsRight 2 0 0 nodes) (few-nodes : length nodes ≤ maxNodes) where
+    (goes-links : HeadsRight 1 0 0 links) (few-links : length links ≤ maxLinks) (goes-nodes : HeadsRight 2 0 0 nodes)
+    (few-nodes : length nodes ≤ maxNodes) where
   right : settingsRight (recordBytes 3 settings ++ (recordsBytes 1 links ++ recordsBytes 2 nodes)) ≡ true
   unfolding settingsRight
   right =
@@ -149,10 +154,12 @@ module _ (settings : List ℕ) (nine : length settings ≡ 9) (dir : getD settin
       (true-and _ _ (eq-eqb (kindAt s 0) 3 (own-kind 3 settings rest (omega arith) (omega (arith, nine))))
       (le-leb (getD s 6 0) 1 direction)))
 
-  regrouped : (recordBytes 3 settings ++ recordsBytes 1 links) ++ recordsBytes 2 nodes ≡ recordBytes 3 settings ++ (recordsBytes 1 links ++ recordsBytes 2 nodes)
+  regrouped : (recordBytes 3 settings ++ recordsBytes 1 links) ++ recordsBytes 2 nodes
+      ≡ recordBytes 3 settings ++ (recordsBytes 1 links ++ recordsBytes 2 nodes)
   regrouped = append-assoc (recordBytes 3 settings) (recordsBytes 1 links) (recordsBytes 2 nodes)
 
-  links-reach : Reaches 1 looks (recordBytes 3 settings ++ (recordsBytes 1 links ++ recordsBytes 2 nodes)) (runTo 15 0 0) links (length (recordBytes 3 settings ++ recordsBytes 1 links))
+  links-reach : Reaches 1 looks (recordBytes 3 settings ++ (recordsBytes 1 links ++ recordsBytes 2 nodes)) (runTo 15 0 0) links
+      (length (recordBytes 3 settings ++ recordsBytes 1 links))
   links-reach =
       reaches 1 (omega arith) _ (length (recordBytes 3 settings ++ recordsBytes 1 links))
       (λ r p. subst (λ (t : List ℕ). stepAt 1 t r ≡ Other) regrouped (not-a-link (recordBytes 3 settings ++ recordsBytes 1 links) nodes goes-nodes r p))
@@ -160,7 +167,8 @@ module _ (settings : List ℕ) (nine : length settings ≡ 9) (dir : getD settin
       (length-append (recordBytes 3 settings) (recordsBytes 1 links)) refl
 
   nodes-reach : (at : ℕ) → at ≡ length (recordBytes 3 settings ++ recordsBytes 1 links)
-      → Reaches 2 looks (recordBytes 3 settings ++ (recordsBytes 1 links ++ recordsBytes 2 nodes)) (runTo at 0 0) nodes (length (recordBytes 3 settings ++ (recordsBytes 1 links ++ recordsBytes 2 nodes)))
+      → Reaches 2 looks (recordBytes 3 settings ++ (recordsBytes 1 links ++ recordsBytes 2 nodes)) (runTo at 0 0) nodes
+      (length (recordBytes 3 settings ++ (recordsBytes 1 links ++ recordsBytes 2 nodes)))
   nodes-reach at p =
       reaches 2 (omega arith) _ (length (recordBytes 3 settings ++ (recordsBytes 1 links ++ recordsBytes 2 nodes)))
       (λ r q. step-cut 2 _ r (omega (arith, q)))
@@ -271,7 +279,8 @@ starts-read [] e = refl
 starts-read (n ∷ ns) e =
     ap (λ (xs : List ℕ). e ∷ xs) (ap (λ k. startsOf (e + k) (map nodeBody ns)) (half-length n) ∙ starts-read ns (e + length n))
 
-nodes-go : (ns : List (List ℕ)) (count size : ℕ) → count + length ns ≤ maxNodes → size + 2 * length (joined ns) ≤ 2 * maxEntries → HeadsRight 2 count size (map nodeBody ns)
+nodes-go : (ns : List (List ℕ)) (count size : ℕ) → count + length ns ≤ maxNodes → size + 2 * length (joined ns) ≤ 2 * maxEntries
+    → HeadsRight 2 count size (map nodeBody ns)
 unfolding joined
 nodes-go [] count size h r = tt
 nodes-go (n ∷ ns) count size h r =
@@ -295,7 +304,8 @@ minimum-read a b c d e f g m rest h = omega arith
 same-graph : {w w′ : Bool} {m m′ : ℕ} {ax ax′ ay ay′ bx bx′ by by′ : List ℤ} {a a′ b b′ t t′ s s′ st st′ l l′ : List ℕ}
     → w ≡ w′ → m ≡ m′ → ax ≡ ax′ → ay ≡ ay′ → bx ≡ bx′ → by ≡ by′ → a ≡ a′ → b ≡ b′ → t ≡ t′ → s ≡ s′ → st ≡ st′ → l ≡ l′
     → holding (record { clockwise = w; minimum = m; ax = ax; ay = ay; bx = bx; by = by; aId = a; bId = b; top = t; state = s; start = st; list = l })
-    ≡ holding (record { clockwise = w′; minimum = m′; ax = ax′; ay = ay′; bx = bx′; by = by′; aId = a′; bId = b′; top = t′; state = s′; start = st′; list = l′ })
+    ≡ holding
+    (record { clockwise = w′; minimum = m′; ax = ax′; ay = ay′; bx = bx′; by = by′; aId = a′; bId = b′; top = t′; state = s′; start = st′; list = l′ })
 same-graph e1 e2 e3 e4 e5 e6 e7 e8 e9 e10 e11 e12 = rw (e1, e2, e3, e4, e5, e6, e7, e8, e9, e10, e11, e12)
 
 direction-read : (w : Bool) → eqb (pick w 1 0) 1 ≡ w

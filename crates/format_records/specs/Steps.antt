@@ -10,7 +10,8 @@ use lib.ListN.{length}
 use Rattle.laws.specs.Test.{pick, pick-ind, and-true}
 use Rattle.turn.specs.Limits.{maxLinks}
 use Rattle.format_records.specs.Limits.{maxNodes, maxEntries, maxRecords}
-use Rattle.format_records.specs.Records.{lengthAt, kindAt, recordEnd, headed, linkNumber, nodeNumber, headNumber, bodyNumber, firstNumber, recordNumber, refusal, runTo, past, stepAt}
+use Rattle.format_records.specs.Records.{lengthAt, kindAt, recordEnd, headed, linkNumber, nodeNumber, headNumber, bodyNumber, firstNumber}
+use Rattle.format_records.specs.Records.{recordNumber, refusal, runTo, past, stepAt}
 use Rattle.format_records.specs.declared.Run.{Run}
 use Rattle.format_records.specs.declared.Refusal.{Refusal}
 use Rattle.format_records.specs.declared.RunStep.the-variants.{Next, Other, Fault}
@@ -31,17 +32,20 @@ module _ (kind : ℕ) (s : List ℕ) (r : Run) where
   step-head h k n = by-number (headNumber kind (r .count) (r .size) (lengthAt s (r .at))) n
     where
       by-number : (m : ℕ) → (m ≡ 0 → ⊥)
-          → pick (headed kind s (r .at)) (pick (eqb (firstNumber m (bodyNumber s (r .at))) 0) (Next (past s r)) (Fault (refusal (firstNumber m (bodyNumber s (r .at))) (r .at)))) Other
+          → pick (headed kind s (r .at))
+          (pick (eqb (firstNumber m (bodyNumber s (r .at))) 0) (Next (past s r)) (Fault (refusal (firstNumber m (bodyNumber s (r .at))) (r .at)))) Other
           ≡ Fault (refusal m (r .at))
       by-number m z = rw (le-leb (r .at + 6) (length s) h, eq-eqb (kindAt s (r .at)) kind k, ne-eqb m 0 z, ne-eqb m 0 z)
 
-  pub step-body : r .at + 6 ≤ length s → kindAt s (r .at) ≡ kind → headNumber kind (r .count) (r .size) (lengthAt s (r .at)) ≡ 0 → length s < recordEnd s (r .at)
+  pub step-body : r .at + 6 ≤ length s → kindAt s (r .at) ≡ kind → headNumber kind (r .count) (r .size) (lengthAt s (r .at)) ≡ 0
+      → length s < recordEnd s (r .at)
       → stepAt kind s r ≡ Fault (refusal 13 (r .at))
   unfolding stepAt recordNumber
   step-body h k n b =
       rw (le-leb (r .at + 6) (length s) h, eq-eqb (kindAt s (r .at)) kind k, n, lt-leb (recordEnd s (r .at)) (length s) b)
 
-  pub step-next : r .at + 6 ≤ length s → kindAt s (r .at) ≡ kind → headNumber kind (r .count) (r .size) (lengthAt s (r .at)) ≡ 0 → recordEnd s (r .at) ≤ length s
+  pub step-next : r .at + 6 ≤ length s → kindAt s (r .at) ≡ kind → headNumber kind (r .count) (r .size) (lengthAt s (r .at)) ≡ 0
+      → recordEnd s (r .at) ≤ length s
       → stepAt kind s r ≡ Next (past s r)
   unfolding stepAt recordNumber
   step-next h k n b =

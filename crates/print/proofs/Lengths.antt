@@ -74,7 +74,8 @@ points-short points f (suc count) p h =
     omega (
       arith,
       both (pointLine (getD points (2 * p) (pos 0)) (getD points (2 * p + 1) (pos 0))) (pointLines points (p + 1) count) 16 (16 * count)
-          (point-short (getD points (2 * p) (pos 0)) (getD points (2 * p + 1) (pos 0)) (f (2 * p) (omega arith)) (f (2 * p + 1) (omega arith))) (points-short points f count (p + 1) (omega arith)),
+          (point-short (getD points (2 * p) (pos 0)) (getD points (2 * p + 1) (pos 0)) (f (2 * p) (omega arith)) (f (2 * p + 1) (omega arith)))
+          (points-short points f count (p + 1) (omega arith)),
     )
 
 -- the points of so many contours from number i on

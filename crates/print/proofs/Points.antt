@@ -33,7 +33,8 @@ module _ (points : List ℤ) (first count : ℕ) (old : List ℕ) (at end : ℕ)
     from = omega arith;
     to = omega arith;
     end-is = e;
-    left = subst (λ k. Unwritten old old at at (pointLines points first k) (pointLines points first count)) size (left-all old at (pointLines points first count) h);
+    left = subst (λ k. Unwritten old old at at (pointLines points first k) (pointLines points first count)) size
+        (left-all old at (pointLines points first count) h);
   }
     where
       size : count ≡ end - first

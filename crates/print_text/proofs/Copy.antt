@@ -20,7 +20,9 @@ module _ (word old : List ℕ) (at : ℕ) where
   module _ (new : List ℕ) (i : ℕ) (c : Copying word old new at i) where
     module _ (l : i < length word) where
       next-left : Unwritten old new at (at + i) ((getD word i 0 ∷ []) ++ drop (i + 1) word) word
-      next-left = subst (λ (t : List ℕ). Unwritten old new at (at + i) t word) (drop-cons word i 0 l ∙ ap (λ k. getD word i 0 ∷ drop k word) (sym (add-one i))) (c .left)
+      next-left =
+          subst (λ (t : List ℕ). Unwritten old new at (at + i) t word)
+          (drop-cons word i 0 l ∙ ap (λ k. getD word i 0 ∷ drop k word) (sym (add-one i))) (c .left)
 
       pub copying-fits : at + i < length new
       copying-fits = omega (arith, piece-fits (getD word i 0 ∷ []) (drop (i + 1) word) next-left)

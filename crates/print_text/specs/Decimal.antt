@@ -94,7 +94,8 @@ unfolding valueFrom
 value-one d = omega arith
 
 -- a fact of every number, from the two ways in which it is written
-module _ (P : ℕ → List ℕ → Type 0) (one : (n : ℕ) → n < 10 → P n (glyph n ∷ [])) (more : (n : ℕ) (l : List ℕ) → 10 ≤ n → P (n / 10) l → P n (l ++ (glyph (n % 10) ∷ []))) where
+module _ (P : ℕ → List ℕ → Type 0) (one : (n : ℕ) → n < 10 → P n (glyph n ∷ [])) (more : (n : ℕ) (l : List ℕ) → 10 ≤ n → P (n / 10) l
+    → P n (l ++ (glyph (n % 10) ∷ []))) where
   by-digits : (f n : ℕ) → n < 10 ^ suc f → P n (digits f n)
   unfolding digits
   by-digits zero n h = one n (below-ten n h)

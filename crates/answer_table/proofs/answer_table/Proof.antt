@@ -52,7 +52,12 @@ slice-aggregate-write-answer c = search needs
 
 -- src/lib.rt:41:13
 write-answer-requires : tie.Need-write-answer-requires
-write-answer-requires c κs = let s = c .before .before .before .before .before .before .before .before .before .before .before .before in (printable (t s) (s .args .clockwise) (c .before .before .before .before .before .before .bind .ensures) (c .before .before .before .shapes .given .1), s .pre)
+write-answer-requires c κs =
+    let s = c .before .before .before .before .before .before .before .before .before .before .before .before in (
+      printable (t s) (s .args .clockwise) (c .before .before .before .before .before .before .bind .ensures)
+          (c .before .before .before .shapes .given .1),
+      s .pre,
+    )
 
 -- src/lib.rt:20:1
 same-length : tie.Need-same-length
@@ -60,7 +65,10 @@ same-length c = search needs
 
 -- src/lib.rt:20:1
 returns : tie.Need-returns
-returns c = let s = c .before .before .before .before .before .before .before .before .before .before .before .before .before .before in wrote-as (bound-text (t s) (s .args .clockwise) (c .before .before .before .before .before .before .before .before .bind .ensures) _ (c .before .before .before .before .before .number .given .1)) (c .before .before .write-refusal .ensures .0)
+returns c =
+    let s = c .before .before .before .before .before .before .before .before .before .before .before .before .before .before in
+    wrote-as (bound-text (t s) (s .args .clockwise) (c .before .before .before .before .before .before .before .before .bind .ensures) _
+    (c .before .before .before .before .before .number .given .1)) (c .before .before .write-refusal .ensures .0)
 
 -- src/lib.rt:20:1
 same-length-2 : tie.Need-same-length-2
@@ -68,7 +76,10 @@ same-length-2 c = search needs
 
 -- src/lib.rt:20:1
 returns-2 : tie.Need-returns-2
-returns-2 c = let s = c .before .before .before .before .before .before .before .before .before .before .before .before .before .before .before in wrote-as (bound-text (t s) (s .args .clockwise) (c .before .before .before .before .before .before .before .before .before .bind .ensures) _ (c .before .before .before .before .before .before .shapes .given .1)) (c .before .before .write-answer .ensures .0)
+returns-2 c =
+    let s = c .before .before .before .before .before .before .before .before .before .before .before .before .before .before .before in
+    wrote-as (bound-text (t s) (s .args .clockwise) (c .before .before .before .before .before .before .before .before .before .bind .ensures) _
+    (c .before .before .before .before .before .before .shapes .given .1)) (c .before .before .write-answer .ensures .0)
 
 pub answer-table-spec : {M : Type 1} → statement M
 answer-table-spec =

@@ -17,7 +17,8 @@ loop-holds : tie.Need-loop-holds Inv-loop μ-loop
 loop-holds c = filling-first _ _ _ _ _ _
 
 u16-at-requires : tie.Need-u16-at-requires Inv-loop μ-loop
-u16-at-requires c κs = let i = c .before .loop .inv in omega (arith, i .place, c .before .before .before .before .pre .1 (c .before .loop .k) (c .loop-test .taken))
+u16-at-requires c κs =
+    let i = c .before .loop .inv in omega (arith, i .place, c .before .before .before .before .pre .1 (c .before .loop .k) (c .loop-test .taken))
 
 add-out : tie.Need-add-out Inv-loop μ-loop
 add-out c =

@@ -37,7 +37,8 @@ loop-less c = omega arith
 loop-again : tie.Need-loop-again Inv-loop μ-loop
 loop-again c =
     let s = c .before .before .before in
-    filling-next _ _ _ _ _ _ _ _ _ (c .before .before .loop .inv) (c .before .before .loop .k) _ (sym (zero-add _)) refl (c .before .loop-test .taken) (omega (arith, s .pre))
+    filling-next _ _ _ _ _ _ _ _ _ (c .before .before .loop .inv) (c .before .before .loop .k) _ (sym (zero-add _)) refl (c .before .loop-test .taken)
+    (omega (arith, s .pre))
 
 same-length : tie.Need-same-length Inv-loop μ-loop
 same-length c = c .before .loop .inv .long

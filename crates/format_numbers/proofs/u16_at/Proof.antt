@@ -30,7 +30,8 @@ add-result c = omega (arith, c .before .shared-slice-known .given (c .before .be
 
 returns : tie.Need-returns
 unfolding u16At
-returns c = (refl, omega (arith, c .before .shared-slice-known .given (c .before .before .args .i), c .shared-slice-known2 .given (c .before .before .args .i + 1)))
+returns c =
+    (refl, omega (arith, c .before .shared-slice-known .given (c .before .before .args .i), c .shared-slice-known2 .given (c .before .before .args .i + 1)))
 
 pub u16-at-spec : {M : Type 1} → statement M
 u16-at-spec =

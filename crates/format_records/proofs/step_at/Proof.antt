@@ -72,7 +72,8 @@ returns-5 : tie.Need-returns-5
 returns-5 c =
     let s = c .before .before .before .before .before .before .before .before .before .before in
     let a = s .args in
-    read-next (a .kind) (a .s .now) (a .r) (c .before .before .before .before .before .u32-at .result) (c .before .before .before .before .head-number .result) (omega arith)
+    read-next (a .kind) (a .s .now) (a .r) (c .before .before .before .before .before .u32-at .result)
+    (c .before .before .before .before .head-number .result) (omega arith)
     (sym (c .before .before .before .before .before .before .before .u16-at .ensures .0) ∙ c .before .before .before .before .before .before .if2 .left)
     (c .before .before .before .before .before .u32-at .ensures)
     (c .before .before .before .before .head-number .ensures)

@@ -32,11 +32,21 @@ enum-known-n c = search needs
 
 -- src/main.rt:67:26
 slice-reshare-prefix-print-answer : tie.Need-slice-reshare-prefix-print-answer
-slice-reshare-prefix-print-answer c = omega (arith, read-within (c .before .n .given .1) (c .before .before .before .before .before .read-input .ensures), c .before .before .before .before .input .given)
+slice-reshare-prefix-print-answer c =
+    omega (
+      arith,
+      read-within (c .before .n .given .1) (c .before .before .before .before .before .read-input .ensures),
+      c .before .before .before .before .input .given,
+    )
 
 -- src/main.rt:67:26
 slice-aggregate-print-answer : tie.Need-slice-aggregate-print-answer
-slice-aggregate-print-answer c = part-long _ (omega (arith, read-within (c .before .before .n .given .1) (c .before .before .before .before .before .before .read-input .ensures), c .before .before .before .before .before .input .given))
+slice-aggregate-print-answer c =
+    part-long _ (omega (
+      arith,
+      read-within (c .before .before .n .given .1) (c .before .before .before .before .before .before .read-input .ensures),
+      c .before .before .before .before .before .input .given,
+    ))
 
 -- src/main.rt:67:13
 print-answer-requires : tie.Need-print-answer-requires

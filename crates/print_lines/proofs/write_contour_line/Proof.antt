@@ -62,7 +62,8 @@ write-text-requires c κs =
     let r = said (text " ") (a .len) in
     let e = text "\n" in
     let l0 = left-all (a .out .now) (a .at) (contourLine (a .number) (a .kind) (a .owner) (a .len)) (s .pre) in
-    let l1 = left-after p (q ++ (r ++ e)) l0 (c .before .before .before .before .before .before .before .before .before .before .before .before .before .write-decimal .ensures) in
+    let l1 = left-after p (q ++ (r ++ e)) l0
+    (c .before .before .before .before .before .before .before .before .before .before .before .before .before .write-decimal .ensures) in
     let l2 = left-after q (r ++ e) l1 (c .before .before .before .before .before .before .before .before .before .write-role .ensures) in
     let l3 = left-after r e l2 (c .before .before .before .before .write-said .ensures) in
     last-fits e l3
@@ -73,15 +74,20 @@ same-length c = search needs
 returns : tie.Need-returns
 unfolding contourLine
 returns c =
-    let s = c .before .before .before .before .before .before .before .before .before .before .before .before .before .before .before .before .before .before .before in
+    let s = c
+    .before .before .before .before .before .before .before .before .before .before .before .before .before .before .before .before .before
+    .before .before in
     let a = s .args in
     let p = decimal (a .number) in
     let q = said (roleText (a .kind) (a .owner)) (a .owner) in
     let r = said (text " ") (a .len) in
     let e = text "\n" in
     let l0 = left-all (a .out .now) (a .at) (contourLine (a .number) (a .kind) (a .owner) (a .len)) (s .pre) in
-    let l1 = left-after p (q ++ (r ++ e)) l0 (c .before .before .before .before .before .before .before .before .before .before .before .before .before .before .before .before .write-decimal .ensures) in
-    let l2 = left-after q (r ++ e) l1 (c .before .before .before .before .before .before .before .before .before .before .before .before .write-role .ensures) in
+    let l1 = left-after p (q ++ (r ++ e)) l0
+    (c .before .before .before .before .before .before .before .before .before .before .before .before .before .before .before .before
+    .write-decimal .ensures) in
+    let l2 = left-after q (r ++ e) l1
+    (c .before .before .before .before .before .before .before .before .before .before .before .before .write-role .ensures) in
     let l3 = left-after r e l2 (c .before .before .before .before .before .before .before .write-said .ensures) in
     left-last e l3 (c .before .before .write-text .ensures)
 

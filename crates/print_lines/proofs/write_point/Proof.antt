@@ -63,7 +63,8 @@ write-text-requires-2 c κs =
     let r = decimalZ (again (a .y)) in
     let e = text "\n" in
     let l0 = point-left (a .x) (a .y) (s .fits .x) (s .fits .y) (a .out .now) (a .at) (s .pre) in
-    let l1 = left-after p (q ++ (r ++ e)) l0 (c .before .before .before .before .before .before .before .before .before .before .before .before .before .write-signed .ensures) in
+    let l1 = left-after p (q ++ (r ++ e)) l0
+    (c .before .before .before .before .before .before .before .before .before .before .before .before .before .write-signed .ensures) in
     let l2 = left-after q (r ++ e) l1 (c .before .before .before .before .before .before .before .before .write-text .ensures) in
     let l3 = left-after r e l2 (c .before .before .before .before .write-signed2 .ensures) in
     last-fits e l3
@@ -74,14 +75,18 @@ same-length c = search needs
 returns : tie.Need-returns
 unfolding pointLine
 returns c =
-    let s = c .before .before .before .before .before .before .before .before .before .before .before .before .before .before .before .before .before .before .before in
+    let s = c
+    .before .before .before .before .before .before .before .before .before .before .before .before .before .before .before .before .before
+    .before .before in
     let a = s .args in
     let p = decimalZ (again (a .x)) in
     let q = text " " in
     let r = decimalZ (again (a .y)) in
     let e = text "\n" in
     let l0 = point-left (a .x) (a .y) (s .fits .x) (s .fits .y) (a .out .now) (a .at) (s .pre) in
-    let l1 = left-after p (q ++ (r ++ e)) l0 (c .before .before .before .before .before .before .before .before .before .before .before .before .before .before .before .before .write-signed .ensures) in
+    let l1 = left-after p (q ++ (r ++ e)) l0
+    (c .before .before .before .before .before .before .before .before .before .before .before .before .before .before .before .before
+    .write-signed .ensures) in
     let l2 = left-after q (r ++ e) l1 (c .before .before .before .before .before .before .before .before .before .before .before .write-text .ensures) in
     let l3 = left-after r e l2 (c .before .before .before .before .before .before .before .write-signed2 .ensures) in
     left-last e l3 (c .before .before .write-text2 .ensures)
