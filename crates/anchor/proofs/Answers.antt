@@ -42,7 +42,8 @@ module _ (t : Table) (cw : Bool) (c : ℕ) where
   pub anchor-hull : (kindOf t c ≡ 1 → ⊥) → false ≡ badAnchor t cw c
   anchor-hull n = rw (ne-eqb (kindOf t c) 1 n)
 
-  module _ (from len : ℕ) (anchor : Point) (ef : from ≡ firstOf t c) (el : len ≡ lenOf t c) (ea : anchor ≡ anchorPointIn (t .points) from cw) (h : kindOf t c ≡ 1) where
+  module _ (from len : ℕ) (anchor : Point) (ef : from ≡ firstOf t c) (el : len ≡ lenOf t c) (ea : anchor ≡ anchorPointIn (t .points) from cw)
+      (h : kindOf t c ≡ 1) where
     anchor-is : anchor ≡ anchorPoint t cw c
     anchor-is = ea ∙ ap (λ x. anchorPointIn (t .points) x cw) ef
 

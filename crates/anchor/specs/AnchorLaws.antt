@@ -32,7 +32,8 @@ not-self at p = ap (λ (z : ℤ). ltZ z (pos 0)) (cross-self (fromTo at p))
 
 not-back : (at p q : Point) → clockwise at p q ≡ true → clockwise at q p ≡ false
 not-back at p q e =
-    ltZ-sgn (cross v u) ∙ ap (λ (z : ℤ). is-mns (sgn z)) (cross-anti u v) ∙ ap is-mns (sgn-neg (cross u v)) ∙ go (sgn (cross u v)) (sym (ltZ-sgn (cross u v)) ∙ e)
+    ltZ-sgn (cross v u) ∙ ap (λ (z : ℤ). is-mns (sgn z)) (cross-anti u v) ∙ ap is-mns (sgn-neg (cross u v))
+    ∙ go (sgn (cross u v)) (sym (ltZ-sgn (cross u v)) ∙ e)
   where
     u : Vector
     u = fromTo at p

@@ -43,7 +43,8 @@ before-anchor-within from len false h = rw (before-anchor from len false) (omega
 
 -- the anchor edge from its parts
 module _ (points : List ℤ) (from len : ℕ) (cw : Bool) (h : 3 ≤ len) (at n p to : Point) (a : at ≡ anchorPointIn points from cw)
-    (i : n ≡ pointIn points (anchorPositionIn from cw + 1)) (j : p ≡ pointIn points (previousIn from (from + len) (anchorPositionIn from cw))) (e : to ≡ lowerEnd at n p) where
+    (i : n ≡ pointIn points (anchorPositionIn from cw + 1)) (j : p ≡ pointIn points (previousIn from (from + len) (anchorPositionIn from cw)))
+    (e : to ≡ lowerEnd at n p) where
   to-is : to ≡ anchorEdgeIn points from (from + len) cw .to
   to-is =
       e ∙ ap (λ (x : Point). lowerEnd x n p) a

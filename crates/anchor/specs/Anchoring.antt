@@ -45,7 +45,8 @@ unfolding holeBefore
 last-hole t zero h = absurd (not-suc-le-zero h)
 last-hole t (suc c) h = go (isHole t c) refl (last-hole t c) h
   where
-    go : (b : Bool) → isHole t c ≡ b → (0 < holeBefore t c → LastHole t c (holeBefore t c - 1)) → 0 < pick b (suc c) (holeBefore t c) → LastHole t (suc c) (pick b (suc c) (holeBefore t c) - 1)
+    go : (b : Bool) → isHole t c ≡ b → (0 < holeBefore t c → LastHole t c (holeBefore t c - 1)) → 0 < pick b (suc c) (holeBefore t c)
+        → LastHole t (suc c) (pick b (suc c) (holeBefore t c) - 1)
     go true e r h = let q : suc c - 1 ≡ c = omega arith in rw q (record { below = omega arith; hole = e })
     go false e r h = let l = r h in record { below = omega (arith, l .below); hole = l .hole }
 
@@ -71,7 +72,8 @@ module _ (t : Table) (cw : Bool) where
       any : 0 < holeBefore t n
       after : before (anchorPoint t cw (holeBefore t n - 1)) (anchorPoint t cw c) ≡ false
 
-    not-out : (c : ℕ) → c < contourCount t → isHole t c ≡ true → 0 < holeBefore t c → before (anchorPoint t cw c) (anchorPoint t cw (holeBefore t c - 1)) ≡ false
+    not-out : (c : ℕ) → c < contourCount t → isHole t c ≡ true → 0 < holeBefore t c
+        → before (anchorPoint t cw c) (anchorPoint t cw (holeBefore t c - 1)) ≡ false
     not-out c l e h = let q = lt-ltb 0 (holeBefore t c) h in rw q at (f c l e .1)
 
     last : (n c : ℕ) → n ≤ contourCount t → c < n → isHole t c ≡ true → Last n c
@@ -82,12 +84,15 @@ module _ (t : Table) (cw : Bool) where
         here = omega arith
 
         go : (b : Bool) → isHole t n ≡ b → Dec (c ≡ n) → (c < n → Last n c) → Last (suc n) c
-        go true q (yes i) r = record { any = rw (hole-here t n q) (omega arith); after = rw (hole-here t n q, here, i) (before-irreflexive (anchorPoint t cw n)) }
+        go true q (yes i) r =
+            record { any = rw (hole-here t n q) (omega arith); after = rw (hole-here t n q, here, i) (before-irreflexive (anchorPoint t cw n)) }
         go true q (no i) r =
             let m = r (omega arith) in
             record {
               any = rw (hole-here t n q) (omega arith);
-              after = rw (hole-here t n q, here) (not-before-transitive (anchorPoint t cw c) (anchorPoint t cw (holeBefore t n - 1)) (anchorPoint t cw n) (m .after) (not-out n h q (m .any)));
+              after = rw (hole-here t n q, here)
+                  (not-before-transitive (anchorPoint t cw c) (anchorPoint t cw (holeBefore t n - 1)) (anchorPoint t cw n) (m .after)
+                  (not-out n h q (m .any)));
             }
         go false q (yes i) r = absurd (true≢false (subst (λ (x : ℕ). isHole t x ≡ true) i e) q)
         go false q (no i) r = let m = r (omega arith) in record { any = rw (hole-earlier t n q) (m .any); after = rw (hole-earlier t n q) (m .after) }

@@ -1,2 +1,2 @@
--- What the program answers, by the definitions of the crates below.
-pub mod Answered
+-- What the program answers to a file, by the definitions of the crates below.
+pub mod AnswerText

@@ -23,7 +23,8 @@ module _ (old new from : List ℕ) (i : ℕ) (c : Copying old new from i) where
   copy-more h k = record {
     on = omega arith;
     len = length-set new i (getD from i 0) ∙ c .len;
-    is = let z : 0 + i ≡ i = omega arith in rw (c .is, add-one i) (ap (λ (j : ℕ). set (paste old 0 from i) j (getD from i 0)) (sym z) ∙ paste-suc old 0 from i 0 (rw z h) k);
+    is = let z : 0 + i ≡ i =
+        omega arith in rw (c .is, add-one i) (ap (λ (j : ℕ). set (paste old 0 from i) j (getD from i 0)) (sym z) ∙ paste-suc old 0 from i 0 (rw z h) k);
   }
 
   pub copy-end : length from ≤ i → new ≡ overFront from old

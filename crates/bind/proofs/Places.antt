@@ -32,12 +32,14 @@ module _ (t : Table) (c : ℕ) (right : None (badContour t) c) where
 table-place : (t : Table) (owners n p : ℕ) → tableChecked t owners ≡ Refused n p → p ≤ maxLinks
 unfolding tableChecked
 table-place t owners n p e =
-    go (misfit (length (t .points)) (length (t .first)) (length (t .len)) (length (t .kind)) owners || unended t) refl (some (badContour t) (contourCount t)) refl e
+    go (misfit (length (t .points)) (length (t .first)) (length (t .len)) (length (t .kind)) owners || unended t) refl
+    (some (badContour t) (contourCount t)) refl e
   where
     first : Refused 10 0 ≡ Refused n p → p ≤ maxLinks
     first q = let z : _≡_ {A = ℕ} 0 p = cc in omega arith
 
-    lowest-one : pointCount t ≤ maxLinks → None (badContour t) (lowest (badContour t) (contourCount t)) → Refused 10 (lowest (badContour t) (contourCount t)) ≡ Refused n p → p ≤ maxLinks
+    lowest-one : pointCount t ≤ maxLinks → None (badContour t) (lowest (badContour t) (contourCount t))
+        → Refused 10 (lowest (badContour t) (contourCount t)) ≡ Refused n p → p ≤ maxLinks
     lowest-one k o q =
         let z : lowest (badContour t) (contourCount t) ≡ p = cc in
         omega (arith, few-before t (lowest (badContour t) (contourCount t)) o (lowest (badContour t) (contourCount t)) (omega arith) k)
@@ -45,7 +47,8 @@ table-place t owners n p e =
     none : Fine ≡ Refused n p → p ≤ maxLinks
     none q = let z : _≡_ {A = ℕ} 0 1 = cc in omega arith
 
-    go : (b : Bool) → misfit (length (t .points)) (length (t .first)) (length (t .len)) (length (t .kind)) owners || unended t ≡ b → (d : Bool) → some (badContour t) (contourCount t) ≡ d
+    go : (b : Bool) → misfit (length (t .points)) (length (t .first)) (length (t .len)) (length (t .kind)) owners || unended t ≡ b → (d : Bool)
+        → some (badContour t) (contourCount t) ≡ d
         → pick b (Refused 10 0) (pick d (Refused 10 (lowest (badContour t) (contourCount t))) Fine) ≡ Refused n p → p ≤ maxLinks
     go true f d h q = first q
     go false f true h q =
@@ -63,7 +66,8 @@ anchors-place t cw n p k e = go (some (badAnchor t cw) (contourCount t)) refl e
     none : Fine ≡ Refused n p → p ≤ maxLinks
     none q = let z : _≡_ {A = ℕ} 0 1 = cc in omega arith
 
-    go : (b : Bool) → some (badAnchor t cw) (contourCount t) ≡ b → pick b (Refused 11 (lowest (badAnchor t cw) (contourCount t))) Fine ≡ Refused n p → p ≤ maxLinks
+    go : (b : Bool) → some (badAnchor t cw) (contourCount t) ≡ b → pick b (Refused 11 (lowest (badAnchor t cw) (contourCount t))) Fine ≡ Refused n p
+        → p ≤ maxLinks
     go true h q = at (some-of (badAnchor t cw) (contourCount t) h .within) q
     go false h q = none q
 

@@ -53,7 +53,8 @@ abbrev toldBy : Table → Given → List ℕ → Outcome
 toldBy t All owners = outcome (Bound (hullCount t) (droppedOf t)) owners
 toldBy t (Stuck c) owners = outcome (Refused 12 c) owners
 
-told : (t : Table) (r : Given) (owners buffer : List ℕ) → handed t (owned r owners) buffer ≡ toldBy t (delivered (owned r owners) buffer .answer) (delivered (owned r owners) buffer .owners)
+told : (t : Table) (r : Given) (owners buffer : List ℕ) → handed t (owned r owners) buffer ≡ toldBy t (delivered (owned r owners) buffer .answer)
+    (delivered (owned r owners) buffer .owners)
 told t All owners buffer = refl
 told t (Stuck c) owners buffer = refl
 
@@ -66,7 +67,8 @@ module _ (t : Table) (cw : Bool) (buffer new : List ℕ) where
   unfolding ownersOf
   one-hull h = rw h
 
-  pub bound-none : hullCount t ≡ 0 → new ≡ overFront (replicate (contourCount t) droppedOwner) buffer → outcome (Bound 0 (contourCount t)) new ≡ handed t (ownersOf t cw) buffer
+  pub bound-none : hullCount t ≡ 0 → new ≡ overFront (replicate (contourCount t) droppedOwner) buffer → outcome (Bound 0 (contourCount t)) new
+      ≡ handed t (ownersOf t cw) buffer
   bound-none h w = subst (λ (o : Owned). outcome (Bound 0 (contourCount t)) new ≡ handed t o buffer) (sym (no-hull h)) (rw (h, w))
 
   pub bound-one : hullCount t ≡ 1 → new ≡ overFront (replicate (contourCount t) 0) buffer → outcome (Bound 1 0) new ≡ handed t (ownersOf t cw) buffer
@@ -107,8 +109,10 @@ checks t owners cw e = go (tableChecked t owners) refl e
         record { sound = p .0; anchored = passes-anchored t cw .to f; room = p .1 }
     go (AtFault n p) q f = absurd (never f)
 
-pub bound-fine : (t : Table) (cw : Bool) (buffer : List ℕ) (o : Outcome) → bothChecked t (length buffer) cw ≡ Fine → o ≡ handed t (ownersOf t cw) buffer → o ≡ bound t cw buffer
+pub bound-fine : (t : Table) (cw : Bool) (buffer : List ℕ) (o : Outcome) → bothChecked t (length buffer) cw ≡ Fine → o
+    ≡ handed t (ownersOf t cw) buffer → o ≡ bound t cw buffer
 bound-fine t cw buffer o e q = q ∙ ap (λ (r : Checked). boundAfter r t cw buffer) (sym e)
 
-pub bound-at : (t : Table) (cw : Bool) (buffer : List ℕ) (n p : ℕ) → bothChecked t (length buffer) cw ≡ AtFault n p → outcome (Refused n p) buffer ≡ bound t cw buffer
+pub bound-at : (t : Table) (cw : Bool) (buffer : List ℕ) (n p : ℕ) → bothChecked t (length buffer) cw ≡ AtFault n p → outcome (Refused n p) buffer
+    ≡ bound t cw buffer
 bound-at t cw buffer n p e = ap (λ (r : Checked). boundAfter r t cw buffer) (sym e)

@@ -19,12 +19,14 @@ use Rattle.bind.specs.Outcome.{outcome, bound}
 
 -- "both holes get shape 1, the second through the first"; the buffer's tail is kept
 pub e9-bound : bound e9 false (7 ∷ 7 ∷ 7 ∷ 7 ∷ 7 ∷ []) ≡ outcome (Bound 2 0) (0 ∷ 1 ∷ 1 ∷ 1 ∷ 7 ∷ [])
-unfolding tableChecked anchorsChecked lowest count holeBefore liesUnder winsTie nearer edge kept offered keep nearest contourUnder slot inserted sorted holesBelow tabulate giveEach ownersOf
+unfolding tableChecked anchorsChecked lowest count holeBefore liesUnder winsTie nearer edge kept offered keep nearest contourUnder slot inserted
+    sorted holesBelow tabulate giveEach ownersOf
 e9-bound = refl
 
 -- "12 at 3": the buffer stays
 pub e10-bound : bound e10 false (7 ∷ 7 ∷ 7 ∷ 7 ∷ []) ≡ outcome (Refused 12 3) (7 ∷ 7 ∷ 7 ∷ 7 ∷ [])
-unfolding tableChecked anchorsChecked lowest count holeBefore liesUnder winsTie nearer edge kept offered keep nearest contourUnder slot inserted sorted holesBelow tabulate giveEach ownersOf
+unfolding tableChecked anchorsChecked lowest count holeBefore liesUnder winsTie nearer edge kept offered keep nearest contourUnder slot inserted
+    sorted holesBelow tabulate giveEach ownersOf
 e10-bound = refl
 
 -- "With only the first hull lent, both get 0."
@@ -57,5 +59,6 @@ e9Clockwise =
     (0 ∷ 4 ∷ 8 ∷ 12 ∷ []) (4 ∷ 4 ∷ 4 ∷ 4 ∷ []) (0 ∷ 0 ∷ 1 ∷ 1 ∷ [])
 
 e9-clockwise : bound e9Clockwise true (7 ∷ 7 ∷ 7 ∷ 7 ∷ []) ≡ outcome (Bound 2 0) (0 ∷ 1 ∷ 1 ∷ 1 ∷ [])
-unfolding e9Clockwise tableChecked anchorsChecked lowest count holeBefore liesUnder winsTie nearer edge kept offered keep nearest contourUnder slot inserted sorted holesBelow tabulate giveEach ownersOf
+unfolding e9Clockwise tableChecked anchorsChecked lowest count holeBefore liesUnder winsTie nearer edge kept offered keep nearest contourUnder slot
+    inserted sorted holesBelow tabulate giveEach ownersOf
 e9-clockwise = refl

@@ -52,7 +52,8 @@ listing-start c from to next of h = record {
 }
 
 module _ (c from to : ℕ) (next₀ of₀ next of : List ℕ) (k : ℕ) (l : Listing c from to next₀ of₀ next of k) where
-  pub listing-more : (r : ℕ) → k < to → to ≤ length next₀ → to ≤ length of₀ → r ≡ nextIn from to k → Listing c from to next₀ of₀ (set next k r) (set of k c) (k + 1)
+  pub listing-more : (r : ℕ) → k < to → to ≤ length next₀ → to ≤ length of₀ → r ≡ nextIn from to k → Listing c from to next₀ of₀ (set next k r)
+      (set of k c) (k + 1)
   listing-more r h n o e = record {
     low = omega (arith, l .low);
     high = omega arith;
@@ -81,7 +82,8 @@ module _ (first len : List ℕ) (r : Ranges first len) where
   pub round-start : (next of : List ℕ) → Round t 0 next of
   round-start next of = record { of-is = λ b k l. absurd (not-suc-le-zero l); next-is = λ b k l. absurd (not-suc-le-zero l) }
 
-  pub round-more : (c : ℕ) (next₀ of₀ next₁ of₁ : List ℕ) → c < length first → Round t c next₀ of₀ → ContourListed c (firstOf t c) (rangeEnd t c) next₀ of₀ next₁ of₁ → Round t (c + 1) next₁ of₁
+  pub round-more : (c : ℕ) (next₀ of₀ next₁ of₁ : List ℕ) → c < length first → Round t c next₀ of₀
+      → ContourListed c (firstOf t c) (rangeEnd t c) next₀ of₀ next₁ of₁ → Round t (c + 1) next₁ of₁
   round-more c next₀ of₀ next₁ of₁ h o n = record {
     of-is = λ b k l f e. at-of b k l f e (ℕ-discrete b c);
     next-is = λ b k l f e. at-next b k l f e (ℕ-discrete b c);

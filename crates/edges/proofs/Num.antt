@@ -79,7 +79,8 @@ module _ (u v : Vector) (ke kf ce cf : ℕ) (x y : ℤ) (hu : Short u) (hv : Sho
   tie-rest t s = way-rest x y (v .y *ℤ u .x) (u .y *ℤ v .x) _ px qy h k t s
 
 -- ---- the ways out of `is_nearer`: x and y are the gaps times both runs
-module _ (a : Anchor) (e f : Edge) (i j : ℤ) (u v : Vector) (x y : ℤ) (hi : natAbs i ≤ productBound) (hj : natAbs j ≤ productBound) (hu : Short u) (hv : Short v)
+module _ (a : Anchor) (e f : Edge) (i j : ℤ) (u v : Vector) (x y : ℤ) (hi : natAbs i ≤ productBound) (hj : natAbs j ≤ productBound) (hu : Short u)
+    (hv : Short v)
     (ei : i ≡ height a e) (ej : j ≡ height a f) (eu : u ≡ along e) (ev : v ≡ along f)
     (p : x ≡ Z i *ℤ Z (v .x)) (q : y ≡ Z j *ℤ Z (u .x)) (h : natAbs x ≤ gapBound) (k : natAbs y ≤ gapBound) where
   gx : x ≡ height a e *ℤ run f
@@ -96,6 +97,7 @@ module _ (a : Anchor) (e f : Edge) (i j : ℤ) (u v : Vector) (x y : ℤ) (hi : 
   unfolding nearer
   nearer-no t s = way-no x y (height a e *ℤ run f) (height a f *ℤ run e) _ gx gy h k t s
 
-  pub nearer-rest : (b : Bool) → b ≡ winsTie u v (e .kind) (f .kind) (e .contour) (f .contour) → ltZ (Z x) (Z y) ≡ false → ltZ (Z y) (Z x) ≡ false → b ≡ nearer a e f
+  pub nearer-rest : (b : Bool) → b ≡ winsTie u v (e .kind) (f .kind) (e .contour) (f .contour) → ltZ (Z x) (Z y) ≡ false → ltZ (Z y) (Z x) ≡ false → b
+      ≡ nearer a e f
   unfolding nearer
   nearer-rest b c t s = rw (eu, ev) at c ∙ way-rest x y (height a e *ℤ run f) (height a f *ℤ run e) _ gx gy h k t s

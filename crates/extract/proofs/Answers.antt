@@ -70,7 +70,8 @@ zeros : {A : Type 0} (z : A) (l l′ l″ : List A) → length l′ ≡ length l
 zeros z l l′ l″ e q = q ∙ map-const z l′ ∙ ap (λ k. replicate k z) e
 
 -- ---- a walk was refused
-module _ (g : Graph) (minimum : ℕ) (b : Buffers) (t : Tables) (number place : ℕ) (r : Extraction) (st′ : List ℕ) (pts′ : List ℤ) (first′ len′ kind′ : List ℕ) where
+module _ (g : Graph) (minimum : ℕ) (b : Buffers) (t : Tables) (number place : ℕ) (r : Extraction) (st′ : List ℕ) (pts′ : List ℤ)
+    (first′ len′ kind′ : List ℕ) where
   refused-at : (o : Scanned) → ScanLeaves g minimum t o r st′ pts′ first′ len′ kind′ → r ≡ Refused number place → o ≡ stopped number place
   refused-at (stopped m p) h e =
       let q : Refused m p ≡ Refused number place = sym h ∙ e in
@@ -78,7 +79,8 @@ module _ (g : Graph) (minimum : ℕ) (b : Buffers) (t : Tables) (number place : 
   refused-at (walks ws st) h e = absurd (true≢false (cc))
 
   refused : (o : Scanned) → ScanLeaves g minimum t o r st′ pts′ first′ len′ kind′ → r ≡ Refused number place
-      → map unmark (b .state) ≡ b .state → Kept (b .state) st′ → length pts′ ≡ length (b .points) → length first′ ≡ length (b .first) → length len′ ≡ length (b .len) → length kind′ ≡ length (b .kind)
+      → map unmark (b .state) ≡ b .state → Kept (b .state) st′ → length pts′ ≡ length (b .points) → length first′ ≡ length (b .first) → length len′
+      ≡ length (b .len) → length kind′ ≡ length (b .kind)
       → (st″ : List ℕ) (pts″ : List ℤ) (first″ len″ kind″ : List ℕ) → st″ ≡ mapFrom unmark 0 st′ → pts″ ≡ mapFrom (λ _. pos 0) 0 pts′
       → first″ ≡ mapFrom (λ _. 0) 0 first′ → len″ ≡ mapFrom (λ _. 0) 0 len′ → kind″ ≡ mapFrom (λ _. 0) 0 kind′
       → extractedAs (Refused number place) (buffers st″ pts″ first″ len″ kind″) ≡ afterScan g minimum b o
@@ -92,7 +94,8 @@ module _ (g : Graph) (minimum : ℕ) (b : Buffers) (t : Tables) (number place : 
       ∙ ap (afterScan g minimum b) (sym (refused-at o h e))
 
 -- ---- all walks were done
-module _ (g : Graph) (cw : Bool) (minimum : ℕ) (b : Buffers) (room : Roomy (length (b .state)) (length (b .points)) (length (b .first)) (length (b .len)) (length (b .kind)))
+module _ (g : Graph) (cw : Bool) (minimum : ℕ) (b : Buffers)
+    (room : Roomy (length (b .state)) (length (b .points)) (length (b .first)) (length (b .len)) (length (b .kind)))
     (c : Counts) (r : Extraction) (st′ : List ℕ) (pts′ : List ℤ) (first′ len′ kind′ : List ℕ) where
   abbrev t₀ : Tables
   t₀ = tables (b .points) (b .first) (b .len) (b .kind) noCounts
@@ -118,8 +121,10 @@ module _ (g : Graph) (cw : Bool) (minimum : ℕ) (b : Buffers) (room : Roomy (le
       let z : Done c ≡ Done (allNoted g minimum t₀ ws .counts) = sym q ∙ h .0 in
       let k : c ≡ allNoted g minimum t₀ ws .counts = cc in
       let s = h .1 ∙ scanned g cw (b .state) ws after e .states in
-      let p = qp ∙ ap (λ x. mapFrom (λ _. pos 0) (x .points * 2) pts′) k ∙ ap (mapFrom (λ _. pos 0) (allNoted g minimum t₀ ws .counts .points * 2)) (h .2) ∙ f .points-are in
-      let x = qf ∙ ap (λ x. mapFrom (λ _. 0) (x .contours) first′) k ∙ ap (mapFrom (λ _. 0) (allNoted g minimum t₀ ws .counts .contours)) (h .3) ∙ f .first-are in
+      let p = qp ∙ ap (λ x. mapFrom (λ _. pos 0) (x .points * 2) pts′) k ∙ ap (mapFrom (λ _. pos 0) (allNoted g minimum t₀ ws .counts .points * 2))
+      (h .2) ∙ f .points-are in
+      let x = qf ∙ ap (λ x. mapFrom (λ _. 0) (x .contours) first′) k ∙ ap (mapFrom (λ _. 0) (allNoted g minimum t₀ ws .counts .contours)) (h .3)
+      ∙ f .first-are in
       let y = ql ∙ ap (λ x. mapFrom (λ _. 0) (x .contours) len′) k ∙ ap (mapFrom (λ _. 0) (allNoted g minimum t₀ ws .counts .contours)) (h .4) ∙ f .len-are in
       let v = qk ∙ ap (λ x. mapFrom (λ _. 0) (x .contours) kind′) k ∙ ap (mapFrom (λ _. 0) (allNoted g minimum t₀ ws .counts .contours)) (h .5) ∙ f .kind-are in
       let d = k ∙ f .counts-are in
@@ -138,17 +143,23 @@ module _ (b b′ : Buffers) (room : Roomy (length (b .state)) (length (b .points
   pub holds : (r : Extraction) → Ends (length (b .state)) r → Holds r b′
   holds (Refused number place) w = tt
   holds (Done c) w =
-      let f : c .contours ≤ length (b .first) = omega (arith, w .contours, w .points, w .links, room .first-room) in
-      (omega (arith, w .points, w .links, room .points-room, lp), omega (arith, f, lf), omega (arith, f, room .len-room, ll), omega (arith, f, room .kind-room, lk))
+      let f : c .contours ≤ length (b .first) = omega (arith, w .contours, w .points, w .links, room .first-room) in (
+        omega (arith, w .points, w .links, room .points-room, lp),
+        omega (arith, f, lf),
+        omega (arith, f, room .len-room, ll),
+        omega (arith, f, room .kind-room, lk),
+      )
 
   -- and what is finished is what the definition leaves
   module _ (g : Graph) (cw : Bool) (minimum : ℕ) (u : map unmark (b .state) ≡ b .state) (k : Kept (b .state) (b′ .state)) (b″ : Buffers) where
     pub finished-as : (r : Extraction)
-        → ScanLeaves g minimum (tables (b .points) (b .first) (b .len) (b .kind) noCounts) (scan g cw (b .state)) r (b′ .state) (b′ .points) (b′ .first) (b′ .len) (b′ .kind)
+        → ScanLeaves g minimum (tables (b .points) (b .first) (b .len) (b .kind) noCounts) (scan g cw (b .state)) r (b′ .state) (b′ .points)
+        (b′ .first) (b′ .len) (b′ .kind)
         → b″ ≡ finishedBy r b′ → extractedAs r b″ ≡ afterScan g minimum b (scan g cw (b .state))
     finished-as (Refused number place) h q =
         ap (extractedAs (Refused number place)) q
-        ∙ refused g minimum b (tables (b .points) (b .first) (b .len) (b .kind) noCounts) number place (Refused number place) (b′ .state) (b′ .points) (b′ .first) (b′ .len) (b′ .kind)
+        ∙ refused g minimum b (tables (b .points) (b .first) (b .len) (b .kind) noCounts) number place (Refused number place) (b′ .state) (b′ .points)
+        (b′ .first) (b′ .len) (b′ .kind)
         (scan g cw (b .state)) h refl u k lp lf ll lk _ _ _ _ _ refl refl refl refl refl
     finished-as (Done c) h q =
         ap (extractedAs (Done c)) q

@@ -94,7 +94,8 @@ e7 = refl
 abbrev pub extractTriangle : ℕ → Extracted
 extractTriangle minimum =
     extracted
-    (lent (p 0 ∷ p 0 ∷ p 0 ∷ []) (p 0 ∷ p 0 ∷ p 1 ∷ []) (p 0 ∷ p 1 ∷ p 1 ∷ []) (p 1 ∷ p 0 ∷ p 0 ∷ []) (0 ∷ 0 ∷ 1 ∷ []) (1 ∷ 2 ∷ 2 ∷ []) (0 ∷ 2 ∷ 4 ∷ 6 ∷ []) (0 ∷ 1 ∷ 0 ∷ 2 ∷ 1 ∷ 2 ∷ []))
+    (lent (p 0 ∷ p 0 ∷ p 0 ∷ []) (p 0 ∷ p 0 ∷ p 1 ∷ []) (p 0 ∷ p 1 ∷ p 1 ∷ []) (p 1 ∷ p 0 ∷ p 0 ∷ []) (0 ∷ 0 ∷ 1 ∷ []) (1 ∷ 2 ∷ 2 ∷ [])
+    (0 ∷ 2 ∷ 4 ∷ 6 ∷ []) (0 ∷ 1 ∷ 0 ∷ 2 ∷ 1 ∷ 2 ∷ []))
     (0 ∷ 1 ∷ 0 ∷ []) false minimum (nines (0 ∷ 0 ∷ 0 ∷ []) 3 1)
 
 -- minimum 0 keeps it

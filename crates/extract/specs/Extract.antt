@@ -26,7 +26,9 @@ extractedAs answer lent = record { answer = answer; lent = lent }
 
 -- "After 8 and 9 the visit states are as before, and the points and contour table are all zero."
 abbrev pub zeroed : Buffers → Buffers
-zeroed b = buffers (b .state) (replicate (length (b .points)) (pos 0)) (replicate (length (b .first)) 0) (replicate (length (b .len)) 0) (replicate (length (b .kind)) 0)
+zeroed b =
+    buffers (b .state) (replicate (length (b .points)) (pos 0)) (replicate (length (b .first)) 0) (replicate (length (b .len)) 0)
+    (replicate (length (b .kind)) 0)
 
 -- the kept walks' points and table, and the states after all walks. "After success every entry past the last one written is zero."
 abbrev pub afterWalks : Graph → ℕ → List Walk → Buffers → Buffers

@@ -1,5 +1,7 @@
--- What is true of every extraction that is done, for any lent graph: each unvisited link is walked exactly once and no other, the states tell which, and the counts add up.
--- That every walk is closed and has three points or more, and what the totals come to, is proved above, of graphs that pass the checks (crate tour: ThreePoints, Statement).
+-- What is true of every extraction that is done, for any lent graph: each unvisited link is walked exactly once and no
+-- other, the states tell which, and the counts add up.
+-- That every walk is closed and has three points or more, and what the totals come to, is proved above, of graphs that
+-- pass the checks (crate tour: ThreePoints, Statement).
 use Prim.Native.Nat.{ℕ, _+_}
 use native.Mathlib.Omega.{arith}
 use native.Mathlib.Decide.{ℕ-discrete}
@@ -65,10 +67,12 @@ module _ (k : ℕ) where
   all-became : (st : List ℕ) (ws : List Walk) → AllFresh st ws → Became (getD st k 1) (getD (statesAfter ws st) k 1)
   all-became st [] f = inl refl
   all-became st (w ∷ ws) f =
-      became-then _ _ _ (marked-became (markOf (w .hole)) st (w .steps) (mark-two-or-three (w .hole)) (f .0)) (all-became (marked (markOf (w .hole)) (w .steps) st) ws (f .1))
+      became-then _ _ _ (marked-became (markOf (w .hole)) st (w .steps) (mark-two-or-three (w .hole)) (f .0))
+      (all-became (marked (markOf (w .hole)) (w .steps) st) ws (f .1))
 
 -- ---- the totals of kept and of rejected walks, by any minimum, are the total of all
-pub kept-and-rejected : (g : Graph) (minimum : ℕ) (ws : List Walk) → total (areas g (kept g minimum ws)) +ℤ total (areas g (rejected g minimum ws)) ≡ total (areas g ws)
+pub kept-and-rejected : (g : Graph) (minimum : ℕ) (ws : List Walk) → total (areas g (kept g minimum ws)) +ℤ total (areas g (rejected g minimum ws))
+    ≡ total (areas g ws)
 kept-and-rejected g minimum [] = +ℤ-idl (pos 0)
 kept-and-rejected g minimum (w ∷ ws) = by (keeps g minimum w) (kept g minimum ws) (rejected g minimum ws) (kept-and-rejected g minimum ws)
   where
@@ -111,7 +115,8 @@ module _ (g : Lent) (top : List ℕ) (cw : Bool) (minimum : ℕ) (b : Buffers) (
   abbrev G : Graph
   G = graphOf g top
 
-  by-scan : (o : Scanned) → scan G cw (b .state) ≡ o → extracted g top cw minimum b ≡ afterScan G minimum b o → afterScan G minimum b o .answer ≡ Done c → Success g top cw minimum b c
+  by-scan : (o : Scanned) → scan G cw (b .state) ≡ o → extracted g top cw minimum b ≡ afterScan G minimum b o
+      → afterScan G minimum b o .answer ≡ Done c → Success g top cw minimum b c
   by-scan (stopped number place) e q d = absurd (true≢false (cc) refl)
   by-scan (walks ws after) e q d =
       let s = scanned G cw (b .state) ws after e in
@@ -137,7 +142,8 @@ module _ (g : Lent) (top : List ℕ) (cw : Bool) (minimum : ℕ) (b : Buffers) (
         totals = subst (λ (x : Counts). x .«kept_area» +ℤ x .«rejected_area» ≡ total (areas G ws)) k (kept-and-rejected G minimum ws);
       }
 
-  by-checks : (k : Checked) → extracted g top cw minimum b ≡ afterChecks G cw minimum b k → afterChecks G cw minimum b k .answer ≡ Done c → Success g top cw minimum b c
+  by-checks : (k : Checked) → extracted g top cw minimum b ≡ afterChecks G cw minimum b k → afterChecks G cw minimum b k .answer ≡ Done c
+      → Success g top cw minimum b c
   by-checks (check.Refused number place) q d = absurd (true≢false (cc) refl)
   by-checks check.Fine q d = by-scan (scan G cw (b .state)) refl q d
 

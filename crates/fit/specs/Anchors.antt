@@ -47,7 +47,8 @@ module _ (g : Graph) (st : List ℕ) (k : ℕ) (m : List·Memᴰ k (g .entries (
   by-list (x ∷ (y ∷ [])) q s e h =
       let c : ℕ = pick (clockwise (g .a x) (g .b x) (g .b y)) x y in
       let i : s ≡ c = only-is c s (sym (first-at-bridge g st k x y q) ∙ e) in
-      subst (λ u. List·Memᴰ u (x ∷ (y ∷ []))) (sym i) (pick-ind (clockwise (g .a x) (g .b x) (g .b y)) x y (λ u. List·Memᴰ u (x ∷ (y ∷ []))) (λ _. List·Memᴰ·head refl) (λ _. List·Memᴰ·tail (List·Memᴰ·head refl)))
+      subst (λ u. List·Memᴰ u (x ∷ (y ∷ []))) (sym i) (pick-ind (clockwise (g .a x) (g .b x) (g .b y)) x y (λ u. List·Memᴰ u (x ∷ (y ∷ [])))
+      (λ _. List·Memᴰ·head refl) (λ _. List·Memᴰ·tail (List·Memᴰ·head refl)))
   by-list (x ∷ (y ∷ (z ∷ l))) q s e h = absurd (no (length l) h)
     where
       no : (n : ℕ) → suc (suc (suc n)) ≡ 2 → ⊥
@@ -84,7 +85,8 @@ first-cons : (s : Step) (o : Walked) → First s (consStep s o)
 first-cons s (stuck number) = tt
 first-cons s (done l after) = (l, refl)
 
-from-first : (g : Graph) (forward sense : Bool) (mark : ℕ) (st : List ℕ) (s : ℕ) → First (record { link = s; forward = forward }) (walkFrom g forward sense mark st s)
+from-first : (g : Graph) (forward sense : Bool) (mark : ℕ) (st : List ℕ) (s : ℕ) → First (record { link = s; forward = forward })
+    (walkFrom g forward sense mark st s)
 unfolding walkFrom
 from-first g forward sense mark st s = by (nextLink g (not sense) (set st s mark) (pick forward (g .aNode s) (g .bNode s)) s)
   where
@@ -94,9 +96,12 @@ from-first g forward sense mark st s = by (nextLink g (not sense) (set st s mark
     ahead : ℕ
     ahead = pick forward (g .bNode s) (g .aNode s)
 
-    by : (o : Next) → First (record { link = s; forward = forward }) (onNext (λ last. consStep (record { link = s; forward = forward }) (walkOn (suc (unvisited (set st s mark))) g sense home last mark ahead s (set st s mark))) o)
+    by : (o : Next) → First (record { link = s; forward = forward })
+        (onNext (λ last. consStep (record { link = s; forward = forward })
+        (walkOn (suc (unvisited (set st s mark))) g sense home last mark ahead s (set st s mark))) o)
     by Nothing = tt
-    by (Link last) = first-cons (record { link = s; forward = forward }) (walkOn (suc (unvisited (set st s mark))) g sense home last mark ahead s (set st s mark))
+    by (Link last) =
+        first-cons (record { link = s; forward = forward }) (walkOn (suc (unvisited (set st s mark))) g sense home last mark ahead s (set st s mark))
 
 module _ (g : Lent) (top st₀ : List ℕ) (r : Room) (f : FineGraph g top st₀ r) (cw : Bool) where
   abbrev G : Graph
@@ -137,7 +142,8 @@ module _ (g : Lent) (top st₀ : List ℕ) (r : Room) (f : FineGraph g top st₀
   led-cons w st (stopped number place) b h = tt
   led-cons w st (walks ws after) b h = (b, h)
 
-  led-after : (go : List ℕ → Scanned) (st : List ℕ) (k s : ℕ) (o : Walked) → isUnvisited st s ≡ true → ((j : ℕ) → isUnvisited st j ≡ true → before (G .a j) (G .a s) ≡ false)
+  led-after : (go : List ℕ → Scanned) (st : List ℕ) (k s : ℕ) (o : Walked) → isUnvisited st s ≡ true
+      → ((j : ℕ) → isUnvisited st j ≡ true → before (G .a j) (G .a s) ≡ false)
       → First (record { link = s; forward = not (senseOf G cw s) }) o → Visits (markOf (G .top s)) st o
       → ((after : List ℕ) → length after ≡ length st → Led after (go after)) → Led st (afterWalk k (G .top s) go o)
   led-after go st k s (stuck number) os l fs v h = tt
@@ -146,7 +152,8 @@ module _ (g : Lent) (top st₀ : List ℕ) (r : Room) (f : FineGraph g top st₀
       led-cons w st (go after) (record { link = s; rest = fs .0; steps-are = fs .1; hole-is = refl; unvisited-one = os; least = l })
       (subst (λ a. Led a (go after)) (v .0) (h after (ap length (v .0) ∙ marked-length (markOf (G .top s)) u st)))
 
-  led-at : (go : List ℕ → Scanned) (st : List ℕ) (k : ℕ) (n : Next) → firstLink G st k ≡ n → length st ≡ G .n → isUnvisited st k ≡ true → None (isUnvisited st) k
+  led-at : (go : List ℕ → Scanned) (st : List ℕ) (k : ℕ) (n : Next) → firstLink G st k ≡ n → length st ≡ G .n → isUnvisited st k ≡ true
+      → None (isUnvisited st) k
       → ((after : List ℕ) → length after ≡ length st → Led after (go after)) → Led st (scanAt G cw go st k n)
   led-at go st k Nothing e long o low h = tt
   led-at go st k (Link s) e long o low h =
@@ -160,5 +167,6 @@ module _ (g : Lent) (top st₀ : List ℕ) (r : Room) (f : FineGraph g top st₀
   scan-begins (suc fuel) st long =
       pick-ind (ltb (lowestUnvisited st) (length st)) _ (walks [] st) (Led st)
       (λ t. let q = some-of (isUnvisited st) (length st) t in
-      led-at (λ after. scanOn fuel G cw after) st (lowestUnvisited st) (firstLink G st (lowestUnvisited st)) refl long (q .passes) (q .lowest-one) (λ after e. scan-begins fuel after (e ∙ long)))
+      led-at (λ after. scanOn fuel G cw after) st (lowestUnvisited st) (firstLink G st (lowestUnvisited st)) refl long (q .passes) (q .lowest-one)
+      (λ after e. scan-begins fuel after (e ∙ long)))
       (λ n. tt)

@@ -64,7 +64,8 @@ module _ (g : Graph) where
       ∙ sum-areas ks
 
 -- The theorem: after a success the contours in the lent buffers enclose just the kept total that is returned.
-pub kept-enclosed : (g : Lent) (top : List ℕ) (cw : Bool) (minimum : ℕ) (b b′ : Buffers) (c : Counts) → extractedAs (Done c) b′ ≡ extracted g top cw minimum b → enclosed (writtenTable c b′) ≡ c .«kept_area»
+pub kept-enclosed : (g : Lent) (top : List ℕ) (cw : Bool) (minimum : ℕ) (b b′ : Buffers) (c : Counts) → extractedAs (Done c) b′
+    ≡ extracted g top cw minimum b → enclosed (writtenTable c b′) ≡ c .«kept_area»
 kept-enclosed g top cw minimum b b′ c h =
     let q = ran g top cw minimum b b′ c h in
-    ap enclosed (q .table-is) ∙ enclosed-is (graphOf g top) (kept (graphOf g top) minimum (q .all)) ∙ sym (ap (λ (x : Counts). x .kept) (q .counts-are))
+    ap enclosed (q .table-is) ∙ enclosed-is (graphOf g top) (kept (graphOf g top) minimum (q .all)) ∙ sym (ap (λ (x : Counts). x .«kept_area») (q .counts-are))

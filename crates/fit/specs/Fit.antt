@@ -38,7 +38,8 @@ use Rattle.fit.specs.Sizes.{table-sound, at-walks, three, links-in}
 use Rattle.fit.specs.Anchors.{AllBegin, Led, scan-begins}
 use Rattle.fit.specs.Leads.{lead, Leads, all-lead, all-ordered, kept-ordered, ordered-at, anchor-lead}
 
-module _ (g : Lent) (top st : List ℕ) (r : Room) (e : checked g top st r ≡ check.Fine) (cw : Bool) (minimum : ℕ) (ws : List Walk) (after : List ℕ) (s : scan (graphOf g top) cw st ≡ walks ws after) where
+module _ (g : Lent) (top st : List ℕ) (r : Room) (e : checked g top st r ≡ check.Fine) (cw : Bool) (minimum : ℕ) (ws : List Walk) (after : List ℕ)
+    (s : scan (graphOf g top) cw st ≡ walks ws after) where
   abbrev G : Graph
   G = graphOf g top
 
@@ -66,7 +67,9 @@ module _ (g : Lent) (top st : List ℕ) (r : Room) (e : checked g top st r ≡ c
   in-table c h = rw many at h
 
   leads : (c : ℕ) → c < length ks → Leads g top st r f cw (walkAt ks c)
-  leads c h = all-lead g top st r f cw st ws (scanned G cw st ws after s .fresh) led (links-in g top st r e cw minimum ws after s) (walkAt ks c) (at-walks g top st r e cw minimum ws after s c h)
+  leads c h =
+      all-lead g top st r f cw st ws (scanned G cw st ws after s .fresh) led (links-in g top st r e cw minimum ws after s) (walkAt ks c)
+      (at-walks g top st r e cw minimum ws after s c h)
 
   hole-of : (c : ℕ) → isHole t c ≡ true → walkAt ks c .hole ≡ true
   hole-of c h = by (walkAt ks c .hole) (sym (kinds-at ks c) ∙ eqb-true _ _ h)
@@ -84,7 +87,8 @@ module _ (g : Lent) (top st : List ℕ) (r : Room) (e : checked g top st r ≡ c
       let w = at-walks g top st r e cw minimum ws after s c h in
       let n = three g top st r e cw minimum ws after s c h in
       let closed = finished g top st r cw e ws after s (walkAt ks c) w .closed in
-      point-at G ks c (pick cw 1 0) h (low cw n) ∙ anchor-lead g top st r f cw (walkAt ks c) (closed .0) (leads c h) (hole-of c k) (links-in g top st r e cw minimum ws after s (walkAt ks c) w) (closed .1) (omega arith)
+      point-at G ks c (pick cw 1 0) h (low cw n) ∙ anchor-lead g top st r f cw (walkAt ks c) (closed .0) (leads c h) (hole-of c k)
+      (links-in g top st r e cw minimum ws after s (walkAt ks c) w) (closed .1) (omega arith)
     where
       low : (b : Bool) → 3 ≤ length (walkAt ks c .steps) → pick b 1 0 < length (walkAt ks c .steps)
       low true n = omega arith
@@ -98,7 +102,8 @@ module _ (g : Lent) (top st : List ℕ) (r : Room) (e : checked g top st r ≡ c
       let here = ap (point t) (sym at) ∙ point-at G ks c (p - firstOf t c) i (omega arith) in
       ap₂ before here (anchor-is c i k) ∙ each (walkAt ks c .steps) (leads c i .least) (p - firstOf t c) (omega arith)
     where
-      each : (l : List Step) → ((q : Step) → List·Memᴰ q l → before (left G q) (G .a (lead (walkAt ks c .steps))) ≡ false) → (i : ℕ) → i < length l → before (getD (map (left G) l) i origin) (G .a (lead (walkAt ks c .steps))) ≡ false
+      each : (l : List Step) → ((q : Step) → List·Memᴰ q l → before (left G q) (G .a (lead (walkAt ks c .steps))) ≡ false) → (i : ℕ) → i < length l
+          → before (getD (map (left G) l) i origin) (G .a (lead (walkAt ks c .steps))) ≡ false
       each [] a i h = absurd (nothing i h)
         where
           nothing : (i : ℕ) → i < 0 → ⊥
@@ -111,7 +116,8 @@ module _ (g : Lent) (top st : List ℕ) (r : Room) (e : checked g top st r ≡ c
     least = least;
     order = λ c d h k hc hd.
         ap₂ before (anchor-is d (in-table d k) hd) (anchor-is c (in-table c (omega arith)) hc)
-        ∙ ordered-at g top st r f cw ks (kept-ordered g top st r f cw minimum ws (all-ordered g top st r f cw st ws (scanned G cw st ws after s .fresh) led)) c d h (in-table d k);
+        ∙ ordered-at g top st r f cw ks
+        (kept-ordered g top st r f cw minimum ws (all-ordered g top st r f cw st ws (scanned G cw st ws after s .fresh) led)) c d h (in-table d k);
   })
 
 -- ---- what stands in the lent buffers after success, up to the counts that are returned
@@ -148,9 +154,11 @@ module _ (g : Lent) (top : List ℕ) (cw : Bool) (minimum : ℕ) (b b′ : Buffe
       let m : c .points ≡ sum (lens ks) = ap (λ (x : Counts). x .points) d in
       let ps : length (coordinates (allPoints H ks)) ≡ c .points * 2 = coordinates-length (allPoints H ks) ∙ ap (λ i. i * 2) (all-points-length H ks ∙ sym m) in
       let p = ap (λ (x : Extracted). take (c .points * 2) (x .lent .points)) h ∙ take-at (coordinates (allPoints H ks)) _ (c .points * 2) ps in
-      let x = ap (λ (x : Extracted). take (c .contours) (x .lent .first)) h ∙ take-at (firsts 0 (lens ks)) _ (c .contours) (firsts-length 0 (lens ks) ∙ lens-length ks ∙ sym n) in
+      let x = ap (λ (x : Extracted). take (c .contours) (x .lent .first)) h ∙ take-at (firsts 0 (lens ks)) _ (c .contours)
+      (firsts-length 0 (lens ks) ∙ lens-length ks ∙ sym n) in
       let y = ap (λ (x : Extracted). take (c .contours) (x .lent .len)) h ∙ take-at (lens ks) _ (c .contours) (lens-length ks ∙ sym n) in
-      let v = ap (λ (x : Extracted). take (c .contours) (x .lent .kind)) h ∙ take-at (kinds ks) _ (c .contours) (length-map ks (λ w. pick (w .hole) 1 0) ∙ sym n) in
+      let v = ap (λ (x : Extracted). take (c .contours) (x .lent .kind)) h
+      ∙ take-at (kinds ks) _ (c .contours) (length-map ks (λ w. pick (w .hole) 1 0) ∙ sym n) in
       record { fine-graph = k; all = ws; states = after; scanned-as = q; table-is = λ i. table (p i) (x i) (y i) (v i); contours-are = n; counts-are = d }
 
   by-checks : (o : Checked) → checked g top (b .state) rooms ≡ o → extractedAs (Done c) b′ ≡ afterChecks H cw minimum b o → Ran
@@ -166,6 +174,9 @@ module _ (g : Lent) (top : List ℕ) (cw : Bool) (minimum : ℕ) (b b′ : Buffe
       → (tableChecked (writtenTable c b′) owners ≡ check.Fine) × (anchorsChecked (writtenTable c b′) cw ≡ check.Fine)
   extraction-passes owners l h =
       let q = ran h in (
-        subst (λ t. tableChecked t owners ≡ check.Fine) (sym (q .table-is)) (passes-10 g top (b .state) rooms (q .fine-graph) cw minimum (q .all) (q .states) (q .scanned-as) owners (subst (λ k. k ≤ owners) (q .contours-are) l)),
-        subst (λ t. anchorsChecked t cw ≡ check.Fine) (sym (q .table-is)) (passes-11 g top (b .state) rooms (q .fine-graph) cw minimum (q .all) (q .states) (q .scanned-as)),
+        subst (λ t. tableChecked t owners ≡ check.Fine) (sym (q .table-is))
+            (passes-10 g top (b .state) rooms (q .fine-graph) cw minimum (q .all) (q .states) (q .scanned-as) owners
+            (subst (λ k. k ≤ owners) (q .contours-are) l)),
+        subst (λ t. anchorsChecked t cw ≡ check.Fine) (sym (q .table-is))
+            (passes-11 g top (b .state) rooms (q .fine-graph) cw minimum (q .all) (q .states) (q .scanned-as)),
       )

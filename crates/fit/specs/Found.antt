@@ -76,11 +76,13 @@ module _ (t : Table) (s : Sound t) (cw : Bool) (l : List ℕ) where
       omega (arith, m, count-most 0 (c + 1) (t .kind))
 
   -- a hull's owner is its own number; a hole's is below the hull count, or 65,535 with no hulls
-  right-of : (c o : ℕ) → (kindOf t c ≡ 0 → o ≡ shapeOf t c) → ((kindOf t c ≡ 0 → ⊥) → hullCount t ≡ 0 → o ≡ droppedOwner) → ((kindOf t c ≡ 0 → ⊥) → (hullCount t ≡ 0 → ⊥) → o < hullCount t)
+  right-of : (c o : ℕ) → (kindOf t c ≡ 0 → o ≡ shapeOf t c) → ((kindOf t c ≡ 0 → ⊥) → hullCount t ≡ 0 → o ≡ droppedOwner)
+      → ((kindOf t c ≡ 0 → ⊥) → (hullCount t ≡ 0 → ⊥) → o < hullCount t)
       → ownerRight (kindOf t c) o (shapeOf t c) (hullCount t) ≡ true
   right-of c o a b d = by (eqb (kindOf t c) 0) refl (eqb (hullCount t) 0) refl
     where
-      by : (x : Bool) → eqb (kindOf t c) 0 ≡ x → (y : Bool) → eqb (hullCount t) 0 ≡ y → pick x (eqb o (shapeOf t c)) (pick y (eqb o droppedOwner) (ltb o (hullCount t))) ≡ true
+      by : (x : Bool) → eqb (kindOf t c) 0 ≡ x → (y : Bool) → eqb (hullCount t) 0 ≡ y
+          → pick x (eqb o (shapeOf t c)) (pick y (eqb o droppedOwner) (ltb o (hullCount t))) ≡ true
       by true e y f = eq-eqb o (shapeOf t c) (a (eqb-true _ _ e))
       by false e true f = eq-eqb o droppedOwner (b (eqb-false _ _ e) (eqb-true _ _ f))
       by false e false f = lt-ltb o (hullCount t) (d (eqb-false _ _ e) (eqb-false _ _ f))
@@ -106,14 +108,16 @@ module _ (t : Table) (s : Sound t) (cw : Bool) (l : List ℕ) where
       all-below q h = owners-below t s h cw l q
 
       go : (a : Bool) → eqb (hullCount t) 0 ≡ a → (b : Bool) → eqb (hullCount t) 1 ≡ b
-          → pick a (owned All (replicate (contourCount t) droppedOwner)) (pick b (owned All (replicate (contourCount t) 0)) (searchedOwners t cw)) ≡ owned All l → Right t l
+          → pick a (owned All (replicate (contourCount t) droppedOwner)) (pick b (owned All (replicate (contourCount t) 0)) (searchedOwners t cw))
+          ≡ owned All l → Right t l
       go true f b k q =
           let z : replicate (contourCount t) droppedOwner ≡ l = split q .1 in
           let n : hullCount t ≡ 0 = eqb-true _ _ f in
           record {
             long = ap length (sym z) ∙ length-replicate (contourCount t) droppedOwner;
             right = λ c h.
-                right-of c (getD l c 0) (λ i. absurd (no-hull (shapeOf t c) (hullCount t) (counted c h i) n)) (λ i j. ap (λ (x : List ℕ). getD x c 0) (sym z) ∙ getD-replicate {A = ℕ} (contourCount t) c droppedOwner 0 h) (λ i j. absurd (j n));
+                right-of c (getD l c 0) (λ i. absurd (no-hull (shapeOf t c) (hullCount t) (counted c h i) n))
+                (λ i j. ap (λ (x : List ℕ). getD x c 0) (sym z) ∙ getD-replicate {A = ℕ} (contourCount t) c droppedOwner 0 h) (λ i j. absurd (j n));
           }
         where
           no-hull : (x y : ℕ) → x + 1 ≤ y → y ≡ 0 → ⊥
@@ -149,12 +153,14 @@ module _ (t : Table) (cw : Bool) (buffer owner : List ℕ) (shapes dropped : ℕ
   by-given : (w : Owned) → outcome (binding.Bound shapes dropped) owner ≡ handed t w buffer → (w .answer ≡ All) × (owner ≡ overFront (w .owners) buffer)
   by-given w h = go (w .answer) refl h
     where
-      go : (a : Given) → w .answer ≡ a → outcome (binding.Bound shapes dropped) owner ≡ handedBy t a (w .owners) buffer → (w .answer ≡ All) × (owner ≡ overFront (w .owners) buffer)
+      go : (a : Given) → w .answer ≡ a → outcome (binding.Bound shapes dropped) owner ≡ handedBy t a (w .owners) buffer → (w .answer ≡ All)
+          × (owner ≡ overFront (w .owners) buffer)
       go All q h = (q, ap (λ (x : Outcome). x .owner) h)
       go (Stuck c) q h = let z = ap (λ (x : Outcome). x .answer) h in let x : _≡_ {A = ℕ} 0 1 = cc in absurd (zero-one x)
 
   -- The theorem: where binding answers Bound, a lookup finds every contour below the count, and its record has the kind and the owner that were written.
-  pub every-found : outcome (binding.Bound shapes dropped) owner ≡ bound t cw buffer → (c : ℕ) → c < contourCount t → lookedUp t owner c ≡ Found (recordOf t owner c)
+  pub every-found : outcome (binding.Bound shapes dropped) owner ≡ bound t cw buffer → (c : ℕ) → c < contourCount t → lookedUp t owner c
+      ≡ Found (recordOf t owner c)
   every-found h c l =
       let q = by-checked (bothChecked t (length buffer) cw) refl h in
       let ten : tableChecked t (length buffer) ≡ Fine = first-fine (tableChecked t (length buffer)) (anchorsChecked t cw) (q .0) in
@@ -162,7 +168,8 @@ module _ (t : Table) (cw : Bool) (buffer owner : List ℕ) (shapes dropped : ℕ
       let w = by-given (ownersOf t cw) (q .1) in
       let r : Right t (ownersOf t cw .owners) = owners-right t (p .0) cw (ownersOf t cw .owners) (ap (λ a. owned a (ownersOf t cw .owners)) (w .0)) in
       let n : length owner ≡ length buffer = long (ownersOf t cw .owners) (w .1) (r .long) (p .1) in
-      let o : getD owner c 0 ≡ getD (ownersOf t cw .owners) c 0 = ap (λ (x : List ℕ). getD x c 0) (w .1) ∙ List·getD-append (ownersOf t cw .owners) _ 0 c (rw (r .long) l) in
+      let o : getD owner c 0 ≡ getD (ownersOf t cw .owners) c 0 = ap (λ (x : List ℕ). getD x c 0) (w .1)
+      ∙ List·getD-append (ownersOf t cw .owners) _ 0 c (rw (r .long) l) in
       found-record t owner c (record {
         below = l;
         passes = rw n ten;

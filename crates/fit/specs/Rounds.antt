@@ -28,7 +28,8 @@ marked-length m (s ∷ l) st = marked-length m l (set st (s .link) m) ∙ length
 fresh-below : (m : ℕ) (st : List ℕ) (l : List Step) → Fresh m st l → (p : Step) → List·Memᴰ p l → p .link < length st
 fresh-below m st [] f p i = absurd (List·Memᴰ·not-nil i)
 fresh-below m st (s ∷ l) f p i =
-    ⊎-elim (λ (e : p ≡ s). rw e (unvisited-below st (s .link) (f .0))) (λ k. rw (length-set st (s .link) m) at (fresh-below m (set st (s .link) m) l (f .1) p k)) (List·Memᴰ·cases-cons i)
+    ⊎-elim (λ (e : p ≡ s). rw e (unvisited-below st (s .link) (f .0)))
+    (λ k. rw (length-set st (s .link) m) at (fresh-below m (set st (s .link) m) l (f .1) p k)) (List·Memᴰ·cases-cons i)
 
 pub walked-below : (st : List ℕ) (ws : List Walk) → AllFresh st ws → (w : Walk) → List·Memᴰ w ws → (p : Step) → List·Memᴰ p (w .steps) → p .link < length st
 walked-below st [] f w m p i = absurd (List·Memᴰ·not-nil m)
@@ -64,7 +65,8 @@ module _ (g : Lent) (top st : List ℕ) (r : Room) (f : FineGraph g top st r) wh
   pub meets : (p q : Step) → p .link < G .n → q .link < G .n → nodeLeft G q ≡ nodeReached G p → left G q ≡ reached G p
   meets p q h k = by (q .forward) (p .forward)
     where
-      by : (b c : Bool) → pick b (G .aNode (q .link)) (G .bNode (q .link)) ≡ pick c (G .bNode (p .link)) (G .aNode (p .link)) → pick b (G .a (q .link)) (G .b (q .link)) ≡ pick c (G .b (p .link)) (G .a (p .link))
+      by : (b c : Bool) → pick b (G .aNode (q .link)) (G .bNode (q .link)) ≡ pick c (G .bNode (p .link)) (G .aNode (p .link))
+          → pick b (G .a (q .link)) (G .b (q .link)) ≡ pick c (G .b (p .link)) (G .a (p .link))
       by true true e = f .one-point .ab (q .link) (p .link) k h e
       by true false e = f .one-point .aa (q .link) (p .link) k h e
       by false true e = f .one-point .bb (q .link) (p .link) k h e
@@ -74,7 +76,8 @@ module _ (g : Lent) (top st : List ℕ) (r : Room) (f : FineGraph g top st r) wh
   neighbours p q h k e = rw (meets p q h k e) (apart p h)
 
   -- ---- along a line of steps
-  pub line-next : (l : List Step) (v u : ℕ) → Links l → Line G v l u → (i : ℕ) → suc i < length l → differ (getD (map (left G) l) i origin) (getD (map (left G) l) (suc i) origin) ≡ true
+  pub line-next : (l : List Step) (v u : ℕ) → Links l → Line G v l u → (i : ℕ) → suc i < length l
+      → differ (getD (map (left G) l) i origin) (getD (map (left G) l) (suc i) origin) ≡ true
   line-next [] v u a n i h = absurd (nothing i h)
     where
       nothing : (i : ℕ) → suc i < 0 → ⊥
@@ -87,7 +90,8 @@ module _ (g : Lent) (top st : List ℕ) (r : Room) (f : FineGraph g top st r) wh
   line-next (s ∷ (q ∷ l)) v u a n (suc i) h = line-next (q ∷ l) (nodeReached G s) u (λ p m. a p (List·Memᴰ·tail m)) (n .1) i (omega arith)
 
   -- from the last step to one that leaves the node where the line ends
-  pub line-last : (l : List Step) (v u : ℕ) → Links l → Line G v l u → (q : Step) → q .link < G .n → nodeLeft G q ≡ u → (i : ℕ) → suc i ≡ length l → differ (getD (map (left G) l) i origin) (left G q) ≡ true
+  pub line-last : (l : List Step) (v u : ℕ) → Links l → Line G v l u → (q : Step) → q .link < G .n → nodeLeft G q ≡ u → (i : ℕ) → suc i ≡ length l
+      → differ (getD (map (left G) l) i origin) (left G q) ≡ true
   line-last [] v u a n q k e i h = absurd (nothing i h)
     where
       nothing : (i : ℕ) → suc i ≡ 0 → ⊥

@@ -30,7 +30,8 @@ use Rattle.table.specs.Table.{Table, firstOf, rangeEnd, lenOf, contourCount, po
 use Rattle.table.specs.TableChecks.{startIn}
 use Rattle.table.specs.TableLaws.{next-inside, next-last}
 use Rattle.table.specs.Sound.{Sound}
-use Rattle.fit.specs.Places.{tableOf, walkAt, noWalk, origin, firsts-length, firsts-follow, firsts-end, firsts-within, lens-at, kinds-at, lens-length, point-at}
+use Rattle.fit.specs.Places.{tableOf, walkAt, noWalk, origin, firsts-length, firsts-follow, firsts-end, firsts-within, lens-at, kinds-at}
+use Rattle.fit.specs.Places.{lens-length, point-at}
 use Rattle.fit.specs.Rounds.{Links, left-grid, line-next, line-last, walked-below}
 
 -- ---- a kept walk is one of the walks, and has three points or more
@@ -53,7 +54,8 @@ unvisited-few (x ∷ st) = by (eqb x 0) (unvisited-few st)
     by true h = omega arith
     by false h = omega arith
 
-module _ (g : Lent) (top st : List ℕ) (r : Room) (e : checked g top st r ≡ Fine) (cw : Bool) (minimum : ℕ) (ws : List Walk) (after : List ℕ) (s : scan (graphOf g top) cw st ≡ walks ws after) where
+module _ (g : Lent) (top st : List ℕ) (r : Room) (e : checked g top st r ≡ Fine) (cw : Bool) (minimum : ℕ) (ws : List Walk) (after : List ℕ)
+    (s : scan (graphOf g top) cw st ≡ walks ws after) where
   abbrev G : Graph
   G = graphOf g top
 
@@ -78,12 +80,14 @@ module _ (g : Lent) (top st : List ℕ) (r : Room) (e : checked g top st r ≡ F
 
   -- point i and the next round a walk
   round : (w : Walk) → List·Memᴰ w ws → (i : ℕ) → i < length (w .steps)
-      → (suc i < length (w .steps) → differ (getD (points G w) i origin) (getD (points G w) (suc i) origin) ≡ true) × (suc i ≡ length (w .steps) → differ (getD (points G w) i origin) (getD (points G w) 0 origin) ≡ true)
+      → (suc i < length (w .steps) → differ (getD (points G w) i origin) (getD (points G w) (suc i) origin) ≡ true)
+      × (suc i ≡ length (w .steps) → differ (getD (points G w) i origin) (getD (points G w) 0 origin) ≡ true)
   round w m i h =
       let c = finished g top st r cw e ws after s w m .closed in
       (line-next g top st r f (w .steps) (c .0) (c .0) (links-in w m) (c .1) i, last (w .steps) (links-in w m) (c .0) (c .1))
     where
-      last : (l : List Step) → ((p : Step) → List·Memᴰ p l → p .link < G .n) → (v : ℕ) → Line G v l v → suc i ≡ length l → differ (getD (map (left G) l) i origin) (getD (map (left G) l) 0 origin) ≡ true
+      last : (l : List Step) → ((p : Step) → List·Memᴰ p l → p .link < G .n) → (v : ℕ) → Line G v l v → suc i ≡ length l
+          → differ (getD (map (left G) l) i origin) (getD (map (left G) l) 0 origin) ≡ true
       last [] a v n q = absurd (nothing q)
         where
           nothing : suc i ≡ 0 → ⊥
@@ -94,9 +98,12 @@ module _ (g : Lent) (top st : List ℕ) (r : Room) (e : checked g top st r ≡ F
   grid-all [] a q m = absurd (List·Memᴰ·not-nil m)
   grid-all (w ∷ l) a q m = in-walk (w .steps) (links-in w (a w (List·Memᴰ·head refl))) (λ k. grid-all l (λ x i. a x (List·Memᴰ·tail i)) q k) m
     where
-      in-walk : (u : List Step) → ((p : Step) → List·Memᴰ p u → p .link < G .n) → (List·Memᴰ q (allPoints G l) → OnGrid q) → List·Memᴰ q (map (left G) u ++ allPoints G l) → OnGrid q
+      in-walk : (u : List Step) → ((p : Step) → List·Memᴰ p u → p .link < G .n) → (List·Memᴰ q (allPoints G l) → OnGrid q)
+          → List·Memᴰ q (map (left G) u ++ allPoints G l) → OnGrid q
       in-walk [] b k m = k m
-      in-walk (p ∷ u) b k m = ⊎-elim (λ (x : q ≡ left G p). subst OnGrid (sym x) (left-grid g top st r f p (b p (List·Memᴰ·head refl)))) (λ i. in-walk u (λ x j. b x (List·Memᴰ·tail j)) k i) (List·Memᴰ·cases-cons m)
+      in-walk (p ∷ u) b k m =
+          ⊎-elim (λ (x : q ≡ left G p). subst OnGrid (sym x) (left-grid g top st r f p (b p (List·Memᴰ·head refl))))
+          (λ i. in-walk u (λ x j. b x (List·Memᴰ·tail j)) k i) (List·Memᴰ·cases-cons m)
 
   grid-of : (l : List Point) → ((q : Point) → List·Memᴰ q l → OnGrid q) → Grid (coordinates l)
   grid-of [] a i h = absurd (nothing i h)
@@ -144,8 +151,10 @@ module _ (g : Lent) (top st : List ℕ) (r : Room) (e : checked g top st r ≡ F
       let here : point t p ≡ getD (points G (walkAt ks c)) (p - firstOf t c) origin = ap (point t) (sym at) ∙ point-at G ks c (p - firstOf t c) k i in
       let d = round (walkAt ks c) (at-walks c k) (p - firstOf t c) i in
       elim (ℕ-discrete (p + 1) (rangeEnd t c)) [
-        | yes q ↦ ap₂ differ here (ap (point t) (next-last (firstOf t c) (rangeEnd t c) p q ∙ zero-more (firstOf t c)) ∙ point-at G ks c 0 k (omega arith)) ∙ d .1 (omega (arith, n))
-        | no m ↦ ap₂ differ here (ap (point t) (next-inside (firstOf t c) (rangeEnd t c) p (less m) ∙ one-more) ∙ point-at G ks c (suc (p - firstOf t c)) k (inside m n)) ∙ d .0 (inside m n)
+        | yes q ↦ ap₂ differ here (ap (point t) (next-last (firstOf t c) (rangeEnd t c) p q ∙ zero-more (firstOf t c))
+            ∙ point-at G ks c 0 k (omega arith)) ∙ d .1 (omega (arith, n))
+        | no m ↦ ap₂ differ here (ap (point t) (next-inside (firstOf t c) (rangeEnd t c) p (less m) ∙ one-more)
+            ∙ point-at G ks c (suc (p - firstOf t c)) k (inside m n)) ∙ d .0 (inside m n)
       ]
     where
       zero-more : (x : ℕ) → x ≡ x + 0

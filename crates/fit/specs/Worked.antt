@@ -41,7 +41,9 @@ none = 0 ∷ 0 ∷ []
 
 -- the triangle of E6
 abbrev triangle : Lent
-triangle = lent (p 0 ∷ p 0 ∷ p 0 ∷ []) (p 0 ∷ p 0 ∷ p 1 ∷ []) (p 0 ∷ p 1 ∷ p 1 ∷ []) (p 1 ∷ p 0 ∷ p 0 ∷ []) (0 ∷ 0 ∷ 1 ∷ []) (1 ∷ 2 ∷ 2 ∷ []) (0 ∷ 2 ∷ 4 ∷ 6 ∷ []) (0 ∷ 1 ∷ 0 ∷ 2 ∷ 1 ∷ 2 ∷ [])
+triangle =
+    lent (p 0 ∷ p 0 ∷ p 0 ∷ []) (p 0 ∷ p 0 ∷ p 1 ∷ []) (p 0 ∷ p 1 ∷ p 1 ∷ []) (p 1 ∷ p 0 ∷ p 0 ∷ []) (0 ∷ 0 ∷ 1 ∷ []) (1 ∷ 2 ∷ 2 ∷ [])
+    (0 ∷ 2 ∷ 4 ∷ 6 ∷ []) (0 ∷ 1 ∷ 0 ∷ 2 ∷ 1 ∷ 2 ∷ [])
 
 -- one hull (0,4) (0,0) (4,0) (4,4), doubled area 32
 abbrev hull : Extracted
@@ -53,7 +55,8 @@ abbrev pub rows : List Row
 rows =
     -- E1: no links, no nodes: done, nothing found
     extraction (lent [] [] [] [] [] [] (0 ∷ []) []) [] false 0 (nines [] 1 1)
-    (extractedAs (Done (record { contours = 0; points = 0; rejected = 0; walked = 0; «kept_area» = p 0; «rejected_area» = p 0 })) (buffers [] (p 0 ∷ p 0 ∷ []) (0 ∷ []) (0 ∷ []) (0 ∷ [])))
+    (extractedAs (Done (record { contours = 0; points = 0; rejected = 0; walked = 0; «kept_area» = p 0; «rejected_area» = p 0 }))
+    (buffers [] (p 0 ∷ p 0 ∷ []) (0 ∷ []) (0 ∷ []) (0 ∷ [])))
     -- E2: the square, counterclockwise, minimum 0
     ∷ extraction square tops false 0 (nines unvisited 5 2) hull
     -- E3: E2 clockwise: (0,0) (0,4) (4,4) (4,0)
@@ -64,14 +67,18 @@ rows =
     ∷ extraction square tops false 16 (nines unvisited 5 2) hull
     -- E5: 17 rejected, links walked 4
     ∷ extraction square tops false 17 (nines unvisited 5 2)
-    (extractedAs (Done (record { contours = 0; points = 0; rejected = 1; walked = 4; «kept_area» = p 0; «rejected_area» = p 32 })) (buffers (3 ∷ 3 ∷ 3 ∷ 3 ∷ []) (replicate 10 (p 0)) none none none))
+    (extractedAs (Done (record { contours = 0; points = 0; rejected = 1; walked = 4; «kept_area» = p 0; «rejected_area» = p 32 }))
+    (buffers (3 ∷ 3 ∷ 3 ∷ 3 ∷ []) (replicate 10 (p 0)) none none none))
     -- E6: the triangle of doubled area 1: minimum 0 keeps, 1 rejects
     ∷ extraction triangle (0 ∷ 1 ∷ 0 ∷ []) false 0 (nines (0 ∷ 0 ∷ 0 ∷ []) 3 1)
-    (extractedAs (Done (record { contours = 1; points = 3; rejected = 0; walked = 3; «kept_area» = p 1; «rejected_area» = p 0 })) (buffers (3 ∷ 3 ∷ 3 ∷ []) (p 0 ∷ p 1 ∷ p 0 ∷ p 0 ∷ p 1 ∷ p 0 ∷ []) (0 ∷ []) (3 ∷ []) (0 ∷ [])))
+    (extractedAs (Done (record { contours = 1; points = 3; rejected = 0; walked = 3; «kept_area» = p 1; «rejected_area» = p 0 }))
+    (buffers (3 ∷ 3 ∷ 3 ∷ []) (p 0 ∷ p 1 ∷ p 0 ∷ p 0 ∷ p 1 ∷ p 0 ∷ []) (0 ∷ []) (3 ∷ []) (0 ∷ [])))
     ∷ extraction triangle (0 ∷ 1 ∷ 0 ∷ []) false 1 (nines (0 ∷ 0 ∷ 0 ∷ []) 3 1)
-    (extractedAs (Done (record { contours = 0; points = 0; rejected = 1; walked = 3; «kept_area» = p 0; «rejected_area» = p 1 })) (buffers (3 ∷ 3 ∷ 3 ∷ []) (replicate 6 (p 0)) (0 ∷ []) (0 ∷ []) (0 ∷ [])))
+    (extractedAs (Done (record { contours = 0; points = 0; rejected = 1; walked = 3; «kept_area» = p 0; «rejected_area» = p 1 }))
+    (buffers (3 ∷ 3 ∷ 3 ∷ []) (replicate 6 (p 0)) (0 ∷ []) (0 ∷ []) (0 ∷ [])))
     -- E7: E2 with link 0 skipped: 8 at 1
-    ∷ extraction square tops false 0 (nines (1 ∷ 0 ∷ 0 ∷ 0 ∷ []) 5 2) (extractedAs (Refused 8 1) (buffers (1 ∷ 0 ∷ 0 ∷ 0 ∷ []) (replicate 10 (p 0)) none none none))
+    ∷ extraction square tops false 0 (nines (1 ∷ 0 ∷ 0 ∷ 0 ∷ []) 5 2)
+    (extractedAs (Refused 8 1) (buffers (1 ∷ 0 ∷ 0 ∷ 0 ∷ []) (replicate 10 (p 0)) none none none))
     -- E8: two walks of doubled area 2 rejected; one hull (10,-10) (0,0) (10,-20), doubled 100
     ∷ extraction fan fanTops false 2 (nines (replicate 9 0) 9 3)
     (extractedAs (Done (record { contours = 1; points = 3; rejected = 2; walked = 9; «kept_area» = p 100; «rejected_area» = p 4 }))

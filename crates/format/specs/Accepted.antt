@@ -11,13 +11,13 @@ use lib.Dec.{eqb, leb}
 use lib.ListN.{length, getD, take, drop, take-append-drop, length-take, length-drop, drop-of-length-le}
 use lib.Seq.{drop-cons, drop-drop}
 use Rattle.laws.specs.Test.{and-true}
-use Rattle.format.specs.Bytes.{u16At, u32At}
-use Rattle.format.specs.Records.{lengthAt, kindAt, bodyAt, endAt, run, past, settingsRight, Form, form, formOf}
-use Rattle.format.specs.Encoded.{little, recordOf, recordsOf}
-use Rattle.format.specs.Steps.{Told}
-use Rattle.format.specs.Runs.{Stands}
-use Rattle.format.specs.Lists.{Placed, placed}
-use Rattle.format.specs.declared.Run.{Run}
+use Rattle.format_numbers.specs.Bytes.{u16At, u32At}
+use Rattle.format_records.specs.Records.{lengthAt, kindAt, bodyAt, recordEnd, runTo, past, settingsRight, Form, form, formOf}
+use Rattle.format.specs.Encoded.{little, recordBytes, recordsBytes}
+use Rattle.format_records.specs.Steps.{Told}
+use Rattle.format_records.specs.Runs.{RecordsStand}
+use Rattle.format_records.specs.Forms.{FormPlaced, form-placed}
+use Rattle.format_records.specs.declared.Run.{Run}
 
 -- a list of bytes
 abbrev pub Bytes : List ℕ → Type 0
@@ -64,13 +64,13 @@ module _ (s : List ℕ) (bytes : Bytes s) (at : ℕ) where
   unfolding u16At
   kind-back = two-back _ _ (bytes (at + 4)) (bytes (at + 4 + 1))
 
-  body-back : drop (at + 6) s ≡ bodyAt s at ++ drop (endAt s at) s
+  body-back : drop (at + 6) s ≡ bodyAt s at ++ drop (recordEnd s at) s
   body-back =
       sym (take-append-drop (lengthAt s at) (drop (at + 6) s))
       ∙ ap (λ (t : List ℕ). bodyAt s at ++ t) (drop-drop (lengthAt s at) (at + 6) s)
 
   -- the record, and what comes after it
-  record-back : at + 6 ≤ length s → endAt s at ≤ length s → drop at s ≡ recordOf (kindAt s at) (bodyAt s at) ++ drop (endAt s at) s
+  record-back : at + 6 ≤ length s → recordEnd s at ≤ length s → drop at s ≡ recordBytes (kindAt s at) (bodyAt s at) ++ drop (recordEnd s at) s
   record-back h w =
       let l : length (bodyAt s at) ≡ lengthAt s at = simp (length-take, length-drop) (omega arith) in
       head-bytes h
@@ -79,15 +79,16 @@ module _ (s : List ℕ) (bytes : Bytes s) (at : ℕ) where
 
 -- ---- a run, and the whole file
 
-stands-back : (kind : ℕ) (s : List ℕ) → Bytes s → (bs : List (List ℕ)) (r r′ : Run) → Stands kind s r bs r′ → drop (r .at) s ≡ recordsOf kind bs ++ drop (r′ .at) s
-unfolding recordsOf
+stands-back : (kind : ℕ) (s : List ℕ) → Bytes s → (bs : List (List ℕ)) (r r′ : Run) → RecordsStand kind s r bs r′ → drop (r .at) s
+    ≡ recordsBytes kind bs ++ drop (r′ .at) s
+unfolding recordsBytes
 stands-back kind s bytes [] r r′ h = ap (λ (x : Run). drop (x .at) s) h
 stands-back kind s bytes (b ∷ bs) r r′ h =
     record-back s bytes (r .at) (h .0 .head) (h .0 .whole)
     ∙ ap₂ (λ (x : List ℕ) (y : List ℕ). x ++ y)
-    (ap₂ recordOf (h .0 .kind-is) (sym (h .1)))
+    (ap₂ recordBytes (h .0 .kind-is) (sym (h .1)))
     (stands-back kind s bytes bs (past s r) r′ (h .2))
-    ∙ sym (append-assoc (recordOf kind b) (recordsOf kind bs) (drop (r′ .at) s))
+    ∙ sym (append-assoc (recordBytes kind b) (recordsBytes kind bs) (drop (r′ .at) s))
 
 -- the settings, in numbers
 record Settings (s : List ℕ) : Type 0 where
@@ -109,15 +110,15 @@ settings-say s h =
 
 -- a file of right form is its records and nothing else
 pub accepted : (s : List ℕ) → Bytes s → (links nodes : List (List ℕ)) → formOf s ≡ form links nodes
-    → s ≡ recordOf 3 (bodyAt s 0) ++ (recordsOf 1 links ++ recordsOf 2 nodes)
+    → s ≡ recordBytes 3 (bodyAt s 0) ++ (recordsBytes 1 links ++ recordsBytes 2 nodes)
 accepted s bytes links nodes e =
-    let p = placed s links nodes e in
+    let p = form-placed s links nodes e in
     let t = settings-say s (p .right) in
     record-back s bytes 0 (omega (arith, t .long)) (omega (arith, t .long, t .nine))
-    ∙ ap₂ (λ (x : List ℕ) (y : List ℕ). x ++ y) (ap (λ k. recordOf k (bodyAt s 0)) (t .three))
+    ∙ ap₂ (λ (x : List ℕ) (y : List ℕ). x ++ y) (ap (λ k. recordBytes k (bodyAt s 0)) (t .three))
     (ap (λ n. drop (0 + 6 + n) s) (t .nine)
-    ∙ stands-back 1 s bytes links (run 15 0 0) (p .between) (p .links-stand)
-    ∙ ap (λ (x : List ℕ). recordsOf 1 links ++ x)
-    (stands-back 2 s bytes nodes (run (p .between .at) 0 0) (p .last) (p .nodes-stand)
-    ∙ ap (λ (x : List ℕ). recordsOf 2 nodes ++ x) (drop-of-length-le s {i = p .last .at} (omega (arith, p .ends)))
-    ∙ append-nil (recordsOf 2 nodes)))
+    ∙ stands-back 1 s bytes links (runTo 15 0 0) (p .between) (p .links-stand)
+    ∙ ap (λ (x : List ℕ). recordsBytes 1 links ++ x)
+    (stands-back 2 s bytes nodes (runTo (p .between .at) 0 0) (p .last) (p .nodes-stand)
+    ∙ ap (λ (x : List ℕ). recordsBytes 2 nodes ++ x) (drop-of-length-le s {i = p .last .at} (omega (arith, p .ends)))
+    ∙ append-nil (recordsBytes 2 nodes)))

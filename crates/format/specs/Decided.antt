@@ -10,17 +10,19 @@ use lib.Dec.{eqb, ltb, leb}
 use lib.ListN.{length, getD, take, drop, length-take, length-drop}
 use lib.Seq.{getD-take, getD-drop, length-take-le, take-all, ext-getD}
 use Rattle.laws.specs.Test.{pick}
-use Rattle.format.specs.Bytes.{u16At, u32At}
-use Rattle.format.specs.Limits.{maxLinks, maxNodes, maxEntries, fileBytes}
-use Rattle.format.specs.Records.{lengthAt, kindAt, bodyAt, endAt, headed, headNumber, bodyNumber, firstNumber, recordNumber, refusal, run, past, stepAt, Ran, ran, fault, with, onStep, runFrom, runAt, looks, settingsRight, Form, form, refused, onRan, nodesAfter, formOf}
+use Rattle.format_numbers.specs.Bytes.{u16At, u32At}
+use Rattle.turn.specs.Limits.{maxLinks}
+use Rattle.format_records.specs.Limits.{maxNodes, maxEntries, fileBytes, maxRecords}
+use Rattle.format_records.specs.Records.{lengthAt, kindAt, bodyAt, recordEnd, headed, headNumber, bodyNumber, firstNumber, recordNumber, refusal}
+use Rattle.format_records.specs.Records.{runTo, past, stepAt, Ran, ran, fault, with, onStep, runFrom, runAt, looks, settingsRight, Form, form}
+use Rattle.format_records.specs.Records.{refused, onRan, nodesAfter, formOf}
 use Rattle.format.specs.File.{File, fileFrom, fileOf}
-use Rattle.format.specs.Steps.{Told, next-tells, link-zero, node-zero}
-use Rattle.format.specs.Runs.{Stands, stands}
-use Rattle.format.specs.Forms.{stands-links, stands-count, stands-few}
-use Rattle.format.specs.Lists.{Placed, placed}
-use Rattle.format.specs.declared.Run.{Run}
-use Rattle.format.specs.declared.Step.{Step}
-use Rattle.format.specs.declared.Step.the-variants.{Next, Other, Fault}
+use Rattle.format_records.specs.Steps.{Told, next-tells, link-zero, node-zero}
+use Rattle.format_records.specs.Runs.{RecordsStand, stands}
+use Rattle.format_records.specs.Forms.{stands-links, stands-count, stands-few, FormPlaced, form-placed}
+use Rattle.format_records.specs.declared.Run.{Run}
+use Rattle.format_records.specs.declared.RunStep.{RunStep}
+use Rattle.format_records.specs.declared.RunStep.the-variants.{Next, Other, Fault}
 
 -- a place before the end
 before-end : (n p l : ℕ) → p + 6 ≤ n → n ≤ l → p ≡ l → ⊥
@@ -41,7 +43,7 @@ module _ (n : ℕ) (enough : fileBytes ≤ n) (s : List ℕ) (more : n < length 
   unfolding u32At
   same-u32 i h = ap₂ (λ x y. x + 65536 * y) (same-u16 i (omega arith)) (same-u16 (i + 2) (omega arith))
 
-  same-body : (at : ℕ) → at + 6 ≤ n → endAt s at ≤ n → bodyAt (take n s) at ≡ bodyAt s at
+  same-body : (at : ℕ) → at + 6 ≤ n → recordEnd s at ≤ n → bodyAt (take n s) at ≡ bodyAt s at
   same-body at h k =
       let e = same-u32 at (omega arith) in
       ap (λ j. take j (drop (at + 6) (take n s))) e ∙ by-bytes (lengthAt s at) k
@@ -59,7 +61,7 @@ module _ (n : ℕ) (enough : fileBytes ≤ n) (s : List ℕ) (more : n < length 
 
   -- a step that looks at these bytes alone
   module _ (kind : ℕ) (r : Run) (h : r .at + 6 ≤ n)
-      (fine : headNumber kind (r .count) (r .size) (lengthAt s (r .at)) ≡ 0 → endAt s (r .at) ≤ n) where
+      (fine : headNumber kind (r .count) (r .size) (lengthAt s (r .at)) ≡ 0 → recordEnd s (r .at) ≤ n) where
     same-length : lengthAt (take n s) (r .at) ≡ lengthAt s (r .at)
     same-length = same-u32 (r .at) (omega arith)
 
@@ -68,12 +70,12 @@ module _ (n : ℕ) (enough : fileBytes ≤ n) (s : List ℕ) (more : n < length 
     same-number = rw same-length (by-test (eqb (headNumber kind (r .count) (r .size) (lengthAt s (r .at))) 0) refl)
       where
         by-test : (b : Bool) → eqb (headNumber kind (r .count) (r .size) (lengthAt s (r .at))) 0 ≡ b
-            → firstNumber (headNumber kind (r .count) (r .size) (lengthAt s (r .at))) (pick (leb (endAt s (r .at)) (length (take n s))) 0 13)
+            → firstNumber (headNumber kind (r .count) (r .size) (lengthAt s (r .at))) (pick (leb (recordEnd s (r .at)) (length (take n s))) 0 13)
             ≡ firstNumber (headNumber kind (r .count) (r .size) (lengthAt s (r .at))) (bodyNumber s (r .at))
         by-test false e = rw e
         by-test true e =
             let k = fine (eqb-true (headNumber kind (r .count) (r .size) (lengthAt s (r .at))) 0 e) in
-            rw (short-length, le-leb (endAt s (r .at)) n k, le-leb (endAt s (r .at)) (length s) (omega arith))
+            rw (short-length, le-leb (recordEnd s (r .at)) n k, le-leb (recordEnd s (r .at)) (length s) (omega arith))
 
     same-step : stepAt kind (take n s) r ≡ stepAt kind s r
     unfolding stepAt
@@ -82,10 +84,10 @@ module _ (n : ℕ) (enough : fileBytes ≤ n) (s : List ℕ) (more : n < length 
 
   -- a run that stays within these bytes, by a bound that its records keep
   module _ (kind : ℕ) (Within : Run → Type 0) (near : (r : Run) → Within r → r .at + 6 ≤ n)
-      (fine : (r : Run) → Within r → headNumber kind (r .count) (r .size) (lengthAt s (r .at)) ≡ 0 → endAt s (r .at) ≤ n)
+      (fine : (r : Run) → Within r → headNumber kind (r .count) (r .size) (lengthAt s (r .at)) ≡ 0 → recordEnd s (r .at) ≤ n)
       (keeps : (r : Run) → Within r → Told kind s r → Within (past s r)) where
     by-step : (m : ℕ) (r : Run) → Within r → ((y : Run) → Within y → runFrom m kind (take n s) y ≡ runFrom m kind s y)
-        → (x : Step) → stepAt kind s r ≡ x
+        → (x : RunStep) → stepAt kind s r ≡ x
         → onStep x (λ y. with (bodyAt (take n s) (r .at)) (runFrom m kind (take n s) y)) (ran r [])
         ≡ onStep x (λ y. with (bodyAt s (r .at)) (runFrom m kind s y)) (ran r [])
     by-step m r w ih (Next y) e =
@@ -98,10 +100,10 @@ module _ (n : ℕ) (enough : fileBytes ≤ n) (s : List ℕ) (more : n < length 
     unfolding runFrom
     same-run zero r w = refl
     same-run (suc m) r w =
-        ap (λ (x : Step). onStep x (λ y. with (bodyAt (take n s) (r .at)) (runFrom m kind (take n s) y)) (ran r [])) (same-step kind r (near r w) (fine r w))
+        ap (λ (x : RunStep). onStep x (λ y. with (bodyAt (take n s) (r .at)) (runFrom m kind (take n s) y)) (ran r [])) (same-step kind r (near r w) (fine r w))
         ∙ by-step m r w (λ y v. same-run m y v) (stepAt kind s r) refl
 
-    within-end : (bs : List (List ℕ)) (r r′ : Run) → Within r → Stands kind s r bs r′ → Within r′
+    within-end : (bs : List (List ℕ)) (r r′ : Run) → Within r → RecordsStand kind s r bs r′ → Within r′
     within-end [] r r′ w h = subst Within h w
     within-end (b ∷ bs) r r′ w h = within-end bs (past s r) r′ (keeps r w (h .0)) (h .2)
 
@@ -109,12 +111,12 @@ module _ (n : ℕ) (enough : fileBytes ≤ n) (s : List ℕ) (more : n < length 
 
   record LinksWithin (r : Run) : Type 0 where
     place : r .at ≡ 15 + 28 * r .count
-    few : r .count ≤ 4096
+    few : r .count ≤ maxRecords
 
   links-near : (r : Run) → LinksWithin r → r .at + 6 ≤ n
   links-near r w = omega (arith, w .place, w .few)
 
-  links-fine : (r : Run) → LinksWithin r → headNumber 1 (r .count) (r .size) (lengthAt s (r .at)) ≡ 0 → endAt s (r .at) ≤ n
+  links-fine : (r : Run) → LinksWithin r → headNumber 1 (r .count) (r .size) (lengthAt s (r .at)) ≡ 0 → recordEnd s (r .at) ≤ n
   links-fine r w z = let l = link-zero (r .count) (lengthAt s (r .at)) z in omega (arith, w .place, w .few, l .0, l .1)
 
   links-keep : (r : Run) → LinksWithin r → Told 1 s r → LinksWithin (past s r)
@@ -122,30 +124,30 @@ module _ (n : ℕ) (enough : fileBytes ≤ n) (s : List ℕ) (more : n < length 
       let l = link-zero (r .count) (lengthAt s (r .at)) (t .number) in
       record { place = omega (arith, w .place, l .0); few = omega (arith, l .1) }
 
-  links-begin : LinksWithin (run 15 0 0)
+  links-begin : LinksWithin (runTo 15 0 0)
   links-begin = record { place = refl; few = omega arith }
 
   same-links : runAt 1 (take n s) 15 ≡ runAt 1 s 15
-  same-links = same-run 1 LinksWithin links-near links-fine links-keep looks (run 15 0 0) links-begin
+  same-links = same-run 1 LinksWithin links-near links-fine links-keep looks (runTo 15 0 0) links-begin
 
   -- they end at most here
-  links-end : (r : Run) (ls : List (List ℕ)) → Stands 1 s (run 15 0 0) ls r → r .at ≤ 15 + 28 * 4096
+  links-end : (r : Run) (ls : List (List ℕ)) → RecordsStand 1 s (runTo 15 0 0) ls r → r .at ≤ 15 + 28 * maxLinks
   links-end r ls h =
-      let w = within-end 1 LinksWithin links-near links-fine links-keep ls (run 15 0 0) r links-begin h in
+      let w = within-end 1 LinksWithin links-near links-fine links-keep ls (runTo 15 0 0) r links-begin h in
       omega (arith, w .place, w .few)
 
   -- ---- the nodes, from there on
 
-  module _ (a : ℕ) (low : a ≤ 15 + 28 * 4096) where
+  module _ (a : ℕ) (low : a ≤ 15 + 28 * maxLinks) where
     record NodesWithin (r : Run) : Type 0 where
       place : r .at ≡ a + 6 * r .count + r .size
-      few : r .count ≤ 4096
-      small : r .size ≤ 16384
+      few : r .count ≤ maxRecords
+      small : r .size ≤ 2 * maxEntries
 
     nodes-near : (r : Run) → NodesWithin r → r .at + 6 ≤ n
     nodes-near r w = omega (arith, w .place, w .few, w .small)
 
-    nodes-fine : (r : Run) → NodesWithin r → headNumber 2 (r .count) (r .size) (lengthAt s (r .at)) ≡ 0 → endAt s (r .at) ≤ n
+    nodes-fine : (r : Run) → NodesWithin r → headNumber 2 (r .count) (r .size) (lengthAt s (r .at)) ≡ 0 → recordEnd s (r .at) ≤ n
     nodes-fine r w z = let l = node-zero (r .count) (r .size) (lengthAt s (r .at)) z in omega (arith, w .place, w .few, w .small, l .1, l .2)
 
     nodes-keep : (r : Run) → NodesWithin r → Told 2 s r → NodesWithin (past s r)
@@ -153,15 +155,15 @@ module _ (n : ℕ) (enough : fileBytes ≤ n) (s : List ℕ) (more : n < length 
         let l = node-zero (r .count) (r .size) (lengthAt s (r .at)) (t .number) in
         record { place = omega (arith, w .place); few = omega (arith, l .1); small = omega (arith, l .2) }
 
-    nodes-begin : NodesWithin (run a 0 0)
+    nodes-begin : NodesWithin (runTo a 0 0)
     nodes-begin = record { place = omega arith; few = omega arith; small = omega arith }
 
     same-nodes : runAt 2 (take n s) a ≡ runAt 2 s a
-    same-nodes = same-run 2 NodesWithin nodes-near nodes-fine nodes-keep looks (run a 0 0) nodes-begin
+    same-nodes = same-run 2 NodesWithin nodes-near nodes-fine nodes-keep looks (runTo a 0 0) nodes-begin
 
     -- their end lies before the end of either list
-    nodes-end : (x : Run) (ns : List (List ℕ)) → Stands 2 s (run a 0 0) ns x → x .at + 6 ≤ n
-    nodes-end x ns h = nodes-near x (within-end 2 NodesWithin nodes-near nodes-fine nodes-keep ns (run a 0 0) x nodes-begin h)
+    nodes-end : (x : Run) (ns : List (List ℕ)) → RecordsStand 2 s (runTo a 0 0) ns x → x .at + 6 ≤ n
+    nodes-end x ns h = nodes-near x (within-end 2 NodesWithin nodes-near nodes-fine nodes-keep ns (runTo a 0 0) x nodes-begin h)
 
     same-after : (ls : List (List ℕ)) → nodesAfter (take n s) ls a ≡ nodesAfter s ls a
     same-after ls =
@@ -173,7 +175,7 @@ module _ (n : ℕ) (enough : fileBytes ≤ n) (s : List ℕ) (more : n < length 
             ≡ onRan t (λ x ns. pick (eqb (x .at) (length s)) (form ls ns) (refused (refusal 13 (x .at))))
         by (fault f) e = refl
         by (ran x ns) e =
-            let k = nodes-end x ns (stands 2 s looks (run a 0 0) x ns e) in
+            let k = nodes-end x ns (stands 2 s looks (runTo a 0 0) x ns e) in
             rw (
               ne-eqb (x .at) (length (take n s)) (before-end n (x .at) (length (take n s)) k (omega (arith, short-length))),
               ne-eqb (x .at) (length s) (before-end n (x .at) (length s) k (omega arith)),
@@ -184,7 +186,14 @@ module _ (n : ℕ) (enough : fileBytes ≤ n) (s : List ℕ) (more : n < length 
   same-settings : settingsRight (take n s) ≡ settingsRight s
   unfolding settingsRight
   same-settings =
-      rw (short-length, le-leb 15 n (omega arith), le-leb 15 (length s) (omega arith), same-u32 0 (omega arith), same-u16 4 (omega arith), getD-take n s 6 0 (omega arith))
+      rw (
+        short-length,
+        le-leb 15 n (omega arith),
+        le-leb 15 (length s) (omega arith),
+        same-u32 0 (omega arith),
+        same-u16 4 (omega arith),
+        getD-take n s 6 0 (omega arith),
+      )
 
   same-form : formOf (take n s) ≡ formOf s
   unfolding formOf
@@ -194,7 +203,7 @@ module _ (n : ℕ) (enough : fileBytes ≤ n) (s : List ℕ) (more : n < length 
     where
       by : (t : Ran) → runAt 1 s 15 ≡ t → onRan t (λ r ls. nodesAfter (take n s) ls (r .at)) ≡ onRan t (λ r ls. nodesAfter s ls (r .at))
       by (fault f) e = refl
-      by (ran r ls) e = same-after (r .at) (links-end r ls (stands 1 s looks (run 15 0 0) r ls e)) ls
+      by (ran r ls) e = same-after (r .at) (links-end r ls (stands 1 s looks (runTo 15 0 0) r ls e)) ls
 
   -- such a file is refused, since it goes on after the last record that it may have
   same-file : fileOf (take n s) ≡ fileOf s
@@ -203,7 +212,7 @@ module _ (n : ℕ) (enough : fileBytes ≤ n) (s : List ℕ) (more : n < length 
       by : (x : Form) → formOf s ≡ x → fileFrom (take n s) x ≡ fileFrom s x
       by (refused f) e = refl
       by (form ls ns) e =
-          let p = placed s ls ns e in
+          let p = form-placed s ls ns e in
           let low = links-end (p .between) ls (p .links-stand) in
           absurd (before-end n (p .last .at) (length s) (nodes-end (p .between .at) low (p .last) ns (p .nodes-stand)) (omega arith) (p .ends))
 

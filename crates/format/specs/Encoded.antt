@@ -6,8 +6,9 @@ use lib.IntN.{ℤ, pos, negsuc}
 use lib.ListN.{length}
 use lib.Signed.{mag}
 use Rattle.laws.specs.Test.{pick}
-use Rattle.format.specs.Limits.{maxLinks, maxNodes, maxEntries}
-use Rattle.format.specs.File.{Graph}
+use Rattle.turn.specs.Limits.{maxLinks}
+use Rattle.format_records.specs.Limits.{maxNodes, maxEntries}
+use Rattle.format.specs.File.{Contents}
 
 -- a number in so many bytes, little-endian
 abbrev pub little : ℕ → ℕ → List ℕ
@@ -20,15 +21,15 @@ bitsOf (pos n) = n
 bitsOf (negsuc n) = 4294967295 - n
 
 -- "four-byte length of the body, two-byte kind, body"
-abbrev pub recordOf : ℕ → List ℕ → List ℕ
-recordOf kind body = little 4 (length body) ++ (little 2 kind ++ body)
+abbrev pub recordBytes : ℕ → List ℕ → List ℕ
+recordBytes kind body = little 4 (length body) ++ (little 2 kind ++ body)
 
-unfoldable pub recordsOf : ℕ → List (List ℕ) → List ℕ
-recordsOf kind [] = []
-recordsOf kind (body ∷ rest) = recordOf kind body ++ recordsOf kind rest
+unfoldable pub recordsBytes : ℕ → List (List ℕ) → List ℕ
+recordsBytes kind [] = []
+recordsBytes kind (body ∷ rest) = recordBytes kind body ++ recordsBytes kind rest
 
 -- a link: "ax, ay, bx, by as signed 32-bit, two 16-bit ids, top, state"
-pub record Link : Type 0 where
+pub record LinkRecord : Type 0 where
   pub ax : ℤ
   pub ay : ℤ
   pub bx : ℤ
@@ -38,7 +39,7 @@ pub record Link : Type 0 where
   pub top : ℕ
   pub state : ℕ
 
-unfoldable pub linkBody : Link → List ℕ
+unfoldable pub linkBody : LinkRecord → List ℕ
 linkBody l =
     little 4 (bitsOf (l .ax))
     ++ (little 4 (bitsOf (l .ay))
@@ -53,9 +54,9 @@ abbrev pub settingsBody : Bool → ℕ → List ℕ
 settingsBody clockwise minimum = pick clockwise 1 0 ∷ little 8 minimum
 
 -- the file
-abbrev pub encoded : Bool → ℕ → List Link → List (List ℕ) → List ℕ
+abbrev pub encoded : Bool → ℕ → List LinkRecord → List (List ℕ) → List ℕ
 encoded clockwise minimum links nodes =
-    recordOf 3 (settingsBody clockwise minimum) ++ (recordsOf 1 (map linkBody links) ++ recordsOf 2 (map nodeBody nodes))
+    recordBytes 3 (settingsBody clockwise minimum) ++ (recordsBytes 1 (map linkBody links) ++ recordsBytes 2 (map nodeBody nodes))
 
 -- ---- the lists of the same graph
 
@@ -67,25 +68,25 @@ unfoldable pub positions : ℕ → List (List ℕ) → List ℕ
 positions e [] = e ∷ []
 positions e (node ∷ rest) = e ∷ positions (e + length node) rest
 
-abbrev pub listsOf : Bool → ℕ → List Link → List (List ℕ) → Graph
-listsOf clockwise minimum links nodes = record {
+abbrev pub graphContents : Bool → ℕ → List LinkRecord → List (List ℕ) → Contents
+graphContents clockwise minimum links nodes = record {
   clockwise = clockwise;
   minimum = minimum;
-  ax = map (λ (l : Link). l .ax) links;
-  ay = map (λ (l : Link). l .ay) links;
-  bx = map (λ (l : Link). l .bx) links;
-  by = map (λ (l : Link). l .by) links;
-  aId = map (λ (l : Link). l .aId) links;
-  bId = map (λ (l : Link). l .bId) links;
-  top = map (λ (l : Link). l .top) links;
-  state = map (λ (l : Link). l .state) links;
+  ax = map (λ (l : LinkRecord). l .ax) links;
+  ay = map (λ (l : LinkRecord). l .ay) links;
+  bx = map (λ (l : LinkRecord). l .bx) links;
+  by = map (λ (l : LinkRecord). l .by) links;
+  aId = map (λ (l : LinkRecord). l .aId) links;
+  bId = map (λ (l : LinkRecord). l .bId) links;
+  top = map (λ (l : LinkRecord). l .top) links;
+  state = map (λ (l : LinkRecord). l .state) links;
   start = positions 0 nodes;
   list = joined nodes;
 }
 
 -- ---- what fits the file: numbers of the widths that it gives them, and no more links, nodes and entries than it may have
 
-pub record LinkFits (l : Link) : Type 0 where
+pub record LinkFits (l : LinkRecord) : Type 0 where
   pub ax : mag (l .ax) < 2 ^ 31
   pub ay : mag (l .ay) < 2 ^ 31
   pub bx : mag (l .bx) < 2 ^ 31
@@ -93,7 +94,7 @@ pub record LinkFits (l : Link) : Type 0 where
   pub aId : l .aId < 2 ^ 16
   pub bId : l .bId < 2 ^ 16
 
-abbrev pub LinksFit : List Link → Type 0
+abbrev pub LinksFit : List LinkRecord → Type 0
 LinksFit [] = Unit
 LinksFit (l ∷ ls) = LinkFits l × LinksFit ls
 
@@ -105,7 +106,7 @@ abbrev pub NodesFit : List (List ℕ) → Type 0
 NodesFit [] = Unit
 NodesFit (n ∷ ns) = NodeFits n × NodesFit ns
 
-pub record FileFits (least : ℕ) (ls : List Link) (ns : List (List ℕ)) : Type 0 where
+pub record FileFits (least : ℕ) (ls : List LinkRecord) (ns : List (List ℕ)) : Type 0 where
   pub minimum : least < 2 ^ 64
   pub links : LinksFit ls
   pub nodes : NodesFit ns

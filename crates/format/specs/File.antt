@@ -5,33 +5,21 @@ use mathlib.Core.List.{List, [], _∷_, _++_, map}
 use lib.Dec.{eqb}
 use lib.IntN.{ℤ}
 use lib.ListN.{length, getD}
-use Rattle.format.specs.Put.{over}
-use Rattle.format.specs.Bytes.{u16At, u64At, i32At}
-use Rattle.format.specs.Limits.{maxLinks, maxNodes, maxEntries}
-use Rattle.format.specs.Records.{Form, form, refused, formOf}
-use Rattle.format.specs.declared.Refusal.{Refusal}
+use Rattle.writing.specs.Put.{atFront}
+use Rattle.format_numbers.specs.Bytes.{u16At, u64At, i32At}
+use Rattle.turn.specs.Limits.{maxLinks}
+use Rattle.format_records.specs.Limits.{maxNodes, maxEntries}
+use Rattle.format_records.specs.Records.{Form, form, refused, formOf, flatList}
+use Rattle.format_records.specs.declared.Refusal.{Refusal}
 use Rattle.format.specs.declared.FileRead.{FileRead}
 use Rattle.format.specs.declared.FileRead.the-variants as answer
-
--- n values of a reader of bytes, from index i on at every d-th
-unfoldable pub every : {A : Type 0} → (ℕ → A) → ℕ → ℕ → ℕ → List A
-every f d i zero = []
-every f d i (suc n) = f i ∷ every f d (i + d) n
-
--- a node's body: "16-bit link numbers"
-abbrev pub entriesOf : List ℕ → List ℕ
-entriesOf body = every (u16At body) 2 0 (length body / 2)
-
-unfoldable pub listOf : List (List ℕ) → List ℕ
-listOf [] = []
-listOf (body ∷ rest) = entriesOf body ++ listOf rest
 
 -- "start positions (m + 1 of them) into one flat list", the first at e
 unfoldable pub startsOf : ℕ → List (List ℕ) → List ℕ
 startsOf e [] = e ∷ []
 startsOf e (body ∷ rest) = e ∷ startsOf (e + length body / 2) rest
 
-pub record Graph : Type 0 where
+pub record Contents : Type 0 where
   pub clockwise : Bool
   pub minimum : ℕ
   pub ax : List ℤ
@@ -46,8 +34,8 @@ pub record Graph : Type 0 where
   pub list : List ℕ
 
 -- "direction byte, eight-byte minimum"; "ax, ay, bx, by as signed 32-bit, two 16-bit ids, top, state"
-abbrev pub graphOf : List ℕ → List (List ℕ) → List (List ℕ) → Graph
-graphOf s links nodes = record {
+abbrev pub contentsOf : List ℕ → List (List ℕ) → List (List ℕ) → Contents
+contentsOf s links nodes = record {
   clockwise = eqb (getD s 6 0) 1;
   minimum = u64At s 7;
   ax = map (λ b. i32At b 0) links;
@@ -59,15 +47,15 @@ graphOf s links nodes = record {
   top = map (λ b. getD b 20 0) links;
   state = map (λ b. getD b 21 0) links;
   start = startsOf 0 nodes;
-  list = listOf nodes;
+  list = flatList nodes;
 }
 
 pub data File : Type 0 where
-  graph : Graph → File
+  holding : Contents → File
   refusedFile : Refusal → File
 
 abbrev pub fileFrom : List ℕ → Form → File
-fileFrom s (form links nodes) = graph (graphOf s links nodes)
+fileFrom s (form links nodes) = holding (contentsOf s links nodes)
 fileFrom s (refused e) = refusedFile e
 
 abbrev pub fileOf : List ℕ → File
@@ -75,7 +63,7 @@ fileOf s = fileFrom s (formOf s)
 
 -- ---- the lent buffers
 
-pub record Buffers : Type 0 where
+pub record FileLists : Type 0 where
   pub ax : List ℤ
   pub ay : List ℤ
   pub bx : List ℤ
@@ -87,12 +75,12 @@ pub record Buffers : Type 0 where
   pub start : List ℕ
   pub list : List ℕ
 
-abbrev pub buffers : List ℤ → List ℤ → List ℤ → List ℤ → List ℕ → List ℕ → List ℕ → List ℕ → List ℕ → List ℕ → Buffers
-buffers ax ay bx by aId bId top state start list =
+abbrev pub fileLists : List ℤ → List ℤ → List ℤ → List ℤ → List ℕ → List ℕ → List ℕ → List ℕ → List ℕ → List ℕ → FileLists
+fileLists ax ay bx by aId bId top state start list =
     record { ax = ax; ay = ay; bx = bx; by = by; aId = aId; bId = bId; top = top; state = state; start = start; list = list }
 
 -- room for every file that is not refused
-pub record Room (b : Buffers) : Type 0 where
+pub record FileRoom (b : FileLists) : Type 0 where
   pub ax : maxLinks ≤ length (b .ax)
   pub ay : maxLinks ≤ length (b .ay)
   pub bx : maxLinks ≤ length (b .bx)
@@ -105,26 +93,26 @@ pub record Room (b : Buffers) : Type 0 where
   pub list : maxEntries ≤ length (b .list)
 
 -- a graph stands at the front of the buffers, whose tails stay
-abbrev pub filled : Graph → Buffers → Buffers
-filled g b =
-    buffers (over (g .ax) (b .ax)) (over (g .ay) (b .ay)) (over (g .bx) (b .bx)) (over (g .by) (b .by)) (over (g .aId) (b .aId))
-    (over (g .bId) (b .bId))
-    (over (g .top) (b .top))
-    (over (g .state) (b .state))
-    (over (g .start) (b .start))
-    (over (g .list) (b .list))
+abbrev pub contentsInto : Contents → FileLists → FileLists
+contentsInto g b =
+    fileLists (atFront (g .ax) (b .ax)) (atFront (g .ay) (b .ay)) (atFront (g .bx) (b .bx)) (atFront (g .by) (b .by)) (atFront (g .aId) (b .aId))
+    (atFront (g .bId) (b .bId))
+    (atFront (g .top) (b .top))
+    (atFront (g .state) (b .state))
+    (atFront (g .start) (b .start))
+    (atFront (g .list) (b .list))
 
 -- the answer, and the buffers
 pub record Reading : Type 0 where
   pub answer : FileRead
-  pub lent : Buffers
+  pub lent : FileLists
 
-abbrev pub reading : FileRead → Buffers → Reading
+abbrev pub reading : FileRead → FileLists → Reading
 reading r b = record { answer = r; lent = b }
 
 -- a refusal leaves the buffers alone
-abbrev pub readInto : File → Buffers → Reading
-readInto (graph g) b =
+abbrev pub readInto : File → FileLists → Reading
+readInto (holding g) b =
     reading
     (answer.Graph (record {
       links = length (g .aId);
@@ -133,5 +121,5 @@ readInto (graph g) b =
       clockwise = g .clockwise;
       minimum = g .minimum;
     }))
-    (filled g b)
+    (contentsInto g b)
 readInto (refusedFile e) b = reading (answer.Refused e) b

@@ -1,15 +1,6 @@
--- The file of document 01 and what is read from it, leaves first.
-
-pub mod Put
-pub mod Bytes
-pub mod Limits
-pub mod Records
+-- What a file says, and the theorems on it, leaves first.
 pub mod File
-pub mod Shape
-pub mod Steps
-pub mod Runs
-pub mod Forms
-pub mod Lists
+pub mod ReadLists
 pub mod Encoded
 pub mod RoundTrip
 pub mod Accepted

@@ -3,7 +3,7 @@ use mathlib.Core.List.{List}
 use mathlib.Core.Path.{_≡_}
 use Prim.Native.Nat.{ℕ}
 use Rattle.laws.specs.Unique.{Determines, by-equation}
-use Rattle.format.specs.File.{Buffers, Reading, fileOf, readInto}
+use Rattle.format.specs.File.{FileLists, Reading, fileOf, readInto}
 
-pub read-once : (s : List ℕ) (b : Buffers) → Determines (λ (r : Reading). r ≡ readInto (fileOf s) b)
+pub read-once : (s : List ℕ) (b : FileLists) → Determines (λ (r : Reading). r ≡ readInto (fileOf s) b)
 read-once s b = by-equation (readInto (fileOf s) b)

@@ -12,13 +12,17 @@ use lib.ListN.{length, getD, take, drop, length-append, length-map, List·getD-a
 use lib.Seq.{getD-append-add, drop-append-add, take-append-seam}
 use lib.Signed.{mag}
 use Rattle.laws.specs.Test.{pick, true-and}
-use Rattle.format.specs.Bytes.{u16At, u32At, u64At, i32At, signed}
-use Rattle.format.specs.Records.{lengthAt, kindAt, bodyAt, headNumber, nodeNumber, run, past, stepAt, ran, with, runFrom, looks, settingsRight, form, formOf}
-use Rattle.format.specs.File.{every, entriesOf, listOf, startsOf, graph, fileOf}
-use Rattle.format.specs.Encoded.{little, bitsOf, recordOf, recordsOf, Link, linkBody, nodeBody, settingsBody, encoded, joined, positions, listsOf, LinkFits, LinksFit, NodeFits, NodesFit, FileFits}
-use Rattle.format.specs.Steps.{step-cut, step-kind, step-next}
-use Rattle.format.specs.declared.Run.{Run}
-use Rattle.format.specs.declared.Step.the-variants.{Next, Other}
+use Rattle.turn.specs.Limits.{maxLinks}
+use Rattle.format_records.specs.Limits.{maxNodes, maxEntries}
+use Rattle.format_numbers.specs.Bytes.{u16At, u32At, u64At, i32At, signed, every}
+use Rattle.format_records.specs.Records.{lengthAt, kindAt, bodyAt, headNumber, nodeNumber, runTo, past, stepAt, ran, with, runFrom, looks}
+use Rattle.format_records.specs.Records.{settingsRight, form, formOf, nodeEntries, flatList}
+use Rattle.format.specs.File.{startsOf, holding, fileOf}
+use Rattle.format.specs.Encoded.{little, bitsOf, recordBytes, recordsBytes, LinkRecord, linkBody, nodeBody, settingsBody, encoded, joined}
+use Rattle.format.specs.Encoded.{positions, graphContents, LinkFits, LinksFit, NodeFits, NodesFit, FileFits}
+use Rattle.format_records.specs.Steps.{step-cut, step-kind, step-next}
+use Rattle.format_records.specs.declared.Run.{Run}
+use Rattle.format_records.specs.declared.RunStep.the-variants.{Next, Other}
 
 -- ---- numbers read where they were written
 
@@ -45,39 +49,39 @@ four-bytes n h = omega arith
 -- ---- a record read where it was written
 
 module _ (kind : ℕ) (body rest : List ℕ) (k : kind < 65536) (l : length body < 4294967296) where
-  own-length : u32At (recordOf kind body ++ rest) 0 ≡ length body
+  own-length : u32At (recordBytes kind body ++ rest) 0 ≡ length body
   unfolding u32At u16At
   own-length = four-bytes (length body) l
 
-  own-kind : u16At (recordOf kind body ++ rest) 4 ≡ kind
+  own-kind : u16At (recordBytes kind body ++ rest) 4 ≡ kind
   unfolding u16At
   own-kind = two-bytes kind k
 
-  module _ (s before : List ℕ) (at : ℕ) (p : at ≡ length before) (e : s ≡ before ++ (recordOf kind body ++ rest)) where
+  module _ (s before : List ℕ) (at : ℕ) (p : at ≡ length before) (e : s ≡ before ++ (recordBytes kind body ++ rest)) where
     length-there : lengthAt s at ≡ length body
     length-there =
-        ap₂ u32At e (p ∙ sym (add-zero (length before))) ∙ moved32 before (recordOf kind body ++ rest) 0 ∙ own-length
+        ap₂ u32At e (p ∙ sym (add-zero (length before))) ∙ moved32 before (recordBytes kind body ++ rest) 0 ∙ own-length
 
     kind-there : kindAt s at ≡ kind
-    kind-there = ap₂ (λ t i. u16At t (i + 4)) e p ∙ moved16 before (recordOf kind body ++ rest) 4 ∙ own-kind
+    kind-there = ap₂ (λ t i. u16At t (i + 4)) e p ∙ moved16 before (recordBytes kind body ++ rest) 4 ∙ own-kind
 
     body-there : bodyAt s at ≡ body
     body-there =
         ap₂ (λ n (t : List ℕ). take n t) length-there
-        (ap₂ (λ (t : List ℕ) i. drop (i + 6) t) e p ∙ drop-append-add before (recordOf kind body ++ rest) 6)
+        (ap₂ (λ (t : List ℕ) i. drop (i + 6) t) e p ∙ drop-append-add before (recordBytes kind body ++ rest) 6)
         ∙ take-append-seam body rest
 
     long-enough : at + 6 + length body ≤ length s
     long-enough =
-        omega (arith, ap length e, length-append before (recordOf kind body ++ rest), length-append body rest)
+        omega (arith, ap length e, length-append before (recordBytes kind body ++ rest), length-append body rest)
 
 -- ---- a run read where it was written
 
 -- each head is right where it stands
-abbrev Goes : ℕ → ℕ → ℕ → List (List ℕ) → Type 0
-Goes kind count size [] = Unit
-Goes kind count size (b ∷ bs) =
-    (headNumber kind count size (length b) ≡ 0) × (length b < 4294967296) × Goes kind (count + 1) (size + length b) bs
+abbrev HeadsRight : ℕ → ℕ → ℕ → List (List ℕ) → Type 0
+HeadsRight kind count size [] = Unit
+HeadsRight kind count size (b ∷ bs) =
+    (headNumber kind count size (length b) ≡ 0) × (length b < 4294967296) × HeadsRight kind (count + 1) (size + length b) bs
 
 record Reaches (kind n : ℕ) (s : List ℕ) (r : Run) (bs : List (List ℕ)) (place : ℕ) : Type 0 where
   last : Run
@@ -92,54 +96,57 @@ module _ (kind : ℕ) (k : kind < 65536) (s : List ℕ) (place : ℕ) (stop : (r
   one-step : (n : ℕ) (r : Run) (b : List ℕ) (bs : List (List ℕ)) → stepAt kind s r ≡ Next (past s r) → bodyAt s (r .at) ≡ b
       → Reaches kind n s (past s r) bs place → Reaches kind (suc n) s r (b ∷ bs) place
   unfolding runFrom
-  one-step n r b bs e q h = record { last = h .last; is = rw e (ap (with (bodyAt s (r .at))) (h .is) ∙ ap (λ (c : List ℕ). ran (h .last) (c ∷ bs)) q); ends = h .ends }
+  one-step n r b bs e q h =
+      record { last = h .last; is = rw e (ap (with (bodyAt s (r .at))) (h .is) ∙ ap (λ (c : List ℕ). ran (h .last) (c ∷ bs)) q); ends = h .ends }
 
-  reaches : (bs : List (List ℕ)) (n : ℕ) (before after : List ℕ) (r : Run) → length bs ≤ n → Goes kind (r .count) (r .size) bs
-      → r .at ≡ length before → place ≡ length before + length (recordsOf kind bs) → s ≡ before ++ (recordsOf kind bs ++ after)
+  reaches : (bs : List (List ℕ)) (n : ℕ) (before after : List ℕ) (r : Run) → length bs ≤ n → HeadsRight kind (r .count) (r .size) bs
+      → r .at ≡ length before → place ≡ length before + length (recordsBytes kind bs) → s ≡ before ++ (recordsBytes kind bs ++ after)
       → Reaches kind (suc n) s r bs place
-  unfolding recordsOf
+  unfolding recordsBytes
   reaches [] n before after r m g p q e = reached n r (p ∙ omega (arith, q))
   reaches (b ∷ bs) zero before after r m g p q e = absurd (never (length bs) m)
     where
       never : (x : ℕ) → suc x ≤ 0 → ⊥
       never x h = omega arith
   reaches (b ∷ bs) (suc n) before after r m g p q e =
-      let rest = recordsOf kind bs ++ after in
-      let e′ : s ≡ before ++ (recordOf kind b ++ rest) = e ∙ ap (λ (t : List ℕ). before ++ t) (append-assoc (recordOf kind b) (recordsOf kind bs) after) in
+      let rest = recordsBytes kind bs ++ after in
+      let e′ : s ≡ before ++ (recordBytes kind b ++ rest) = e
+      ∙ ap (λ (t : List ℕ). before ++ t) (append-assoc (recordBytes kind b) (recordsBytes kind bs) after) in
       let l = length-there kind b rest k (g .1) s before (r .at) p e′ in
       let long = long-enough kind b rest k (g .1) s before (r .at) p e′ in
       let step = step-next kind s r (omega arith) (kind-there kind b rest k (g .1) s before (r .at) p e′)
       (ap (headNumber kind (r .count) (r .size)) l ∙ g .0)
       (omega arith) in
       one-step (suc n) r b bs step (body-there kind b rest k (g .1) s before (r .at) p e′)
-      (reaches bs n (before ++ recordOf kind b) after (past s r) (omega arith)
-      (subst (λ z. Goes kind (r .count + 1) (r .size + z) bs) (sym l) (g .2))
-      (omega (arith, length-append before (recordOf kind b)))
-      (omega (arith, length-append before (recordOf kind b), length-append (recordOf kind b) (recordsOf kind bs)))
-      (e′ ∙ sym (append-assoc before (recordOf kind b) rest)))
+      (reaches bs n (before ++ recordBytes kind b) after (past s r) (omega arith)
+      (subst (λ z. HeadsRight kind (r .count + 1) (r .size + z) bs) (sym l) (g .2))
+      (omega (arith, length-append before (recordBytes kind b)))
+      (omega (arith, length-append before (recordBytes kind b), length-append (recordBytes kind b) (recordsBytes kind bs)))
+      (e′ ∙ sym (append-assoc before (recordBytes kind b) rest)))
 
 -- ---- the form
 
 -- the nodes' first record does not belong to the links
-not-a-link : (before : List ℕ) (ns : List (List ℕ)) → Goes 2 0 0 ns → (r : Run) → r .at ≡ length before → stepAt 1 (before ++ recordsOf 2 ns) r ≡ Other
-unfolding recordsOf
+not-a-link : (before : List ℕ) (ns : List (List ℕ)) → HeadsRight 2 0 0 ns → (r : Run) → r .at ≡ length before → stepAt 1 (before ++ recordsBytes 2 ns) r ≡ Other
+unfolding recordsBytes
 not-a-link before [] g r p = step-cut 1 (before ++ []) r (omega (arith, length-append before []))
 not-a-link before (b ∷ bs) g r p =
-    let s = before ++ (recordOf 2 b ++ recordsOf 2 bs) in
-    let k : kindAt s (r .at) ≡ 2 = kind-there 2 b (recordsOf 2 bs) (omega arith) (g .1) s before (r .at) p refl in
-    let long = long-enough 2 b (recordsOf 2 bs) (omega arith) (g .1) s before (r .at) p refl in
+    let s = before ++ (recordBytes 2 b ++ recordsBytes 2 bs) in
+    let k : kindAt s (r .at) ≡ 2 = kind-there 2 b (recordsBytes 2 bs) (omega arith) (g .1) s before (r .at) p refl in
+    let long = long-enough 2 b (recordsBytes 2 bs) (omega arith) (g .1) s before (r .at) p refl in
     step-kind 1 s r (omega arith) (λ h. never (sym k ∙ h))
   where
     never : _≡_ {A = ℕ} 2 1 → ⊥
     never e = omega arith
 
 module _ (settings : List ℕ) (nine : length settings ≡ 9) (dir : getD settings 0 0 ≤ 1) (links nodes : List (List ℕ))
-    (goes-links : Goes 1 0 0 links) (few-links : length links ≤ 4096) (goes-nodes : Goes 2 0 0 nodes) (few-nodes : length nodes ≤ 4096) where
-  right : settingsRight (recordOf 3 settings ++ (recordsOf 1 links ++ recordsOf 2 nodes)) ≡ true
+    (goes-links : HeadsRight 1 0 0 links) (few-links : length links ≤ maxLinks) (goes-nodes : HeadsRight 2 0 0 nodes)
+    (few-nodes : length nodes ≤ maxNodes) where
+  right : settingsRight (recordBytes 3 settings ++ (recordsBytes 1 links ++ recordsBytes 2 nodes)) ≡ true
   unfolding settingsRight
   right =
-      let rest = recordsOf 1 links ++ recordsOf 2 nodes in
-      let s = recordOf 3 settings ++ rest in
+      let rest = recordsBytes 1 links ++ recordsBytes 2 nodes in
+      let s = recordBytes 3 settings ++ rest in
       let long : 15 ≤ length s = omega (arith, length-append settings rest, nine) in
       let direction : getD s 6 0 ≤ 1 = rw (List·getD-append settings rest 0 0 (omega (arith, nine))) dir in
       true-and _ _ (le-leb 15 (length s) long)
@@ -147,27 +154,30 @@ module _ (settings : List ℕ) (nine : length settings ≡ 9) (dir : getD settin
       (true-and _ _ (eq-eqb (kindAt s 0) 3 (own-kind 3 settings rest (omega arith) (omega (arith, nine))))
       (le-leb (getD s 6 0) 1 direction)))
 
-  regrouped : (recordOf 3 settings ++ recordsOf 1 links) ++ recordsOf 2 nodes ≡ recordOf 3 settings ++ (recordsOf 1 links ++ recordsOf 2 nodes)
-  regrouped = append-assoc (recordOf 3 settings) (recordsOf 1 links) (recordsOf 2 nodes)
+  regrouped : (recordBytes 3 settings ++ recordsBytes 1 links) ++ recordsBytes 2 nodes
+      ≡ recordBytes 3 settings ++ (recordsBytes 1 links ++ recordsBytes 2 nodes)
+  regrouped = append-assoc (recordBytes 3 settings) (recordsBytes 1 links) (recordsBytes 2 nodes)
 
-  links-reach : Reaches 1 looks (recordOf 3 settings ++ (recordsOf 1 links ++ recordsOf 2 nodes)) (run 15 0 0) links (length (recordOf 3 settings ++ recordsOf 1 links))
+  links-reach : Reaches 1 looks (recordBytes 3 settings ++ (recordsBytes 1 links ++ recordsBytes 2 nodes)) (runTo 15 0 0) links
+      (length (recordBytes 3 settings ++ recordsBytes 1 links))
   links-reach =
-      reaches 1 (omega arith) _ (length (recordOf 3 settings ++ recordsOf 1 links))
-      (λ r p. subst (λ (t : List ℕ). stepAt 1 t r ≡ Other) regrouped (not-a-link (recordOf 3 settings ++ recordsOf 1 links) nodes goes-nodes r p))
-      links 4096 (recordOf 3 settings) (recordsOf 2 nodes) (run 15 0 0) few-links goes-links (omega (arith, nine))
-      (length-append (recordOf 3 settings) (recordsOf 1 links)) refl
+      reaches 1 (omega arith) _ (length (recordBytes 3 settings ++ recordsBytes 1 links))
+      (λ r p. subst (λ (t : List ℕ). stepAt 1 t r ≡ Other) regrouped (not-a-link (recordBytes 3 settings ++ recordsBytes 1 links) nodes goes-nodes r p))
+      links maxLinks (recordBytes 3 settings) (recordsBytes 2 nodes) (runTo 15 0 0) few-links goes-links (omega (arith, nine))
+      (length-append (recordBytes 3 settings) (recordsBytes 1 links)) refl
 
-  nodes-reach : (at : ℕ) → at ≡ length (recordOf 3 settings ++ recordsOf 1 links)
-      → Reaches 2 looks (recordOf 3 settings ++ (recordsOf 1 links ++ recordsOf 2 nodes)) (run at 0 0) nodes (length (recordOf 3 settings ++ (recordsOf 1 links ++ recordsOf 2 nodes)))
+  nodes-reach : (at : ℕ) → at ≡ length (recordBytes 3 settings ++ recordsBytes 1 links)
+      → Reaches 2 looks (recordBytes 3 settings ++ (recordsBytes 1 links ++ recordsBytes 2 nodes)) (runTo at 0 0) nodes
+      (length (recordBytes 3 settings ++ (recordsBytes 1 links ++ recordsBytes 2 nodes)))
   nodes-reach at p =
-      reaches 2 (omega arith) _ (length (recordOf 3 settings ++ (recordsOf 1 links ++ recordsOf 2 nodes)))
+      reaches 2 (omega arith) _ (length (recordBytes 3 settings ++ (recordsBytes 1 links ++ recordsBytes 2 nodes)))
       (λ r q. step-cut 2 _ r (omega (arith, q)))
-      nodes 4096 (recordOf 3 settings ++ recordsOf 1 links) [] (run at 0 0) few-nodes goes-nodes p
-      (ap length (sym regrouped) ∙ length-append (recordOf 3 settings ++ recordsOf 1 links) (recordsOf 2 nodes))
-      (sym regrouped ∙ ap (λ (t : List ℕ). (recordOf 3 settings ++ recordsOf 1 links) ++ t) (sym (append-nil (recordsOf 2 nodes))))
+      nodes maxNodes (recordBytes 3 settings ++ recordsBytes 1 links) [] (runTo at 0 0) few-nodes goes-nodes p
+      (ap length (sym regrouped) ∙ length-append (recordBytes 3 settings ++ recordsBytes 1 links) (recordsBytes 2 nodes))
+      (sym regrouped ∙ ap (λ (t : List ℕ). (recordBytes 3 settings ++ recordsBytes 1 links) ++ t) (sym (append-nil (recordsBytes 2 nodes))))
 
   -- a file of right form is read as its bodies
-  pub form-read : formOf (recordOf 3 settings ++ (recordsOf 1 links ++ recordsOf 2 nodes)) ≡ form links nodes
+  pub form-read : formOf (recordBytes 3 settings ++ (recordsBytes 1 links ++ recordsBytes 2 nodes)) ≡ form links nodes
   unfolding formOf
   form-read =
       let a = links-reach in
@@ -189,7 +199,7 @@ four-signed : (z : ℤ) → mag z < 2147483648
     → signed (bitsOf z % 256 + 256 * (bitsOf z / 256 % 256) + 65536 * (bitsOf z / 256 / 256 % 256 + 256 * (bitsOf z / 256 / 256 / 256 % 256))) ≡ z
 four-signed z h = ap signed (four-bytes (bitsOf z) (bits-small z h)) ∙ signed-bits z h
 
-module _ (l : Link) (f : LinkFits l) where
+module _ (l : LinkRecord) (f : LinkFits l) where
   ax-read : i32At (linkBody l) 0 ≡ l .ax
   unfolding linkBody u16At u32At
   ax-read = four-signed (l .ax) (f .ax)
@@ -222,15 +232,15 @@ module _ (l : Link) (f : LinkFits l) where
   unfolding linkBody
   state-read = refl
 
-column-read : {A : Type 0} (of : List ℕ → A) (field : Link → A) → ((l : Link) → LinkFits l → of (linkBody l) ≡ field l)
-    → (ls : List Link) → LinksFit ls → map of (map linkBody ls) ≡ map field ls
+column-read : {A : Type 0} (of : List ℕ → A) (field : LinkRecord → A) → ((l : LinkRecord) → LinkFits l → of (linkBody l) ≡ field l)
+    → (ls : List LinkRecord) → LinksFit ls → map of (map linkBody ls) ≡ map field ls
 column-read of field same [] h = refl
 column-read of field same (l ∷ ls) h = ap₂ (λ (x : _) (xs : List _). x ∷ xs) (same l (h .0)) (column-read of field same ls (h .1))
 
-links-go : (ls : List Link) (count size : ℕ) → count + length ls ≤ 4096 → Goes 1 count size (map linkBody ls)
+links-go : (ls : List LinkRecord) (count size : ℕ) → count + length ls ≤ maxLinks → HeadsRight 1 count size (map linkBody ls)
 unfolding linkBody
 links-go [] count size h = tt
-links-go (l ∷ ls) count size h = (rw (lt-ltb count 4096 (omega arith)), omega arith, links-go ls (count + 1) (size + 22) (omega arith))
+links-go (l ∷ ls) count size h = (rw (lt-ltb count maxLinks (omega arith)), omega arith, links-go ls (count + 1) (size + 22) (omega arith))
 
 -- ---- the entries of a node
 
@@ -255,11 +265,11 @@ node-read (k ∷ ks) s before at f p e =
 half-length : (ks : List ℕ) → length (nodeBody ks) / 2 ≡ length ks
 half-length ks = omega (arith, length-node ks)
 
-entries-read : (ks : List ℕ) → NodeFits ks → entriesOf (nodeBody ks) ≡ ks
+entries-read : (ks : List ℕ) → NodeFits ks → nodeEntries (nodeBody ks) ≡ ks
 entries-read ks f = ap (every (u16At (nodeBody ks)) 2 0) (half-length ks) ∙ node-read ks (nodeBody ks) [] 0 f refl refl
 
-list-read : (ns : List (List ℕ)) → NodesFit ns → listOf (map nodeBody ns) ≡ joined ns
-unfolding listOf joined
+list-read : (ns : List (List ℕ)) → NodesFit ns → flatList (map nodeBody ns) ≡ joined ns
+unfolding flatList joined
 list-read [] f = refl
 list-read (n ∷ ns) f = ap₂ _++_ (entries-read n (f .0)) (list-read ns (f .1))
 
@@ -269,7 +279,8 @@ starts-read [] e = refl
 starts-read (n ∷ ns) e =
     ap (λ (xs : List ℕ). e ∷ xs) (ap (λ k. startsOf (e + k) (map nodeBody ns)) (half-length n) ∙ starts-read ns (e + length n))
 
-nodes-go : (ns : List (List ℕ)) (count size : ℕ) → count + length ns ≤ 4096 → size + 2 * length (joined ns) ≤ 16384 → Goes 2 count size (map nodeBody ns)
+nodes-go : (ns : List (List ℕ)) (count size : ℕ) → count + length ns ≤ maxNodes → size + 2 * length (joined ns) ≤ 2 * maxEntries
+    → HeadsRight 2 count size (map nodeBody ns)
 unfolding joined
 nodes-go [] count size h r = tt
 nodes-go (n ∷ ns) count size h r =
@@ -280,8 +291,8 @@ nodes-go (n ∷ ns) count size h r =
       nodes-go ns (count + 1) (size + length (nodeBody n)) (omega arith) (omega arith),
     )
   where
-    right-head : (len : ℕ) → len % 2 ≡ 0 → size + len ≤ 16384 → nodeNumber count size len ≡ 0
-    right-head len e f = rw (eq-eqb (len % 2) 0 e, lt-ltb count 4096 (omega arith), le-leb (size + len) 16384 f)
+    right-head : (len : ℕ) → len % 2 ≡ 0 → size + len ≤ 2 * maxEntries → nodeNumber count size len ≡ 0
+    right-head len e f = rw (eq-eqb (len % 2) 0 e, lt-ltb count maxNodes (omega arith), le-leb (size + len) (2 * maxEntries) f)
 
 -- ---- the whole file
 
@@ -292,8 +303,9 @@ minimum-read a b c d e f g m rest h = omega arith
 
 same-graph : {w w′ : Bool} {m m′ : ℕ} {ax ax′ ay ay′ bx bx′ by by′ : List ℤ} {a a′ b b′ t t′ s s′ st st′ l l′ : List ℕ}
     → w ≡ w′ → m ≡ m′ → ax ≡ ax′ → ay ≡ ay′ → bx ≡ bx′ → by ≡ by′ → a ≡ a′ → b ≡ b′ → t ≡ t′ → s ≡ s′ → st ≡ st′ → l ≡ l′
-    → graph (record { clockwise = w; minimum = m; ax = ax; ay = ay; bx = bx; by = by; aId = a; bId = b; top = t; state = s; start = st; list = l })
-    ≡ graph (record { clockwise = w′; minimum = m′; ax = ax′; ay = ay′; bx = bx′; by = by′; aId = a′; bId = b′; top = t′; state = s′; start = st′; list = l′ })
+    → holding (record { clockwise = w; minimum = m; ax = ax; ay = ay; bx = bx; by = by; aId = a; bId = b; top = t; state = s; start = st; list = l })
+    ≡ holding
+    (record { clockwise = w′; minimum = m′; ax = ax′; ay = ay′; bx = bx′; by = by′; aId = a′; bId = b′; top = t′; state = s′; start = st′; list = l′ })
 same-graph e1 e2 e3 e4 e5 e6 e7 e8 e9 e10 e11 e12 = rw (e1, e2, e3, e4, e5, e6, e7, e8, e9, e10, e11, e12)
 
 direction-read : (w : Bool) → eqb (pick w 1 0) 1 ≡ w
@@ -305,22 +317,22 @@ direction-small true = omega arith
 direction-small false = omega arith
 
 -- what was written is read
-pub file-read : (clockwise : Bool) (minimum : ℕ) (links : List Link) (nodes : List (List ℕ)) → FileFits minimum links nodes
-    → fileOf (encoded clockwise minimum links nodes) ≡ graph (listsOf clockwise minimum links nodes)
+pub file-read : (clockwise : Bool) (minimum : ℕ) (links : List LinkRecord) (nodes : List (List ℕ)) → FileFits minimum links nodes
+    → fileOf (encoded clockwise minimum links nodes) ≡ holding (graphContents clockwise minimum links nodes)
 file-read w m ls ns f =
     let fl = f .links in
     rw (form-read (settingsBody w m) refl (direction-small w) (map linkBody ls) (map nodeBody ns) (links-go ls 0 0 (omega (arith, f .few-links)))
     (omega (arith, length-map ls linkBody, f .few-links))
     (nodes-go ns 0 0 (omega (arith, f .few-nodes)) (omega (arith, f .few-entries)))
     (omega (arith, length-map ns nodeBody, f .few-nodes)))
-    (same-graph (direction-read w) (minimum-read _ _ _ _ _ _ _ m (recordsOf 1 (map linkBody ls) ++ recordsOf 2 (map nodeBody ns)) (f .minimum))
-    (column-read (λ b. i32At b 0) (λ (l : Link). l .ax) ax-read ls fl)
-    (column-read (λ b. i32At b 4) (λ (l : Link). l .ay) ay-read ls fl)
-    (column-read (λ b. i32At b 8) (λ (l : Link). l .bx) bx-read ls fl)
-    (column-read (λ b. i32At b 12) (λ (l : Link). l .by) by-read ls fl)
-    (column-read (λ b. u16At b 16) (λ (l : Link). l .aId) aId-read ls fl)
-    (column-read (λ b. u16At b 18) (λ (l : Link). l .bId) bId-read ls fl)
-    (column-read (λ b. getD b 20 0) (λ (l : Link). l .top) top-read ls fl)
-    (column-read (λ b. getD b 21 0) (λ (l : Link). l .state) state-read ls fl)
+    (same-graph (direction-read w) (minimum-read _ _ _ _ _ _ _ m (recordsBytes 1 (map linkBody ls) ++ recordsBytes 2 (map nodeBody ns)) (f .minimum))
+    (column-read (λ b. i32At b 0) (λ (l : LinkRecord). l .ax) ax-read ls fl)
+    (column-read (λ b. i32At b 4) (λ (l : LinkRecord). l .ay) ay-read ls fl)
+    (column-read (λ b. i32At b 8) (λ (l : LinkRecord). l .bx) bx-read ls fl)
+    (column-read (λ b. i32At b 12) (λ (l : LinkRecord). l .by) by-read ls fl)
+    (column-read (λ b. u16At b 16) (λ (l : LinkRecord). l .aId) aId-read ls fl)
+    (column-read (λ b. u16At b 18) (λ (l : LinkRecord). l .bId) bId-read ls fl)
+    (column-read (λ b. getD b 20 0) (λ (l : LinkRecord). l .top) top-read ls fl)
+    (column-read (λ b. getD b 21 0) (λ (l : LinkRecord). l .state) state-read ls fl)
     (starts-read ns 0)
     (list-read ns (f .nodes)))

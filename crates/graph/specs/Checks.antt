@@ -15,7 +15,7 @@ use Rattle.turn.specs.Angle.{sameDirection}
 use Rattle.turn.specs.Refusals.{refuseIf, refuseAt, followedBy}
 use Rattle.turn.specs.declared.Checked.{Checked}
 use Rattle.turn.specs.declared.Checked.the-variants.{Fine}
-use Rattle.graph.specs.Graph.{Lent, linkCount, nodeCount, pointAt, part}
+use Rattle.graph.specs.Graph.{Lent, Graph, linkCount, nodeCount, pointAt, part}
 use Rattle.laws.specs.Count.{count}
 
 -- What is lent for the answer, by length: the points' buffer, two numbers to a point, and the three lists of the contour table.
@@ -134,7 +134,10 @@ endAt a b aNode v k = pick (eqb (aNode k) v) (a k) (b k)
 
 -- the way that link k runs from node v
 abbrev pub away : (ℕ → Point) → (ℕ → Point) → (ℕ → ℕ) → ℕ → ℕ → Vector
-away a b aNode v k = fromTo (endAt a b aNode v k) (endAt b a aNode v k)
+away a b aNode v k = pick (eqb (aNode k) v) (fromTo (a k) (b k)) (fromTo (b k) (a k))
+
+abbrev pub awayFrom : Graph → ℕ → ℕ → Vector
+awayFrom g = away (g .a) (g .b) (g .aNode)
 
 -- 6, of the shared graph: "two ends at one node have different points"
 abbrev pub apart : (ℕ → Point) → (ℕ → Point) → (ℕ → ℕ) → ℕ → ℕ → ℕ → Bool

@@ -42,8 +42,17 @@ module _ (a b : ℕ → Point) (aNode : ℕ → ℕ) (l : List ℕ) (v : ℕ) wh
 pub end-on-grid : (a b : ℕ → Point) (aNode : ℕ → ℕ) (v k : ℕ) → OnGrid (a k) → OnGrid (b k) → OnGrid (endAt a b aNode v k)
 end-on-grid a b aNode v k h g = pick-ind (eqb (aNode k) v) (a k) (b k) OnGrid (λ e. h) (λ e. g)
 
+-- the way from one end to the other, as the code reads it
+pub ends-away : (a b : ℕ → Point) (aNode : ℕ → ℕ) (v k : ℕ) → fromTo (endAt a b aNode v k) (endAt b a aNode v k) ≡ away a b aNode v k
+ends-away a b aNode v k = by (eqb (aNode k) v)
+  where
+    by : (s : Bool) → fromTo (pick s (a k) (b k)) (pick s (b k) (a k)) ≡ pick s (fromTo (a k) (b k)) (fromTo (b k) (a k))
+    by true = refl
+    by false = refl
+
 -- ---- pairs: what the loops over them have to show
-pub pair-found : (test : ℕ → ℕ → Bool) (n i j : ℕ) → i < j → j < n → None (λ t. some (λ s. test s t) t) j → None (λ s. test s j) i → test i j ≡ true → someTwo test n ≡ true
+pub pair-found : (test : ℕ → ℕ → Bool) (n i j : ℕ) → i < j → j < n → None (λ t. some (λ s. test s t) t) j → None (λ s. test s j) i → test i j ≡ true
+    → someTwo test n ≡ true
 pair-found test n i j li lj hj hi e = some-yes (λ t. some (λ s. test s t) t) n j lj hj (some-yes (λ s. test s j) j i li hi e)
 
 pub no-pair : (test : ℕ → ℕ → Bool) (n : ℕ) → None (λ t. some (λ s. test s t) t) n → someTwo test n ≡ false
@@ -72,17 +81,23 @@ module _ (p q r u : Point) where
   turned-both : cross (fromTo q p) (fromTo u r) ≡ cross (fromTo p q) (fromTo r u)
   turned-both = ring at (crossE 1 0 3 2) (crossE 0 1 2 3) tt
 
-  parallel : (s t : Bool) → eqS (sgn (cross (fromTo (pick s p q) (pick s q p)) (fromTo (pick t r u) (pick t u r)))) zer ≡ eqS (sgn (cross (fromTo p q) (fromTo r u))) zer
+  parallel : (s t : Bool) → eqS (sgn (cross (pick s (fromTo p q) (fromTo q p)) (pick t (fromTo r u) (fromTo u r)))) zer
+      ≡ eqS (sgn (cross (fromTo p q) (fromTo r u))) zer
   parallel true true = refl
   parallel true false = rw (turned-second, sgn-neg (cross (fromTo p q) (fromTo r u))) (flip-zer (sgn (cross (fromTo p q) (fromTo r u))))
   parallel false true = rw (turned-first, sgn-neg (cross (fromTo p q) (fromTo r u))) (flip-zer (sgn (cross (fromTo p q) (fromTo r u))))
   parallel false false = rw turned-both
 
-pub not-parallel : (a b : ℕ → Point) (aNode : ℕ → ℕ) (state : List ℕ) (v e f : ℕ) → (cross (fromTo (a e) (b e)) (fromTo (a f) (b f)) ≡ pos 0 → ⊥) → false ≡ alike a b aNode state v e f
-not-parallel a b aNode state v e f n = by (skipped state e) (skipped state f) (eqS (sgn (cross (away a b aNode v e) (away a b aNode v f))) zer) (eqS (sgn (dot (away a b aNode v e) (away a b aNode v f))) pls) (parallel (a e) (b e) (a f) (b f) (eqb (aNode e) v) (eqb (aNode f) v) ∙ apart-lines)
+pub not-parallel : (a b : ℕ → Point) (aNode : ℕ → ℕ) (state : List ℕ) (v e f : ℕ) → (cross (fromTo (a e) (b e)) (fromTo (a f) (b f)) ≡ pos 0 → ⊥)
+    → false ≡ alike a b aNode state v e f
+not-parallel a b aNode state v e f n =
+    by (skipped state e) (skipped state f) (eqS (sgn (cross (away a b aNode v e) (away a b aNode v f))) zer)
+    (eqS (sgn (dot (away a b aNode v e) (away a b aNode v f))) pls) (parallel (a e) (b e) (a f) (b f) (eqb (aNode e) v) (eqb (aNode f) v) ∙ apart-lines)
   where
     apart-lines : eqS (sgn (cross (fromTo (a e) (b e)) (fromTo (a f) (b f)))) zer ≡ false
-    apart-lines = not-true (eqS (sgn (cross (fromTo (a e) (b e)) (fromTo (a f) (b f)))) zer) (λ h. n (sgn-zer (cross (fromTo (a e) (b e)) (fromTo (a f) (b f))) (eqS-eq (true-is h))))
+    apart-lines =
+        not-true (eqS (sgn (cross (fromTo (a e) (b e)) (fromTo (a f) (b f)))) zer)
+        (λ h. n (sgn-zer (cross (fromTo (a e) (b e)) (fromTo (a f) (b f))) (eqS-eq (true-is h))))
 
     by : (s t d g : Bool) → d ≡ false → false ≡ not s && not t && (d && g)
     by true t d g h = refl

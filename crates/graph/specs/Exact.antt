@@ -13,8 +13,9 @@ use Rattle.turn.specs.Angle.{sameDirection}
 use Rattle.turn.specs.declared.Checked.the-variants.{Fine}
 use Rattle.graph.specs.Graph.{Lent, linkCount, nodeCount}
 use Rattle.laws.specs.Count.{count}
-use Rattle.graph.specs.Checks.{Room, aOf, bOf, nodeAt, entriesOf, unlike, fewPoints, unlikeBand, fewContours, linkWrong, badStarts, badNodes, apartAt, alikeAt, nodesChecked, eachChecked, linksChecked, checked}
-use Rattle.graph.specs.Passes.{Even, EndAt, entry, endOf, awayOf, Passes}
+use Rattle.graph.specs.Checks.{Room, aOf, bOf, nodeAt, entriesOf, unlike, fewPoints, unlikeBand, fewContours, linkWrong, badStarts, badNodes}
+use Rattle.graph.specs.Checks.{apartAt, alikeAt, nodesChecked, eachChecked, linksChecked, checked}
+use Rattle.graph.specs.Passes.{Even, EndAt, entry, endPointOf, awayOf, Passes}
 use Rattle.laws.specs.Fails.{Iff, Fails, then, both, or-fails, some-fails, lt-fails, ne-fails}
 use Rattle.graph.specs.Tests.{two-fails, even, band-even, contours, placed, named, flagged, in-order, rising, no-stray, together, unlike-ways}
 use Rattle.turn.specs.Refusals.{refuses, both-fine}
@@ -36,31 +37,37 @@ module _ (g : Lent) (top state : List ℕ) (r : Room) where
       × ((k : ℕ) → k < linkCount g → (count k (entriesOf g (getD (g .aId) k 0)) ≡ 1) × (count k (entriesOf g (getD (g .bId) k 0)) ≡ 1))
 
   abbrev Points : Type 0
-  Points = (v : ℕ) → v < nodeCount g → (j : ℕ) → j < length (entriesOf g v) → (i : ℕ) → i < j → endOf g v (entry g v i) ≡ endOf g v (entry g v j)
+  Points = (v : ℕ) → v < nodeCount g → (j : ℕ) → j < length (entriesOf g v) → (i : ℕ) → i < j → endPointOf g v (entry g v i) ≡ endPointOf g v (entry g v j)
 
   abbrev Ways : Type 0
   Ways = (v : ℕ) → v < nodeCount g → (j : ℕ) → j < length (entriesOf g v) → (i : ℕ) → i < j
-      → (getD state (entry g v i) 0 ≡ 1 → ⊥) → (getD state (entry g v j) 0 ≡ 1 → ⊥) → sameDirection (awayOf g v (entry g v i)) (awayOf g v (entry g v j)) ≡ false
+      → (getD state (entry g v i) 0 ≡ 1 → ⊥) → (getD state (entry g v j) 0 ≡ 1 → ⊥) → sameDirection (awayOf g v (entry g v i))
+      (awayOf g v (entry g v j)) ≡ false
 
-  shape : Fails (unlike g || fewPoints (linkCount g) (r .points) || unlikeBand (linkCount g) top state || fewContours (linkCount g) (r .firsts) (r .lens) (r .kinds)) Shape
+  shape : Fails (unlike g || fewPoints (linkCount g) (r .points) || unlikeBand (linkCount g) top state
+      || fewContours (linkCount g) (r .firsts) (r .lens) (r .kinds)) Shape
   shape = or-fails (or-fails (or-fails (even g) (lt-fails _ _)) (band-even (linkCount g) top state)) (contours (linkCount g) (r .firsts) (r .lens) (r .kinds))
 
   links : Fails (some (linkWrong g top state) (linkCount g)) ((k : ℕ) → k < linkCount g → Link k)
-  links = some-fails (linkCount g) (λ k. or-fails (or-fails (placed (aOf g k) (bOf g k)) (named (nodeCount g) (getD (g .aId) k 0) (getD (g .bId) k 0))) (flagged (getD top k 0) (getD state k 0)))
+  links = some-fails (linkCount g)
+      (λ k. or-fails (or-fails (placed (aOf g k) (bOf g k)) (named (nodeCount g) (getD (g .aId) k 0) (getD (g .bId) k 0)))
+      (flagged (getD top k 0) (getD state k 0)))
 
   itself : (b : Bool) → Fails b (b ≡ false)
   itself b = record { to = λ e. e; from = λ e. e }
 
   lists : Fails (badNodes (g .aId) (g .bId) (g .start) (g .list)) Lists
   lists =
-      or-fails (or-fails (itself (badStarts (g .start) (g .list))) (some-fails (nodeCount g) (λ v. some-fails (length (entriesOf g v)) (λ i. no-stray (g .aId) (g .bId) v (entry g v i)))))
+      or-fails (or-fails (itself (badStarts (g .start) (g .list)))
+      (some-fails (nodeCount g) (λ v. some-fails (length (entriesOf g v)) (λ i. no-stray (g .aId) (g .bId) v (entry g v i)))))
       (some-fails (linkCount g) (λ k. or-fails (ne-fails _ _) (ne-fails _ _)))
 
   points : Fails (some (apartAt (aOf g) (bOf g) (nodeAt (g .aId)) (entriesOf g)) (nodeCount g)) Points
   points = some-fails (nodeCount g) (λ v. two-fails (length (entriesOf g v)) (λ i j. together (aOf g) (bOf g) (nodeAt (g .aId)) v (entry g v i) (entry g v j)))
 
   ways : Fails (some (alikeAt (aOf g) (bOf g) (nodeAt (g .aId)) state (entriesOf g)) (nodeCount g)) Ways
-  ways = some-fails (nodeCount g) (λ v. two-fails (length (entriesOf g v)) (λ i j. unlike-ways (aOf g) (bOf g) (nodeAt (g .aId)) state v (entry g v i) (entry g v j)))
+  ways = some-fails (nodeCount g)
+      (λ v. two-fails (length (entriesOf g v)) (λ i j. unlike-ways (aOf g) (bOf g) (nodeAt (g .aId)) state v (entry g v i) (entry g v j)))
 
   nothing : {P : Type 0} → Iff (P × (Fine ≡ Fine)) P
   nothing = record { to = λ p. p .0; from = λ p. (p, refl) }
@@ -69,7 +76,8 @@ module _ (g : Lent) (top state : List ℕ) (r : Room) where
   unfolding nodesChecked
   by-nodes = then (refuses _ _ _ _) (both lists (then (refuses _ _ _ _) (both points (then (refuses _ _ _ _) (then nothing ways)))))
 
-  by-each : Iff (eachChecked g top state ≡ Fine) (((k : ℕ) → k < linkCount g → Link k) × ((k : ℕ) → k + 1 < linkCount g → before (aOf g (k + 1)) (aOf g k) ≡ false))
+  by-each : Iff (eachChecked g top state ≡ Fine)
+      (((k : ℕ) → k < linkCount g → Link k) × ((k : ℕ) → k + 1 < linkCount g → before (aOf g (k + 1)) (aOf g k) ≡ false))
   unfolding eachChecked
   by-each = then (refuses _ _ _ _) (both links (then (refuses _ _ _ _) (then nothing (in-order (aOf g) (linkCount g)))))
 
@@ -90,10 +98,11 @@ module _ (g : Lent) (top state : List ℕ) (r : Room) where
   all = then (both-fine (linksChecked g top state r) (nodesChecked g state)) (both by-links by-nodes)
 
   -- two entries in either order
-  any-two : Points → (v i j : ℕ) → v < nodeCount g → i < length (entriesOf g v) → j < length (entriesOf g v) → endOf g v (entry g v i) ≡ endOf g v (entry g v j)
+  any-two : Points → (v i j : ℕ) → v < nodeCount g → i < length (entriesOf g v) → j < length (entriesOf g v) → endPointOf g v (entry g v i)
+      ≡ endPointOf g v (entry g v j)
   any-two h v i j l li lj = go (decLe j i) (decLe i j)
     where
-      go : Dec (j ≤ i) → Dec (i ≤ j) → endOf g v (entry g v i) ≡ endOf g v (entry g v j)
+      go : Dec (j ≤ i) → Dec (i ≤ j) → endPointOf g v (entry g v i) ≡ endPointOf g v (entry g v j)
       go (no p) q = h v l j lj i (omega arith)
       go (yes p) (no q) = sym (h v l i li j (omega arith))
       go (yes p) (yes q) = let e : i ≡ j = omega arith in rw e
@@ -141,7 +150,12 @@ module _ (g : Lent) (top state : List ℕ) (r : Room) where
       let s = h .shared in
       let b = h .band in
       let lengths : Shape = ((((s .even, s .rising .any), s .room), (b .top-long, b .state-long)), ((b .lens-long, b .kinds-long), b .room)) in
-      let each : (k : ℕ) → k < linkCount g → Link k = λ k l. ((((s .a-grid k l, s .b-grid k l), s .strict k l), ((s .a-node k l, s .b-node k l), s .two-nodes k l)), (b .top-flag k l, b .state-flag k l)) in
+      let each : (k : ℕ) → k < linkCount g
+      → Link k =
+      λ k l. (
+        (((s .a-grid k l, s .b-grid k l), s .strict k l), ((s .a-node k l, s .b-node k l), s .two-nodes k l)),
+        (b .top-flag k l, b .state-flag k l),
+      ) in
       let starts = rising (g .start) (g .list) (s .rising .any) .from (s .rising) in (
         (s .few, (lengths, (each, s .order))),
         (

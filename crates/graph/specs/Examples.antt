@@ -93,7 +93,8 @@ three = refl
 
 -- 4: link 1 from (-1, 0) comes after link 0 from (0, 0); a link between both bounds passes check 3, and is out of order too
 four : (points (pos 0 ∷ negsuc 0 ∷ pos 0 ∷ pos 4 ∷ []) ays bxs bys
-    ∷ points (pos 0 ∷ pos 0 ∷ negsuc 524287 ∷ pos 4 ∷ []) (pos 0 ∷ pos 0 ∷ negsuc 524287 ∷ pos 0 ∷ []) (pos 4 ∷ pos 0 ∷ pos 524288 ∷ pos 4 ∷ []) (pos 0 ∷ pos 4 ∷ pos 524288 ∷ pos 4 ∷ [])
+    ∷ points (pos 0 ∷ pos 0 ∷ negsuc 524287 ∷ pos 4 ∷ []) (pos 0 ∷ pos 0 ∷ negsuc 524287 ∷ pos 0 ∷ []) (pos 4 ∷ pos 0 ∷ pos 524288 ∷ pos 4 ∷ [])
+    (pos 0 ∷ pos 4 ∷ pos 524288 ∷ pos 4 ∷ [])
     ∷ [])
     ≡ (Refused 4 1 ∷ Refused 4 2 ∷ [])
 unfolding checked linksChecked eachChecked lowest
@@ -121,7 +122,8 @@ six = refl
 -- 7: two links between (0, 0) and (4, 0): the same direction at both nodes, unless one is skipped
 abbrev double : List ℕ → Checked
 double state =
-    checked (lent (pos 0 ∷ pos 0 ∷ []) (pos 0 ∷ pos 0 ∷ []) (pos 4 ∷ pos 4 ∷ []) (pos 0 ∷ pos 0 ∷ []) (0 ∷ 0 ∷ []) (1 ∷ 1 ∷ []) (0 ∷ 2 ∷ 4 ∷ []) (0 ∷ 1 ∷ 1 ∷ 0 ∷ []))
+    checked (lent (pos 0 ∷ pos 0 ∷ []) (pos 0 ∷ pos 0 ∷ []) (pos 4 ∷ pos 4 ∷ []) (pos 0 ∷ pos 0 ∷ []) (0 ∷ 0 ∷ []) (1 ∷ 1 ∷ []) (0 ∷ 2 ∷ 4 ∷ [])
+    (0 ∷ 1 ∷ 1 ∷ 0 ∷ []))
     (0 ∷ 0 ∷ []) state (room 4 0 0 0)
 
 seven : (double (0 ∷ 0 ∷ []) ∷ double (0 ∷ 1 ∷ []) ∷ double (1 ∷ 0 ∷ []) ∷ []) ≡ (Refused 7 0 ∷ Fine ∷ Fine ∷ [])

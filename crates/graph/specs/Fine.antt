@@ -19,19 +19,16 @@ use Rattle.turn.specs.declared.Checked.the-variants.{Fine}
 use Rattle.graph.specs.Graph.{Lent, Graph, graphOf, linkCount, nodeCount}
 use Rattle.laws.specs.Count.{count, counted-in, count-two}
 use Rattle.laws.specs.Lists.{Place, place-of, member}
-use Rattle.graph.specs.Checks.{Room, endAt, away, checked}
+use Rattle.graph.specs.Checks.{Room, endAt, awayFrom, checked}
 use Rattle.graph.specs.Passes.{Even, Rising, EndAt, entry, SharedPasses, BandPasses, Passes}
 use Rattle.graph.specs.PointLaws.{Upto, upto, upto-refl, upto-trans, not-before, same-direction-sym}
 use Rattle.graph.specs.Known.{Ids}
 use Rattle.graph.specs.Total.{starts-within, part-length, part-empty, total}
 use Rattle.graph.specs.Exact.{exact}
 
--- the point of link k's end at node v, and the way that link k runs from there
+-- the point of link k's end at node v
 abbrev pub endPoint : Graph → ℕ → ℕ → Point
 endPoint G = endAt (G .a) (G .b) (G .aNode)
-
-abbrev pub wayFrom : Graph → ℕ → ℕ → Vector
-wayFrom G = away (G .a) (G .b) (G .aNode)
 
 -- Every link, among m nodes (checks 3 and 4).
 pub record FineLinks (G : Graph) (m : ℕ) : Type 0 where
@@ -76,7 +73,7 @@ pub record FineBand (G : Graph) (top state : List ℕ) : Type 0 where
   pub top-flag : (k : ℕ) → k < G .n → getD top k 0 ≤ 1
   pub state-flag : (k : ℕ) → k < G .n → getD state k 0 ≤ 1
   pub spread : (v j k : ℕ) → List·Memᴰ j (G .entries v) → List·Memᴰ k (G .entries v) → (j ≡ k → ⊥)
-      → (getD state j 0 ≡ 1 → ⊥) → (getD state k 0 ≡ 1 → ⊥) → sameDirection (wayFrom G v j) (wayFrom G v k) ≡ false
+      → (getD state j 0 ≡ 1 → ⊥) → (getD state k 0 ≡ 1 → ⊥) → sameDirection (awayFrom G v j) (awayFrom G v k) ≡ false
 
 -- The room for the answer (check 2).
 pub record FineRoom (n : ℕ) (r : Room) : Type 0 where
@@ -209,7 +206,7 @@ module _ {g : Lent} {points : ℕ} (top : List ℕ) (h : SharedPasses g points) 
   -- ---- the band
   module _ {state : List ℕ} {firsts lens kinds : ℕ} (b : BandPasses g top state firsts lens kinds) where
     spread : (v j k : ℕ) → List·Memᴰ j (G .entries v) → List·Memᴰ k (G .entries v) → (j ≡ k → ⊥)
-        → (getD state j 0 ≡ 1 → ⊥) → (getD state k 0 ≡ 1 → ⊥) → sameDirection (wayFrom G v j) (wayFrom G v k) ≡ false
+        → (getD state j 0 ≡ 1 → ⊥) → (getD state k 0 ≡ 1 → ⊥) → sameDirection (awayFrom G v j) (awayFrom G v k) ≡ false
     spread v j k p q d sj sk = go (decLe (t .place) (s .place)) (decLe (s .place) (t .place))
       where
         s : Place 0 j (G .entries v)
@@ -224,12 +221,13 @@ module _ {g : Lent} {points : ℕ} (top : List ℕ) (h : SharedPasses g points) 
         unskipped-t : getD state (entry g v (t .place)) 0 ≡ 1 → ⊥
         unskipped-t e = sk (subst (λ (x : ℕ). getD state x 0 ≡ 1) (t .here) e)
 
-        go : Dec (t .place ≤ s .place) → Dec (s .place ≤ t .place) → sameDirection (wayFrom G v j) (wayFrom G v k) ≡ false
-        go (no l) m = subst (λ (x : ℕ). sameDirection (wayFrom G v x) (wayFrom G v k) ≡ false) (s .here)
-            (subst (λ (x : ℕ). sameDirection (wayFrom G v (entry g v (s .place))) (wayFrom G v x) ≡ false) (t .here)
+        go : Dec (t .place ≤ s .place) → Dec (s .place ≤ t .place) → sameDirection (awayFrom G v j) (awayFrom G v k) ≡ false
+        go (no l) m = subst (λ (x : ℕ). sameDirection (awayFrom G v x) (awayFrom G v k) ≡ false) (s .here)
+            (subst (λ (x : ℕ). sameDirection (awayFrom G v (entry g v (s .place))) (awayFrom G v x) ≡ false) (t .here)
             (b .spread v (s .place) (t .place) (inside v j p) (omega arith) (t .within) unskipped-s unskipped-t))
-        go (yes l) (no m) = same-direction-sym (wayFrom G v k) (wayFrom G v j) ∙ subst (λ (x : ℕ). sameDirection (wayFrom G v k) (wayFrom G v x) ≡ false) (s .here)
-            (subst (λ (x : ℕ). sameDirection (wayFrom G v x) (wayFrom G v (entry g v (s .place))) ≡ false) (t .here)
+        go (yes l) (no m) =
+            same-direction-sym (awayFrom G v k) (awayFrom G v j) ∙ subst (λ (x : ℕ). sameDirection (awayFrom G v k) (awayFrom G v x) ≡ false) (s .here)
+            (subst (λ (x : ℕ). sameDirection (awayFrom G v x) (awayFrom G v (entry g v (s .place))) ≡ false) (t .here)
             (b .spread v (t .place) (s .place) (inside v j p) (omega arith) (s .within) unskipped-t unskipped-s))
         go (yes l) (yes m) =
             let e : s .place ≡ t .place = omega arith in

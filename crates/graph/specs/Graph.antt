@@ -36,7 +36,8 @@ pointAt xs ys k = record { x = getD xs k (pos 0); y = getD ys k (pos 0) }
 abbrev pub part : List ℕ → List ℕ → ℕ → List ℕ
 part start list v = take (getD start (v + 1) 0 - getD start v 0) (drop (getD start v 0) list)
 
--- The graph as the rules of walking read it: n links, link k from its point `a k` at node `aNode k` to its point `b k` at node `bNode k`, filled on its left where `top k`;
+-- The graph as the rules of walking read it: n links, link k from its point `a k` at node `aNode k` to its point `b k`
+-- at node `bNode k`, filled on its left where `top k`;
 -- the entries of node v are the links with an end there. A node with two entries is a `Bridge`, any other a `Cross`.
 pub record Graph : Type 0 where
   pub n : ℕ

@@ -39,8 +39,8 @@ abbrev pub entry : Lent → ℕ → ℕ → ℕ
 entry g v i = getD (entriesOf g v) i 0
 
 -- the point of link k's end at node v, and the way that link k runs from there
-abbrev pub endOf : Lent → ℕ → ℕ → Point
-endOf g = endAt (aOf g) (bOf g) (nodeAt (g .aId))
+abbrev pub endPointOf : Lent → ℕ → ℕ → Point
+endPointOf g = endAt (aOf g) (bOf g) (nodeAt (g .aId))
 
 abbrev pub awayOf : Lent → ℕ → ℕ → Vector
 awayOf g = away (aOf g) (bOf g) (nodeAt (g .aId))
@@ -68,7 +68,8 @@ pub record SharedPasses (g : Lent) (points : ℕ) : Type 0 where
   pub once-a : (k : ℕ) → k < linkCount g → count k (entriesOf g (getD (g .aId) k 0)) ≡ 1
   pub once-b : (k : ℕ) → k < linkCount g → count k (entriesOf g (getD (g .bId) k 0)) ≡ 1
   -- 6
-  pub one-point : (v i j : ℕ) → v < nodeCount g → i < length (entriesOf g v) → j < length (entriesOf g v) → endOf g v (entry g v i) ≡ endOf g v (entry g v j)
+  pub one-point : (v i j : ℕ) → v < nodeCount g → i < length (entriesOf g v) → j < length (entriesOf g v) → endPointOf g v (entry g v i)
+      ≡ endPointOf g v (entry g v j)
 
 -- What is asked of one band's tops, states and contour room.
 pub record BandPasses (g : Lent) (top state : List ℕ) (firsts lens kinds : ℕ) : Type 0 where
@@ -83,7 +84,8 @@ pub record BandPasses (g : Lent) (top state : List ℕ) (firsts lens kinds : ℕ
   pub state-flag : (k : ℕ) → k < linkCount g → getD state k 0 ≤ 1
   -- 7
   pub spread : (v i j : ℕ) → v < nodeCount g → i < j → j < length (entriesOf g v)
-      → (getD state (entry g v i) 0 ≡ 1 → ⊥) → (getD state (entry g v j) 0 ≡ 1 → ⊥) → sameDirection (awayOf g v (entry g v i)) (awayOf g v (entry g v j)) ≡ false
+      → (getD state (entry g v i) 0 ≡ 1 → ⊥) → (getD state (entry g v j) 0 ≡ 1 → ⊥) → sameDirection (awayOf g v (entry g v i))
+      (awayOf g v (entry g v j)) ≡ false
 
 pub record Passes (g : Lent) (top state : List ℕ) (r : Room) : Type 0 where
   pub shared : SharedPasses g (r .points)

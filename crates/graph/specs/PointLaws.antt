@@ -37,7 +37,8 @@ upto p q e = go (tricho (p .x) (q .x))
     go (inl h) = left h
     go (inr (inl h)) =
         ⊎-elim
-        (λ (k : not (ltZ (p .x) (q .x)) ≡ false). absurd (<ℤ-irrefl (subst (λ (t : ℤ). t <ℤ q .x) h (ltZ-yes (true-is (sym (not-not (ltZ (p .x) (q .x))) ∙ ap not k) .is)))))
+        (λ (k : not (ltZ (p .x) (q .x)) ≡ false). absurd
+        (<ℤ-irrefl (subst (λ (t : ℤ). t <ℤ q .x) h (ltZ-yes (true-is (sym (not-not (ltZ (p .x) (q .x))) ∙ ap not k) .is)))))
         (λ (k : ltZ (q .y) (p .y) ≡ false). under h (ltZ-false (q .y) (p .y) k))
         (and-false _ _ (o .1))
       where
@@ -108,6 +109,7 @@ swapped u v = ring (u .x ∷ u .y ∷ v .x ∷ v .y ∷ []) (var 2 :* var 0 :+ v
 
 pub same-direction-sym : (u v : Vector) → sameDirection v u ≡ sameDirection u v
 same-direction-sym u v =
-    let c : eqS (sgn (cross v u)) zer ≡ eqS (sgn (cross u v)) zer = ap (λ (z : ℤ). eqS (sgn z) zer) (turned u v) ∙ ap (λ (s : Sgn). eqS s zer) (sgn-neg (cross u v)) ∙ flat (sgn (cross u v)) in
+    let c : eqS (sgn (cross v u)) zer ≡ eqS (sgn (cross u v)) zer = ap (λ (z : ℤ). eqS (sgn z) zer) (turned u v)
+    ∙ ap (λ (s : Sgn). eqS s zer) (sgn-neg (cross u v)) ∙ flat (sgn (cross u v)) in
     let d : eqS (sgn (dot v u)) pls ≡ eqS (sgn (dot u v)) pls = ap (λ (z : ℤ). eqS (sgn z) pls) (swapped u v) in
     λ i. c i && d i

@@ -87,9 +87,11 @@ module _ (aId bId : List ℕ) (a b : ℕ → Point) (aNode : ℕ → ℕ) (state
     ways = λ i j m n. none-of _ _ (clash j n .1) i m;
   }
     where
-      clash : (j : ℕ) → j < length l → ((standsBefore l j (getD l j 0) ≡ false) × (apart a b aNode v (getD l 0 0) (getD l j 0) ≡ false)) × (alikeBefore a b aNode state l v j (getD l j 0) ≡ false)
+      clash : (j : ℕ) → j < length l → ((standsBefore l j (getD l j 0) ≡ false) × (apart a b aNode v (getD l 0 0) (getD l j 0) ≡ false))
+          × (alikeBefore a b aNode state l v j (getD l j 0) ≡ false)
       clash j n =
-          let e = or-false (standsBefore l j (getD l j 0) || apart a b aNode v (getD l 0 0) (getD l j 0)) (alikeBefore a b aNode state l v j (getD l j 0)) (none-of _ _ h j n) in
+          let e = or-false (standsBefore l j (getD l j 0) || apart a b aNode v (getD l 0 0) (getD l j 0))
+          (alikeBefore a b aNode state l v j (getD l j 0)) (none-of _ _ h j n) in
           (or-false (standsBefore l j (getD l j 0)) (apart a b aNode v (getD l 0 0) (getD l j 0)) (e .0), e .1)
 
       home : (j : ℕ) → j < length l → endAt a b aNode v (getD l 0 0) ≡ endAt a b aNode v (getD l j 0)
@@ -99,7 +101,8 @@ module _ (aId bId : List ℕ) (a b : ℕ → Point) (aNode : ℕ → ℕ) (state
   fine-node h = go (eqb (length l) 2) refl h
     where
       go : (t : Bool) → eqb (length l) 2 ≡ t
-          → pick t (bridgeWrong aId bId a b aNode state v (getD l 0 0) (getD l 1 0)) (pick (strayIn aId bId l v) true (some (clashAt a b aNode state l v) (length l))) ≡ false → FineNode
+          → pick t (bridgeWrong aId bId a b aNode state v (getD l 0 0) (getD l 1 0))
+          (pick (strayIn aId bId l v) true (some (clashAt a b aNode state l v) (length l))) ≡ false → FineNode
       go true e h = bridge-fine (eqb-true (length l) 2 e) h
       go false e h = let p = neither (strayIn aId bId l v) (some (clashAt a b aNode state l v) (length l)) h in cross-fine (p .0) (p .1)
 
@@ -151,7 +154,8 @@ module _ (g : Lent) (state : List ℕ) (rising : Rising (g .start) (g .list)) (i
       twice : (k : ℕ) → k < linkCount g → stands k ≡ 2
       twice = sum-tight stands (λ _. 2) (linkCount g) at-most-two (omega (arith, in-all, sum-const 2 (linkCount g)))
 
-      at-node : (k : ℕ) → k < linkCount g → (v : ℕ) → v < nodeCount g → count k (entriesOf g v) ≡ pick (eqb (getD (g .aId) k 0) v) 1 0 + pick (eqb (getD (g .bId) k 0) v) 1 0
+      at-node : (k : ℕ) → k < linkCount g → (v : ℕ) → v < nodeCount g → count k (entriesOf g v) ≡ pick (eqb (getD (g .aId) k 0) v) 1 0 + pick
+          (eqb (getD (g .bId) k 0) v) 1 0
       at-node k l = sum-tight _ _ (nodeCount g) (at-most k) (omega (arith, twice k l, two-ends k l))
 
       at-a : (k : ℕ) → k < linkCount g → count k (entriesOf g (getD (g .aId) k 0)) ≡ 1
@@ -170,5 +174,9 @@ module _ (g : Lent) (state : List ℕ) (rising : Rising (g .start) (g .list)) (i
       nodes-fine starts =
           by-nodes g [] state (room 0 0 0 0) .from (
             ((starts, λ v l i b. fine v l .ends i b), λ k l. (at-a k l, at-b k l)),
-            ((λ v l j lj i li. fine v l .point i j li lj), λ v l j lj i li. unlike-ways (aOf g) (bOf g) (nodeAt (g .aId)) state v _ _ .to (fine v l .ways i j li lj)),
+            (
+              (λ v l j lj i li. fine v l .point i j li lj),
+              λ v l j lj i li. unlike-ways (aOf g) (bOf g)
+                  (nodeAt (g .aId)) state v _ _ .to (fine v l .ways i j li lj),
+            ),
           )

@@ -17,20 +17,23 @@ use Rattle.turn.specs.Angle.{sameDirection}
 use Rattle.turn.specs.declared.Checked.{Checked}
 use Rattle.turn.specs.declared.Checked.the-variants.{Fine, Refused}
 use Rattle.graph.specs.Graph.{Lent}
-use Rattle.graph.specs.Checks.{unlike, unlikeBand, fewContours, misplaced, misnamed, misflagged, outOfOrder, badStarts, stray, someTwo, endAt, away, apart, skipped, alike}
+use Rattle.graph.specs.Checks.{unlike, unlikeBand, fewContours, misplaced, misnamed, misflagged, outOfOrder, badStarts, stray, someTwo, endAt}
+use Rattle.graph.specs.Checks.{away, apart, skipped, alike}
 use Rattle.graph.specs.Passes.{Even, Rising, EndAt}
 use Rattle.turn.specs.PointOrder.{on-grid}
 use Rattle.graph.specs.PointLaws.{same-point, not-differ}
 
 -- ---- two of n places
-pub two-fails : {test : ℕ → ℕ → Bool} {P : ℕ → ℕ → Type 0} (n : ℕ) → ((i j : ℕ) → Fails (test i j) (P i j)) → Fails (someTwo test n) ((j : ℕ) → j < n → (i : ℕ) → i < j → P i j)
+pub two-fails : {test : ℕ → ℕ → Bool} {P : ℕ → ℕ → Type 0} (n : ℕ) → ((i j : ℕ) → Fails (test i j) (P i j))
+    → Fails (someTwo test n) ((j : ℕ) → j < n → (i : ℕ) → i < j → P i j)
 two-fails n h = some-fails n (λ j. some-fails j (λ i. h i j))
 
 -- ---- 2
 pub even : (g : Lent) → Fails (unlike g) ((Even g) × (1 ≤ length (g .start)))
 even g =
     then
-    (or-fails (or-fails (or-fails (or-fails (or-fails (ne-fails _ _) (ne-fails _ _)) (ne-fails _ _)) (ne-fails _ _)) (ne-fails _ _)) (eq-fails (length (g .start)) 0))
+    (or-fails (or-fails (or-fails (or-fails (or-fails (ne-fails _ _) (ne-fails _ _)) (ne-fails _ _)) (ne-fails _ _)) (ne-fails _ _))
+    (eq-fails (length (g .start)) 0))
     (record {
       to = λ h. (record { ax = h .0 .0 .0 .0 .0; ay = h .0 .0 .0 .0 .1; bx = h .0 .0 .0 .1; by = h .0 .0 .1; bId = h .0 .1 }, above (length (g .start)) (h .1));
       from = λ h. (((((h .0 .ax, h .0 .ay), h .0 .bx), h .0 .by), h .0 .bId), λ e. none (length (g .start)) e (h .1));
@@ -107,7 +110,8 @@ together a b aNode v e f = record { to = same-point _ _; from = not-differ _ _ }
 
 -- ---- 7
 pub unlike-ways : (a b : ℕ → Point) (aNode : ℕ → ℕ) (state : List ℕ) (v e f : ℕ)
-    → Fails (alike a b aNode state v e f) ((getD state e 0 ≡ 1 → ⊥) → (getD state f 0 ≡ 1 → ⊥) → sameDirection (away a b aNode v e) (away a b aNode v f) ≡ false)
+    → Fails (alike a b aNode state v e f) ((getD state e 0 ≡ 1 → ⊥) → (getD state f 0 ≡ 1 → ⊥)
+    → sameDirection (away a b aNode v e) (away a b aNode v f) ≡ false)
 unlike-ways a b aNode state v e f = record {
   to = λ h p q. simp (ne-eqb _ 1 p, ne-eqb _ 1 q) at h;
   from = λ h. by (skipped state e) (skipped state f) (sameDirection (away a b aNode v e) (away a b aNode v f)) (λ p q. h (eqb-false _ 1 p) (eqb-false _ 1 q));

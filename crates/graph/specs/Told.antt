@@ -48,9 +48,12 @@ links-told g top state r e =
 module _ (aId bId start list : List ℕ) where
   pub entries-known : badNodes aId bId start list ≡ false → Entries start list (length aId)
   entries-known h v l i k =
-      let s = or-false (badStarts start list) (some (strayAt aId bId start list) (length start - 1)) (or-false _ (some (missed aId bId start list) (length aId)) h .0) .1 in
+      let s = or-false (badStarts start list) (some (strayAt aId bId start list) (length start - 1))
+      (or-false _ (some (missed aId bId start list) (length aId)) h .0) .1 in
       let t = none-of (strayAt aId bId start list) (length start - 1) s v l in
       some-fails (length (part start list v)) (λ j. no-stray aId bId v (getD (part start list v) j 0)) .to t i k .below
 
   pub starts-known : badNodes aId bId start list ≡ false → 1 ≤ length start → Rising start list
-  starts-known h l = rising start list l .to (or-false (badStarts start list) (some (strayAt aId bId start list) (length start - 1)) (or-false _ (some (missed aId bId start list) (length aId)) h .0) .0)
+  starts-known h l =
+      rising start list l .to (or-false (badStarts start list) (some (strayAt aId bId start list) (length start - 1))
+      (or-false _ (some (missed aId bId start list) (length aId)) h .0) .0)

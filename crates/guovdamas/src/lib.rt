@@ -11,7 +11,8 @@ ghost use Rattle.extract.specs.Extract.{extracted};
 ghost use Rattle.table.specs.Table.{Table, table};
 ghost use Rattle.lookup.specs.Lookups.{roleOwner, lookedUp};
 ghost use Rattle.bind.specs.Outcome.{bound};
-ghost use Rattle.guovdamas.specs.Numbers.{extractionOf, bindingOf, foundRecord, recordNumbers, roleNumber, extracting, numberedExtracted, binding, numberedBound};
+ghost use Rattle.guovdamas.specs.Numbers.{extractionOf, bindingOf, foundRecord, recordNumbers, roleNumber, extracting, numberedExtracted};
+ghost use Rattle.guovdamas.specs.Numbers.{binding, numberedBound};
 
 // What extraction answers: document 01's number and place, 0 and 0 when done; the counts and the signed doubled totals, all 0 after a refusal.
 #[repr(C)]
@@ -112,7 +113,7 @@ fn role_owner(role: Role) -> u16
     }
 }
 
-fn wide(x: u16) -> u32
+fn as_u32(x: u16) -> u32
     ensures { λ r. ⌜ r ≡ x ⌝ }
 {
     x as u32
@@ -125,7 +126,7 @@ fn found_record(found: ContourRecord) -> GuovdamasRecord
     GuovdamasRecord {
         found: 1,
         role: role_number(role),
-        owner: wide(role_owner(role)),
+        owner: as_u32(role_owner(role)),
         first: found.first,
         len: found.len,
     }

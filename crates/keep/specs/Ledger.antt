@@ -66,7 +66,11 @@ module _ (pts : List ℤ) (at : ℕ) (l : List Point) (room : (at + length l) * 
 
   pub paste-part : take ((at + length l) * 2 - at * 2) (drop (at * 2) (paste pts at l)) ≡ coordinates l
   paste-part =
-      rw (paste-is, append-assoc (take (at * 2) pts) (coordinates l) (drop (at * 2 + length (coordinates l)) pts), drop-at (take (at * 2) pts) (coordinates l ++ drop (at * 2 + length (coordinates l)) pts) (at * 2) front)
+      rw (
+        paste-is,
+        append-assoc (take (at * 2) pts) (coordinates l) (drop (at * 2 + length (coordinates l)) pts),
+        drop-at (take (at * 2) pts) (coordinates l ++ drop (at * 2 + length (coordinates l)) pts) (at * 2) front,
+      )
       (take-at (coordinates l) _ ((at + length l) * 2 - at * 2) (omega (arith, coordinates-length l)))
 
 -- a list of which only what stands past index n is pasted over keeps its first n
@@ -148,8 +152,10 @@ module _ (g : Graph) (minimum : ℕ) (t : Tables) (w : Walk) (ks rs ws : List Wa
       let n : length (points g w) ≡ size = points-many in
       let i : t .counts .contours < length (t .first) = omega (arith, three, f .threes, f .first-fit) in
       let room : (t .counts .points + length (points g w)) * 2 ≤ length (t .points) = omega (arith, n, f .points-fit) in
-      let p : take ((t .counts .points + size) * 2) (paste (t .points) (t .counts .points) (points g w)) ≡ take (t .counts .points * 2) (t .points) ++ coordinates (points g w) =
-      subst (λ k. take ((t .counts .points + k) * 2) (paste (t .points) (t .counts .points) (points g w)) ≡ take (t .counts .points * 2) (t .points) ++ coordinates (points g w)) n
+      let p : take ((t .counts .points + size) * 2) (paste (t .points) (t .counts .points) (points g w))
+      ≡ take (t .counts .points * 2) (t .points) ++ coordinates (points g w) =
+      subst (λ k. take ((t .counts .points + k) * 2) (paste (t .points) (t .counts .points) (points g w))
+      ≡ take (t .counts .points * 2) (t .points) ++ coordinates (points g w)) n
       (paste-take (t .points) (t .counts .points) (points g w) room) in
       record {
         contours = omega (arith, h .contours);
@@ -158,11 +164,19 @@ module _ (g : Graph) (minimum : ℕ) (t : Tables) (w : Walk) (ks rs ws : List Wa
         walked = omega (arith, h .walked);
         kept-total = h .kept-total ∙ +ℤ-assoc (t .counts .«kept_area») (areaOf g w) _;
         rejected-total = h .rejected-total;
-        points-are = h .points-are ∙ ap (λ (r : List ℤ). r ++ coordinates (allPoints g ks)) p ∙ append-assoc (take (t .counts .points * 2) (t .points)) (coordinates (points g w)) (coordinates (allPoints g ks))
+        points-are =
+            h .points-are ∙ ap (λ (r : List ℤ). r ++ coordinates (allPoints g ks)) p ∙ append-assoc (take (t .counts .points * 2) (t .points))
+            (coordinates (points g w)) (coordinates (allPoints g ks))
             ∙ ap (λ (r : List ℤ). take (t .counts .points * 2) (t .points) ++ r) (sym (coordinates-append (points g w) (allPoints g ks)));
-        first-are = h .first-are ∙ ap (λ (r : List ℕ). r ++ firsts (t .counts .points + size) (lens ks)) (one-more (t .first) (t .counts .contours) _ i) ∙ append-assoc (take (t .counts .contours) (t .first)) _ _;
-        len-are = h .len-are ∙ ap (λ (r : List ℕ). r ++ lens ks) (one-more (t .len) (t .counts .contours) _ (rw (f .len-fit) i)) ∙ append-assoc (take (t .counts .contours) (t .len)) _ _;
-        kind-are = h .kind-are ∙ ap (λ (r : List ℕ). r ++ kinds ks) (one-more (t .kind) (t .counts .contours) _ (rw (f .kind-fit) i)) ∙ append-assoc (take (t .counts .contours) (t .kind)) _ _;
+        first-are =
+            h .first-are ∙ ap (λ (r : List ℕ). r ++ firsts (t .counts .points + size) (lens ks)) (one-more (t .first) (t .counts .contours) _ i)
+            ∙ append-assoc (take (t .counts .contours) (t .first)) _ _;
+        len-are =
+            h .len-are ∙ ap (λ (r : List ℕ). r ++ lens ks) (one-more (t .len) (t .counts .contours) _ (rw (f .len-fit) i))
+            ∙ append-assoc (take (t .counts .contours) (t .len)) _ _;
+        kind-are =
+            h .kind-are ∙ ap (λ (r : List ℕ). r ++ kinds ks) (one-more (t .kind) (t .counts .contours) _ (rw (f .kind-fit) i))
+            ∙ append-assoc (take (t .counts .contours) (t .kind)) _ _;
         points-length = h .points-length ∙ paste-length (t .points) (t .counts .points) (points g w);
         first-length = h .first-length ∙ length-set (t .first) _ _;
         len-length = h .len-length ∙ length-set (t .len) _ _;
@@ -216,7 +230,8 @@ by-size : (g : Graph) (minimum : ℕ) (t : Tables) (w : Walk) (ws : List Walk)
 by-size g minimum t w ws h f true e = kept-entered g minimum t w _ _ ws _ e f (h _ (kept-fits g minimum t w [] [] ws e f))
 by-size g minimum t w ws h f false e = rejected-entered g minimum t w _ _ ws _ (h _ (rejected-fits g minimum t w [] [] ws f))
 
-pub entered : (g : Graph) (minimum : ℕ) (t : Tables) (ws : List Walk) → Fits t ws → Entered g t (kept g minimum ws) (rejected g minimum ws) ws (allNoted g minimum t ws)
+pub entered : (g : Graph) (minimum : ℕ) (t : Tables) (ws : List Walk) → Fits t ws → Entered g t (kept g minimum ws) (rejected g minimum ws) ws
+    (allNoted g minimum t ws)
 entered g minimum t [] f = none-entered g t
 entered g minimum t (w ∷ ws) f = by-size g minimum t w ws (λ t′. entered g minimum t′ ws) f (isKept (length (w .steps)) (areaOf g w) minimum) refl
 
@@ -263,12 +278,27 @@ module _ (g : Graph) (minimum : ℕ) (ws : List Walk) (pts : List ℤ) (first le
       let rejects : t .counts .rejected ≡ length (rejected g minimum ws) = h .rejects ∙ nought (length (rejected g minimum ws)) in
       let walked : t .counts .walked ≡ sum (lens ws) = h .walked ∙ nought (sum (lens ws)) in
       let kept-total : t .counts .«kept_area» ≡ total (areas g ks) = h .kept-total ∙ +ℤ-idl (total (areas g ks)) in
-      let rejected-total : t .counts .«rejected_area» ≡ total (areas g (rejected g minimum ws)) = h .rejected-total ∙ +ℤ-idl (total (areas g (rejected g minimum ws))) in
+      let rejected-total : t .counts .«rejected_area» ≡ total (areas g (rejected g minimum ws)) = h .rejected-total
+      ∙ +ℤ-idl (total (areas g (rejected g minimum ws))) in
       let many : length (lens ks) ≡ length ks = length-map ks (λ w. length (w .steps)) in
       record {
-        counts-are = λ i. record { contours = contours i; points = count i; rejected = rejects i; walked = walked i; «kept_area» = kept-total i; «rejected_area» = rejected-total i };
-        points-are = padded-is (pos 0) (t .counts .points * 2) (t .points) (coordinates (allPoints g ks)) (length pts) (h .points-are) (coordinates-length (allPoints g ks) ∙ ap (λ n. n * 2) (all-points-length g ks ∙ sym count)) (h .points-length);
-        first-are = padded-is 0 (t .counts .contours) (t .first) (firsts 0 (lens ks)) (length first) (h .first-are) (firsts-length 0 (lens ks) ∙ many ∙ sym contours) (h .first-length);
+        counts-are =
+            λ i. record {
+              contours = contours i;
+              points = count i;
+              rejected = rejects i;
+              walked = walked i;
+              «kept_area» = kept-total i;
+              «rejected_area» = rejected-total i;
+            };
+        points-are =
+            padded-is (pos 0) (t .counts .points * 2) (t .points) (coordinates (allPoints g ks)) (length pts) (h .points-are)
+            (coordinates-length (allPoints g ks) ∙ ap (λ n. n * 2) (all-points-length g ks ∙ sym count)) (h .points-length);
+        first-are =
+            padded-is 0 (t .counts .contours) (t .first) (firsts 0 (lens ks)) (length first) (h .first-are)
+            (firsts-length 0 (lens ks) ∙ many ∙ sym contours) (h .first-length);
         len-are = padded-is 0 (t .counts .contours) (t .len) (lens ks) (length len) (h .len-are) (many ∙ sym contours) (h .len-length);
-        kind-are = padded-is 0 (t .counts .contours) (t .kind) (kinds ks) (length kind) (h .kind-are) (length-map ks (λ w. pick (w .hole) 1 0) ∙ sym contours) (h .kind-length);
+        kind-are =
+            padded-is 0 (t .counts .contours) (t .kind) (kinds ks) (length kind) (h .kind-are)
+            (length-map ks (λ w. pick (w .hole) 1 0) ∙ sym contours) (h .kind-length);
       }

@@ -121,7 +121,8 @@ sum-tight f g zero h e i l = absurd (not-suc-le-zero l)
 sum-tight f g (suc n) h e i l =
     let a = h n (omega arith) in
     let b = sum-less f g n (λ j m. h j (omega arith)) in
-    ⊎-elim (λ (q : i ≡ n). rw q (omega arith)) (λ (m : i < n). sum-tight f g n (λ j k. h j (omega arith)) (omega arith) i m) (eq-or-lt-of-le (le-of-suc-le-suc l))
+    ⊎-elim (λ (q : i ≡ n). rw q (omega arith)) (λ (m : i < n). sum-tight f g n (λ j k. h j (omega arith)) (omega arith) i m)
+    (eq-or-lt-of-le (le-of-suc-le-suc l))
 
 -- of the numbers below n, x is one
 nowhere : (x n : ℕ) → n ≤ x → sum (λ i. pick (eqb x i) 1 0) n ≡ 0
@@ -133,7 +134,8 @@ pub sum-once : (x n : ℕ) → x < n → sum (λ i. pick (eqb x i) 1 0) n ≡ 1
 unfolding sum
 sum-once x zero h = absurd (not-suc-le-zero h)
 sum-once x (suc n) h =
-    ⊎-elim (λ (q : x ≡ n). simp (eq-eqb x n q, nowhere x n (omega arith))) (λ (m : x < n). simp (ne-eqb x n (omega arith), sum-once x n m)) (eq-or-lt-of-le (le-of-suc-le-suc h))
+    ⊎-elim (λ (q : x ≡ n). simp (eq-eqb x n q, nowhere x n (omega arith))) (λ (m : x < n). simp (ne-eqb x n (omega arith), sum-once x n m))
+    (eq-or-lt-of-le (le-of-suc-le-suc h))
 
 -- a list of numbers below n is as long as they are counted
 pub counted : (l : List ℕ) (n : ℕ) → ((k : ℕ) → k < length l → getD l k 0 < n) → sum (λ i. count i l) n ≡ length l

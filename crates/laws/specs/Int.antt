@@ -1,4 +1,5 @@
--- The integers as differences of naturals: a ⊖ b. Each operation on ℤ is one on the pairs, and an equation or an order of two differences is one of ℕ, which `omega arith` proves.
+-- The integers as differences of naturals: a ⊖ b. Each operation on ℤ is one on the pairs, and an equation or an order
+-- of two differences is one of ℕ, which `omega arith` proves.
 use mathlib.Core.Path.{_≡_, refl, sym, ap, ap₂, _∙_, subst}
 use Prim.Native.Nat.{ℕ, zero, suc, _+_, _*_, _-_, _≤_, _<_}
 use native.Mathlib.Omega.{arith}

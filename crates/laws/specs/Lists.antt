@@ -75,7 +75,8 @@ module _ {A : Type 0} (d : A) where
   pub place-of : {x : A} (l : List A) → List·Memᴰ x l → Place d x l
   place-of [] m = absurd (List·Memᴰ·not-nil m)
   place-of {x} (y ∷ l) m =
-      ⊎-elim (λ (e : x ≡ y). record { place = 0; within = suc-le-suc zero-le; here = sym e }) (λ (n : List·Memᴰ x l). next (place-of l n)) (List·Memᴰ·cases-cons m)
+      ⊎-elim (λ (e : x ≡ y). record { place = 0; within = suc-le-suc zero-le; here = sym e }) (λ (n : List·Memᴰ x l). next (place-of l n))
+      (List·Memᴰ·cases-cons m)
 
   pub member : (l : List A) (i : ℕ) → i < length l → List·Memᴰ (getD l i d) l
   member [] i h = absurd (not-suc-le-zero h)

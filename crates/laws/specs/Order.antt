@@ -1,4 +1,5 @@
--- The order of ℤ, read by `omega`: `≤in` and `<in` turn a hypothesis into one of ℕ, `≤out` and `<out` turn a goal, and `+-parts x y`, `negℤ-parts x` (or `sub-parts x y`) tell what a sum and a difference are.
+-- The order of ℤ, read by `omega`: `≤in` and `<in` turn a hypothesis into one of ℕ, `≤out` and `<out` turn a goal, and
+-- `+-parts x y`, `negℤ-parts x` (or `sub-parts x y`) tell what a sum and a difference are.
 use mathlib.Core.Path.{_≡_, refl, sym, ap₂, _∙_, subst}
 use mathlib.Core.Logic.{_⊎_, inl, inr}
 use mathlib.Core.Bool.{true, false}

@@ -1,4 +1,5 @@
--- Polynomial identities over ℤ by computation: `ring ρ a b tt` proves that two expressions have equal values at the integers ρ, where their difference multiplied out has only coefficients 0.
+-- Polynomial identities over ℤ by computation: `ring ρ a b tt` proves that two expressions have equal values at the
+-- integers ρ, where their difference multiplied out has only coefficients 0.
 use mathlib.Core.Path.{_≡_, refl, sym, ap, ap₂, _∙_}
 use mathlib.Core.List.{List, [], _∷_}
 use mathlib.Core.Bool.{Bool, true, false, _&&_}
@@ -112,7 +113,8 @@ module _ (ρ : List ℤ) where
   addT-is : (c : ℤ) (m : List ℕ) (p : Poly) → evalP (addT c m p) ρ ≡ c *ℤ evalM m ρ +ℤ evalP p ρ
   addT-is c m nil = refl
   addT-is c m (term d n p) = pick-ind (eqM m n) (term (c +ℤ d) n p) (term d n (addT c m p)) (λ q. evalP q ρ ≡ c *ℤ evalM m ρ +ℤ (d *ℤ evalM n ρ +ℤ evalP p ρ))
-      (λ t. ap (λ u. u +ℤ evalP p ρ) (+*ℤ-dist c d (evalM n ρ)) ∙ +ℤ-assoc (c *ℤ evalM n ρ) (d *ℤ evalM n ρ) (evalP p ρ) ∙ ap (λ k. c *ℤ evalM k ρ +ℤ (d *ℤ evalM n ρ +ℤ evalP p ρ)) (sym (eqM-eq m n (true-is t .is))))
+      (λ t. ap (λ u. u +ℤ evalP p ρ) (+*ℤ-dist c d (evalM n ρ)) ∙ +ℤ-assoc (c *ℤ evalM n ρ) (d *ℤ evalM n ρ) (evalP p ρ)
+      ∙ ap (λ k. c *ℤ evalM k ρ +ℤ (d *ℤ evalM n ρ +ℤ evalP p ρ)) (sym (eqM-eq m n (true-is t .is))))
       (λ _. ap (λ u. d *ℤ evalM n ρ +ℤ u) (addT-is c m p) ∙ +ℤ-left (d *ℤ evalM n ρ) (c *ℤ evalM m ρ) (evalP p ρ))
 
   addP-is : (p q : Poly) → evalP (addP p q) ρ ≡ evalP p ρ +ℤ evalP q ρ
@@ -142,7 +144,8 @@ module _ (ρ : List ℤ) where
   norm-is (var i) = one-term (nth ρ i) ∙ ap (λ t. t +ℤ pos 0) (sym (one-*ℤ (nth ρ i *ℤ pos 1)))
   norm-is (con c) = one-term c
   norm-is (a :+ b) = ap₂ _+ℤ_ (norm-is a) (norm-is b) ∙ sym (addP-is (norm a) (norm b))
-  norm-is (a :- b) = ap₂ _-ℤ_ (norm-is a) (norm-is b) ∙ ap (λ t. evalP (norm a) ρ +ℤ t) (sym (minus-is (norm b))) ∙ sym (addP-is (norm a) (scale (negsuc 0) [] (norm b)))
+  norm-is (a :- b) =
+      ap₂ _-ℤ_ (norm-is a) (norm-is b) ∙ ap (λ t. evalP (norm a) ρ +ℤ t) (sym (minus-is (norm b))) ∙ sym (addP-is (norm a) (scale (negsuc 0) [] (norm b)))
   norm-is (a :* b) = ap₂ _*ℤ_ (norm-is a) (norm-is b) ∙ sym (mulP-is (norm a) (norm b))
   norm-is (neg a) = ap negℤ (norm-is a) ∙ sym (minus-is (norm a))
 

@@ -1,4 +1,5 @@
--- Signs. `sgn` of a product is the signs' product, and of a sum it is one of those that `plusOk` allows. A statement about finitely many signs is proved by trying all of them (`all3`, `all6`): `tt`.
+-- Signs. `sgn` of a product is the signs' product, and of a sum it is one of those that `plusOk` allows. A statement
+-- about finitely many signs is proved by trying all of them (`all3`, `all6`): `tt`.
 use mathlib.Core.Path.{_≡_, refl, sym, ap, _∙_, subst, subst⁻¹}
 use mathlib.Core.Bool.{Bool, true, false, _&&_}
 use Prim.Native.Nat.{ℕ, zero, suc, _+_, _*_, _<_}
@@ -77,7 +78,8 @@ all4 p t a b c d = all3′ (p a) (all-at (λ a. all (λ b. all (λ c. all (p a b
 pub all3 : (p : Sgn → Sgn → Sgn → Bool) → T (all (λ a. all (λ b. all (p a b)))) → (a b c : Sgn) → Is (p a b c)
 all3 p t a b c = record { is = all3′ p t a b c }
 
-pub all6 : (p : Sgn → Sgn → Sgn → Sgn → Sgn → Sgn → Bool) → T (all (λ a. all (λ b. all (λ c. all (λ d. all (λ e. all (p a b c d e))))))) → (a b c d e f : Sgn) → Is (p a b c d e f)
+pub all6 : (p : Sgn → Sgn → Sgn → Sgn → Sgn → Sgn → Bool) → T (all (λ a. all (λ b. all (λ c. all (λ d. all (λ e. all (p a b c d e)))))))
+    → (a b c d e f : Sgn) → Is (p a b c d e f)
 all6 p t a b c d e f = record { is = all4 (p a b) (all2 (λ a b. all (λ c. all (λ d. all (λ e. all (p a b c d e))))) t a b) c d e f }
 
 -- ---- the laws

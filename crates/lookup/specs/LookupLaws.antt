@@ -54,7 +54,8 @@ found-present t owner c r e =
 
 -- and "none" is answered exactly where it is not
 pub missing-absent : (t : Table) (owner : List ℕ) (c : ℕ) → Iff (lookedUp t owner c ≡ Missing) (Present t owner c → ⊥)
-missing-absent t owner c = record { to = λ e p. never (recordOf t owner c) (recordOf t owner c) (sym e ∙ found-record t owner c p); from = λ n. go (lookedUp t owner c) refl n }
+missing-absent t owner c =
+    record { to = λ e p. never (recordOf t owner c) (recordOf t owner c) (sym e ∙ found-record t owner c p); from = λ n. go (lookedUp t owner c) refl n }
   where
     go : (a : Lookup) → lookedUp t owner c ≡ a → (Present t owner c → ⊥) → a ≡ Missing
     go (Found r) e n = absurd (n (found-present t owner c r e))
@@ -62,12 +63,14 @@ missing-absent t owner c = record { to = λ e p. never (recordOf t owner c) (rec
 
 -- ---- a role has the kind and the owner that the table has
 module _ (owner shape hulls : ℕ) where
-  pub role-values : (kind : ℕ) → kind ≤ 1 → ownerRight kind owner shape hulls ≡ true → (roleKind (roleOf kind owner hulls) ≡ kind) × (roleOwner (roleOf kind owner hulls) ≡ owner)
+  pub role-values : (kind : ℕ) → kind ≤ 1 → ownerRight kind owner shape hulls ≡ true → (roleKind (roleOf kind owner hulls) ≡ kind)
+      × (roleOwner (roleOf kind owner hulls) ≡ owner)
   role-values zero l e = (refl, refl)
   role-values (suc kind) l e =
       let z : kind ≡ 0 = omega arith in
       rw z (go (ℕ-discrete hulls 0) (rw z at e))
     where
-      go : Dec (hulls ≡ 0) → pick (eqb hulls 0) (eqb owner droppedOwner) (ltb owner hulls) ≡ true → (roleKind (roleOf 1 owner hulls) ≡ 1) × (roleOwner (roleOf 1 owner hulls) ≡ owner)
+      go : Dec (hulls ≡ 0) → pick (eqb hulls 0) (eqb owner droppedOwner) (ltb owner hulls) ≡ true → (roleKind (roleOf 1 owner hulls) ≡ 1)
+          × (roleOwner (roleOf 1 owner hulls) ≡ owner)
       go (yes q) e = let w = eq-eqb hulls 0 q in rw w (refl, sym (eqb-true owner droppedOwner (rw w at e)))
       go (no q) e = let w = ne-eqb hulls 0 q in rw w (refl, refl)

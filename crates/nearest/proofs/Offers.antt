@@ -89,7 +89,8 @@ pub held : (g : EdgeLists) (k : ℕ) (e : Edge) → e ≡ listedEdge g k → OnG
 held g k e d l r = record { is = d; left = l .0; right = r .0 }
 
 -- what is kept at an anchor that the code holds
-pub kept-at : (g : EdgeLists) (h : Anchors) (k j : ℕ) (a : Anchor) (r b : ℕ) → a ≡ listedAnchor h j → r ≡ kept (listedEdge g) a k b → r ≡ kept (listedEdge g) (listedAnchor h j) k b
+pub kept-at : (g : EdgeLists) (h : Anchors) (k j : ℕ) (a : Anchor) (r b : ℕ) → a ≡ listedAnchor h j → r ≡ kept (listedEdge g) a k b → r
+    ≡ kept (listedEdge g) (listedAnchor h j) k b
 kept-at g h k j a r b e q = rw e at q
 
 -- a number as the code reads it
@@ -97,12 +98,14 @@ abbrev R : ℤ → ℤ
 R z = toZ w32 (ofZ w32 z)
 
 -- an edge that the code sees not to run to the right
-pub offer-back : (g : EdgeLists) (h : Anchors) (m k : ℕ) (e : Edge) → Held g k e → leZ (R (e .right .x)) (R (e .left .x)) ≡ true → (old : List ℕ) → Offered g h m k old old
+pub offer-back : (g : EdgeLists) (h : Anchors) (m k : ℕ) (e : Edge) → Held g k e → leZ (R (e .right .x)) (R (e .left .x)) ≡ true → (old : List ℕ)
+    → Offered g h m k old old
 offer-back g h m k e x t old j l =
     let b = le-yes (e .right .x) (e .left .x) (rw (coord32 (e .right .x) (x .right), coord32 (e .left .x) (x .left)) at t) in
     offered-back (listedEdge g) (listedAnchor h j) k (getD old j 0) (rw (x .is) at b)
 
-module _ (g : EdgeLists) (h : Anchors) (m k : ℕ) (e : Edge) (from : ℕ) (hs : SortedAnchors h m) (x : Held g k e) (part : Parted (h .x) m (R (e .left .x)) from) (old : List ℕ) where
+module _ (g : EdgeLists) (h : Anchors) (m k : ℕ) (e : Edge) (from : ℕ) (hs : SortedAnchors h m) (x : Held g k e)
+    (part : Parted (h .x) m (R (e .left .x)) from) (old : List ℕ) where
   pub offer-start : Offering g h k old old from from
   offer-start = record {
     len = refl;
@@ -138,7 +141,8 @@ module _ (g : EdgeLists) (h : Anchors) (m k : ℕ) (e : Edge) (from : ℕ) (hs :
       len = length-set new j r ∙ o .len;
       on = omega (arith, o .on);
       done = put-below 0 (λ i. offered (listedEdge g) (listedAnchor h i) k (getD old i 0)) new j r (omega (arith, o .len))
-          (q ∙ ap (kept (listedEdge g) (listedAnchor h j) k) (o .rest j (omega arith)) ∙ offered-in (listedEdge g) (listedAnchor h j) k (getD old j 0) (rw (x .is) at begun) (rw (x .is) at before))
+          (q ∙ ap (kept (listedEdge g) (listedAnchor h j) k) (o .rest j (omega arith)) ∙ offered-in (listedEdge g) (listedAnchor h j) k (getD old j 0)
+          (rw (x .is) at begun) (rw (x .is) at before))
           (o .done);
       rest = put-above 0 (λ i. getD old i 0) new j r (o .rest);
     }
@@ -174,18 +178,22 @@ module _ (g : EdgeLists) (mute : List ℕ) (n : ℕ) (h : Anchors) (m : ℕ) (ol
     rounds-mute l e = record {
       len = r .len;
       on = omega arith;
-      best = λ j v. r .best j v ∙ rw (listed-contour g k, ne-eqb (getD mute (getD (g .of) k 0) 0) 0 e) refl ∙ nearest-more (listedEdge g) (giving mute) (listedAnchor h j) k;
+      best = λ j v. r .best j v ∙ rw (listed-contour g k, ne-eqb (getD mute (getD (g .of) k 0) 0) 0 e) refl
+          ∙ nearest-more (listedEdge g) (giving mute) (listedAnchor h j) k;
     }
 
-    pub rounds-again : (new : List ℕ) → k < n → getD mute (getD (g .of) k 0) 0 ≡ 0 → length new ≡ length mid → Offered g h m k mid new → Rounds g mute n h m old new (k + 1)
+    pub rounds-again : (new : List ℕ) → k < n → getD mute (getD (g .of) k 0) 0 ≡ 0 → length new ≡ length mid → Offered g h m k mid new
+        → Rounds g mute n h m old new (k + 1)
     unfolding keep
     rounds-again new l z e o = record {
       len = e ∙ r .len;
       on = omega arith;
-      best = λ j v. o j v ∙ ap (offered (listedEdge g) (listedAnchor h j) k) (r .best j v) ∙ given j ∙ nearest-more (listedEdge g) (giving mute) (listedAnchor h j) k;
+      best = λ j v. o j v ∙ ap (offered (listedEdge g) (listedAnchor h j) k) (r .best j v) ∙ given j ∙ nearest-more (listedEdge g) (giving mute)
+          (listedAnchor h j) k;
     }
       where
-        given : (j : ℕ) → offered (listedEdge g) (listedAnchor h j) k (nearest (listedEdge g) (giving mute) (listedAnchor h j) k) ≡ keep (listedEdge g) (giving mute) (listedAnchor h j) k (nearest (listedEdge g) (giving mute) (listedAnchor h j) k)
+        given : (j : ℕ) → offered (listedEdge g) (listedAnchor h j) k (nearest (listedEdge g) (giving mute) (listedAnchor h j) k)
+            ≡ keep (listedEdge g) (giving mute) (listedAnchor h j) k (nearest (listedEdge g) (giving mute) (listedAnchor h j) k)
         given j = rw (listed-contour g k, eq-eqb (getD mute (getD (g .of) k 0) 0) 0 z)
 
     pub rounds-end : n ≤ k → Nearests g mute n h m mid

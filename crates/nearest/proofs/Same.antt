@@ -57,7 +57,8 @@ module _ (t : Table) (s : Sound t) (next′ of : List ℕ) (r : Round (ranges (t
       pub best-numbers : Numbers best m (pointCount t)
       best-numbers j l = rw (n j l) (nearest-le (listedEdge g) (giving mute) (listedAnchor h j) (pointCount t))
 
-      listed : (a : Anchor) (b : ℕ) → b ≡ nearest (listedEdge g) (giving mute) a (pointCount t) → named of b ≡ contourUnder (listedEdge g) (giving mute) a (pointCount t)
+      listed : (a : Anchor) (b : ℕ) → b ≡ nearest (listedEdge g) (giving mute) a (pointCount t) → named of b
+          ≡ contourUnder (listedEdge g) (giving mute) a (pointCount t)
       unfolding contourUnder
       listed a b e = rw (← e, listed-contour g (b - 1))
 

@@ -87,7 +87,8 @@ module _ (edge : ℕ → Edge) (gives : ℕ → Bool) (a : Anchor) where
     first c r = record {
       one = omega arith;
       counted = c;
-      least = below-suc (λ k. counts edge gives a k ≡ true → nearer a (edge k) (edge n) ≡ false) n (λ k l t. absurd (true≢false t (r .not k l))) (λ t. nearer-same a (edge n));
+      least = below-suc (λ k. counts edge gives a k ≡ true → nearer a (edge k) (edge n) ≡ false) n (λ k l t. absurd (true≢false t (r .not k l)))
+          (λ t. nearer-same a (edge n));
     }
 
     -- it is nearer
@@ -95,13 +96,17 @@ module _ (edge : ℕ → Edge) (gives : ℕ → Bool) (a : Anchor) where
     takes-over c b w r = record {
       one = omega arith;
       counted = c;
-      least = below-suc (λ k. counts edge gives a k ≡ true → nearer a (edge k) (edge n) ≡ false) n (λ k m t. not-true _ (λ v. farther k m t v)) (λ t. nearer-same a (edge n));
+      least = below-suc (λ k. counts edge gives a k ≡ true → nearer a (edge k) (edge n) ≡ false) n (λ k m t. not-true _ (λ v. farther k m t v))
+          (λ t. nearer-same a (edge n));
     }
       where
         farther : (k : ℕ) → k < n → counts edge gives a k ≡ true → nearer a (edge k) (edge n) ≡ true → ⊥
         farther k m t v =
             true≢false
-            (is-true (record { is = nearer-trans a (edge k) (edge n) (edge b) (counts-runs k t) (counts-runs n c) (counts-runs b (r .counted)) (true-is v .is) (true-is w .is) }))
+            (is-true (record {
+              is = nearer-trans a (edge k) (edge n) (edge b) (counts-runs k t) (counts-runs n c) (counts-runs b (r .counted))
+                  (true-is v .is) (true-is w .is);
+            }))
             (r .least k m t)
 
     -- it is not
@@ -116,17 +121,25 @@ module _ (edge : ℕ → Edge) (gives : ℕ → Bool) (a : Anchor) where
     unfolding keep offered kept
     step b r = go (counts edge gives a n) refl b r
       where
-        next : (b : ℕ) → counts edge gives a n ≡ true → (w : Bool) → nearer a (edge n) (edge b) ≡ w → Nearest edge gives a n b → Best edge gives a (suc n) (keep edge gives a n (suc b))
+        next : (b : ℕ) → counts edge gives a n ≡ true → (w : Bool) → nearer a (edge n) (edge b) ≡ w → Nearest edge gives a n b
+            → Best edge gives a (suc n) (keep edge gives a n (suc b))
         next b c true e r =
             let q : suc b - 1 ≡ b = omega arith in
-            subst (Best edge gives a (suc n)) (sym (add-one n) ∙ pick-takes (gives (edge n .contour)) (spans (a .at .x) (edge n)) (liesUnder a (edge n)) _ (n + 1) (suc b) c (rw (ne-eqb (suc b) 0 (λ z. omega arith), q) e)) (takes-over c b e r)
+            subst (Best edge gives a (suc n))
+            (sym (add-one n) ∙ pick-takes (gives (edge n .contour)) (spans (a .at .x) (edge n)) (liesUnder a (edge n)) _ (n + 1) (suc b) c
+            (rw (ne-eqb (suc b) 0 (λ z. omega arith), q) e)) (takes-over c b e r)
         next b c false e r =
             let q : suc b - 1 ≡ b = omega arith in
-            subst (Best edge gives a (suc n)) (pick-stays (gives (edge n .contour)) (spans (a .at .x) (edge n)) (liesUnder a (edge n)) _ (n + 1) (suc b) (rw (ne-eqb (suc b) 0 (λ z. omega arith), q) e)) (stays b e r)
+            subst (Best edge gives a (suc n)) (pick-stays (gives (edge n .contour)) (spans (a .at .x) (edge n)) (liesUnder a (edge n)) _ (n + 1)
+            (suc b) (rw (ne-eqb (suc b) 0 (λ z. omega arith), q) e)) (stays b e r)
 
         go : (c : Bool) → counts edge gives a n ≡ c → (b : ℕ) → Best edge gives a n b → Best edge gives a (suc n) (keep edge gives a n b)
-        go false c b r = subst (Best edge gives a (suc n)) (pick-skip (gives (edge n .contour)) (spans (a .at .x) (edge n)) (liesUnder a (edge n)) _ (n + 1) b c) (skip c b r)
-        go true c zero r = subst (Best edge gives a (suc n)) (sym (add-one n) ∙ pick-takes (gives (edge n .contour)) (spans (a .at .x) (edge n)) (liesUnder a (edge n)) _ (n + 1) 0 c refl) (first c r)
+        go false c b r =
+            subst (Best edge gives a (suc n)) (pick-skip (gives (edge n .contour)) (spans (a .at .x) (edge n)) (liesUnder a (edge n)) _ (n + 1) b c)
+            (skip c b r)
+        go true c zero r =
+            subst (Best edge gives a (suc n))
+            (sym (add-one n) ∙ pick-takes (gives (edge n .contour)) (spans (a .at .x) (edge n)) (liesUnder a (edge n)) _ (n + 1) 0 c refl) (first c r)
         go true c (suc b) r = next b c (nearer a (edge n) (edge b)) refl r
 
   pub best : (n : ℕ) → Best edge gives a n (nearest edge gives a n)
@@ -165,7 +178,8 @@ nearest-le edge gives a (suc k) =
     let r = nearest-le edge gives a k in
     pick-ind (gives (edge k .contour)) (offered edge a k (nearest edge gives a k)) (nearest edge gives a k) (λ (b : ℕ). b ≤ suc k)
     (λ _. pick-ind (spans (a .at .x) (edge k)) (kept edge a k (nearest edge gives a k)) (nearest edge gives a k) (λ (b : ℕ). b ≤ suc k)
-    (λ _. pick-ind (liesUnder a (edge k) && (eqb (nearest edge gives a k) 0 || nearer a (edge k) (edge (nearest edge gives a k - 1)))) (k + 1) (nearest edge gives a k) (λ (b : ℕ). b ≤ suc k)
+    (λ _. pick-ind (liesUnder a (edge k) && (eqb (nearest edge gives a k) 0 || nearer a (edge k) (edge (nearest edge gives a k - 1)))) (k + 1)
+    (nearest edge gives a k) (λ (b : ℕ). b ≤ suc k)
     (λ _. omega arith) (λ _. omega arith)) (λ _. omega arith)) (λ _. omega arith)
 
 -- ---- the search answers a contour of the table, and 1, or 0

@@ -56,7 +56,8 @@ module _ {start list : List ℕ} {v n from to : ℕ} (p : Part start list v n fr
   cross-entries w e = w (sym (stretch-length list from to (p .rises) (p .ends)) ∙ sym (ap length (p .is)) ∙ e)
 
 -- ---- the answers: for any graph of the links lent, with the fact that a caller needs
-pub first-answer : (of : List ℕ → List ℕ → Graph) (st : List ℕ) (r : Next) (k : ℕ) → isUnvisited st k ≡ true → ((bid top : List ℕ) → r ≡ firstLink (of bid top) st k)
+pub first-answer : (of : List ℕ → List ℕ → Graph) (st : List ℕ) (r : Next) (k : ℕ) → isUnvisited st k ≡ true
+    → ((bid top : List ℕ) → r ≡ firstLink (of bid top) st k)
     → ((bid top : List ℕ) → r ≡ firstLink (of bid top) st k) × NamesUnvisited st r
 first-answer of st r k o h = (h, rw (h [] []) (first-unvisited (of [] []) st k o))
 

@@ -17,7 +17,8 @@ use Rattle.graph.specs.Graph.{Graph}
 use Rattle.next.specs.declared.Next.the-variants.{Link, Nothing}
 use Rattle.next.specs.declared.Ray.{Ray}
 use Rattle.next.specs.declared.Side.{Side}
-use Rattle.next.specs.Next.{isUnvisited, unvisitedIn, onlyUnvisited, runs, metFirst, best, firstMet, replaces, topmost}
+use Rattle.next.specs.Next.{isUnvisited, unvisitedIn, onlyUnvisited, metFirst, best, firstMet, replaces, topmost}
+use Rattle.graph.specs.Checks.{awayFrom}
 use Rattle.next.specs.Known.{stretch, rayOf, sideOf}
 use Rattle.next.specs.Passed.{Passed}
 use Rattle.next.specs.States.{read-unvisited, read-shut}
@@ -36,14 +37,14 @@ only-miss st k h n = rw (read-shut st k h n)
 
 -- ---- the way of a link from a node, from its points
 module _ (g : Graph) (v k : ℕ) (a b : Point) (p : a ≡ g .a k) (q : b ≡ g .b k) (w : Vector) where
-  pub way-from-a : g .aNode k ≡ v → w ≡ fromTo a b → w ≡ runs g v k
+  pub way-from-a : g .aNode k ≡ v → w ≡ fromTo a b → w ≡ awayFrom g v k
   way-from-a h e = rw (e, p, q, eq-eqb _ _ h)
 
-  pub way-from-b : (g .aNode k ≡ v → ⊥) → w ≡ fromTo b a → w ≡ runs g v k
+  pub way-from-b : (g .aNode k ≡ v → ⊥) → w ≡ fromTo b a → w ≡ awayFrom g v k
   way-from-b h e = rw (e, p, q, ne-eqb _ _ h)
 
 -- ---- a link as it is met at a node, from its way and its half turn
-pub ray-from : (g : Graph) (sense : Bool) (v : ℕ) (from : Vector) (k : ℕ) (w : Vector) (h : ℕ) → w ≡ runs g v k → h ≡ rank (halfOf sense from w)
+pub ray-from : (g : Graph) (sense : Bool) (v : ℕ) (from : Vector) (k : ℕ) (w : Vector) (h : ℕ) → w ≡ awayFrom g v k → h ≡ rank (halfOf sense from w)
     → record { link = k; way = w; half = h } ≡ rayOf g sense v from k
 ray-from g sense v from k w h p q = rw (q, p)
 
@@ -101,13 +102,15 @@ pub record Turned (g : Graph) (sense : Bool) (st list : List ℕ) (v e k from to
   pub low : from ≤ i
   pub within : i ≤ to
   pub here : i < to → isUnvisited st (getD list i 0) ≡ true
-  pub base : way ≡ runs g v e
+  pub base : way ≡ awayFrom g v e
   pub ok : choice ≡ rayOf g sense v way (choice .link)
   pub short : Short (choice .way)
-  pub ends : best (metFirst g sense v e) k (unvisitedIn st (stretch list from to)) ≡ best (metFirst g sense v e) (choice .link) (unvisitedIn st (stretch list i to))
+  pub ends : best (metFirst g sense v e) k (unvisitedIn st (stretch list from to)) ≡ best (metFirst g sense v e) (choice .link)
+      (unvisitedIn st (stretch list i to))
 
-pub turn-start : (g : Graph) (sense : Bool) (st list : List ℕ) (v e k from to : ℕ) (way : Vector) (choice : Ray) → from ≤ to → (from < to → isUnvisited st (getD list from 0) ≡ true)
-    → way ≡ runs g v e → choice ≡ rayOf g sense v way k → Short (choice .way) → Turned g sense st list v e k from to from way choice
+pub turn-start : (g : Graph) (sense : Bool) (st list : List ℕ) (v e k from to : ℕ) (way : Vector) (choice : Ray) → from ≤ to
+    → (from < to → isUnvisited st (getD list from 0) ≡ true)
+    → way ≡ awayFrom g v e → choice ≡ rayOf g sense v way k → Short (choice .way) → Turned g sense st list v e k from to from way choice
 turn-start g sense st list v e k from to way choice h o b q s =
     let n : k ≡ choice .link = sym (ap (λ (y : Ray). y .link) q) in
     record {
@@ -124,11 +127,13 @@ turn-start g sense st list v e k from to way choice h o b q s =
 abbrev rayBefore : Bool → Ray → Ray → Bool
 rayBefore sense y z = byRank (y .half) (z .half) (is-mns (turned sense (sgn (cross (y .way) (z .way)))))
 
-ray-before : (g : Graph) (sense : Bool) (v e : ℕ) (way : Vector) (y z : Ray) (j c : ℕ) → way ≡ runs g v e → y ≡ rayOf g sense v way j → z ≡ rayOf g sense v way c
+ray-before : (g : Graph) (sense : Bool) (v e : ℕ) (way : Vector) (y z : Ray) (j c : ℕ) → way ≡ awayFrom g v e → y ≡ rayOf g sense v way j → z
+    ≡ rayOf g sense v way c
     → rayBefore sense y z ≡ metFirst g sense v e j c
-ray-before g sense v e way y z j c b p q = rw (p, q, b) (met-by-rank sense (runs g v e) (runs g v j) (runs g v c) _ _ refl refl)
+ray-before g sense v e way y z j c b p q = rw (p, q, b) (met-by-rank sense (awayFrom g v e) (awayFrom g v j) (awayFrom g v c) _ _ refl refl)
 
-module _ {g : Graph} {sense : Bool} {st list : List ℕ} {v e k from to i : ℕ} {way : Vector} {choice : Ray} (w : Turned g sense st list v e k from to i way choice) where
+module _ {g : Graph} {sense : Bool} {st list : List ℕ} {v e k from to i : ℕ} {way : Vector} {choice : Ray}
+    (w : Turned g sense st list v e k from to i way choice) where
   module _ (h : i < to) (t : to ≤ length list) {x j : ℕ} {other r : Ray}
       (q : x ≡ getD list i 0) (o : other ≡ rayOf g sense v way x) (s : Short (other .way))
       (f : r ≡ pick (rayBefore sense other choice) other choice) (p : Passed list st (i + 1) to j) where
@@ -145,7 +150,8 @@ module _ {g : Graph} {sense : Bool} {st list : List ℕ} {v e k from to i : ℕ}
     link-is = pick-ind test other choice (λ y. y .link ≡ pick test x (choice .link)) (λ b. rw b (ap (λ (y : Ray). y .link) o)) (λ b. rw b)
 
     chosen : pick (lt (getD list i 0) (choice .link)) (getD list i 0) (choice .link) ≡ r .link
-    chosen = sym (ap (λ (y : Ray). y .link) f ∙ link-is ∙ ap (λ (b : Bool). pick b x (choice .link)) test-is ∙ ap (λ (z : ℕ). pick (lt z (choice .link)) z (choice .link)) q)
+    chosen = sym (ap (λ (y : Ray). y .link) f ∙ link-is ∙ ap (λ (b : Bool). pick b x (choice .link)) test-is
+        ∙ ap (λ (z : ℕ). pick (lt z (choice .link)) z (choice .link)) q)
 
     pub turn-on : Turned g sense st list v e k from to j way r
     turn-on = record {
@@ -153,7 +159,9 @@ module _ {g : Graph} {sense : Bool} {st list : List ℕ} {v e k from to i : ℕ}
       within = p .high;
       here = p .here;
       base = w .base;
-      ok = rw f (pick-ind test other choice (λ y. y ≡ rayOf g sense v way (y .link)) (λ _. o ∙ ap (rayOf g sense v way) (sym (ap (λ (y : Ray). y .link) o))) (λ _. w .ok));
+      ok = rw f
+          (pick-ind test other choice (λ y. y ≡ rayOf g sense v way (y .link)) (λ _. o ∙ ap (rayOf g sense v way) (sym (ap (λ (y : Ray). y .link) o)))
+          (λ _. w .ok));
       short = rw f (pick-ind test other choice (λ y. Short (y .way)) (λ _. s) (λ _. w .short));
       ends = w .ends ∙ ap (best lt (choice .link)) (unvisited-in-hit list st i to h t (w .here h)) ∙ ap₂ (best lt) chosen (p .rest);
     }
@@ -177,5 +185,6 @@ module _ (lt : ℕ → ℕ → Bool) {list st : List ℕ} {from to first : ℕ} 
     pub met-one : (k : ℕ) → k ≡ getD list first 0 → second ≡ to → Link k ≡ firstMet lt (unvisitedIn st (stretch list from to))
     met-one k f e = rw (split, e, unvisited-in-none list st to, f)
 
-    pub met-more : (k r : ℕ) → k ≡ getD list first 0 → r ≡ best lt k (unvisitedIn st (stretch list second to)) → Link r ≡ firstMet lt (unvisitedIn st (stretch list from to))
+    pub met-more : (k r : ℕ) → k ≡ getD list first 0 → r ≡ best lt k (unvisitedIn st (stretch list second to)) → Link r
+        ≡ firstMet lt (unvisitedIn st (stretch list from to))
     met-more k r f e = rw (split, e, f)

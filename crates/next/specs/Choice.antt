@@ -14,7 +14,9 @@ use Rattle.graph.specs.Graph.{Graph}
 use Rattle.next.specs.declared.Next.{Next}
 use Rattle.next.specs.declared.Next.the-variants.{Link, Nothing}
 use Rattle.next.specs.declared.Across.the-variants.{Named, Choice}
-use Rattle.next.specs.Next.{isUnvisited, unvisitedIn, onlyUnvisited, Node, bridge, crossing, nodeOf, runs, metFirst, best, firstMet, acrossFrom, nextAt, acrossAt, nextLink}
+use Rattle.next.specs.Next.{isUnvisited, unvisitedIn, onlyUnvisited, Node, bridge, crossing, nodeOf, metFirst, best, firstMet, acrossFrom}
+use Rattle.next.specs.Next.{nextAt, acrossAt, nextLink}
+use Rattle.graph.specs.Checks.{awayFrom}
 use Rattle.next.specs.Known.{NamesUnvisited}
 use Rattle.next.specs.States.{names-unvisited, only-unvisited}
 
@@ -32,7 +34,8 @@ unvisited-in-in st (y ∷ l) x m o = pick-ind (isUnvisited st y) (y ∷ unvisite
 pub unvisited-in-of : (st l : List ℕ) (x : ℕ) → Mem x (unvisitedIn st l) → Mem x l × (isUnvisited st x ≡ true)
 unvisited-in-of st [] x = λ m. absurd (List·Memᴰ·not-nil m)
 unvisited-in-of st (y ∷ l) x = pick-ind (isUnvisited st y) (y ∷ unvisitedIn st l) (unvisitedIn st l) (λ r. Mem x r → Mem x (y ∷ l) × (isUnvisited st x ≡ true))
-    (λ t m. ⊎-elim (λ (q : x ≡ y). (List·Memᴰ·head q, rw q t)) (λ k. let r = unvisited-in-of st l x k in (List·Memᴰ·tail (r .0), r .1)) (List·Memᴰ·cases-cons m))
+    (λ t m. ⊎-elim (λ (q : x ≡ y). (List·Memᴰ·head q, rw q t)) (λ k. let r = unvisited-in-of st l x k in (List·Memᴰ·tail (r .0), r .1))
+    (List·Memᴰ·cases-cons m))
     (λ n m. let r = unvisited-in-of st l x m in (List·Memᴰ·tail (r .0), r .1))
 
 -- ---- the first met of a list, for a strict order
@@ -61,7 +64,8 @@ module _ (lt : ℕ → ℕ → Bool) where
         won : {r : ℕ} → Is (lt x c) → Least x l r → Least c (x ∷ l) r
         won {r} t h = record {
           choice = inr (⊎-elim (λ (q : r ≡ x). subst (λ u. Is (lt u c)) (sym q) t) (λ k. trans r x c k t) (h .choice));
-          none = λ y m p. ⊎-elim (λ (q : y ≡ c). h .none x (List·Memᴰ·head refl) (trans x c r t (subst (λ u. Is (lt u r)) q p))) (λ k. h .none y k p) (List·Memᴰ·cases-cons m);
+          none = λ y m p. ⊎-elim (λ (q : y ≡ c). h .none x (List·Memᴰ·head refl) (trans x c r t (subst (λ u. Is (lt u r)) q p))) (λ k. h .none y k p)
+              (List·Memᴰ·cases-cons m);
         }
 
         kept : {r : ℕ} → lt x c ≡ false → Least c l r → Least c (x ∷ l) r
@@ -69,7 +73,8 @@ module _ (lt : ℕ → ℕ → Bool) where
           choice = h .choice;
           none = λ y m p. ⊎-elim
               (λ (q : y ≡ c). h .none y (List·Memᴰ·head q) p)
-              (λ k. ⊎-elim (λ (q : y ≡ x). true≢false (is-true (later (subst (λ u. Is (lt u r)) q p) (h .choice))) n) (λ j. h .none y (List·Memᴰ·tail j) p) (List·Memᴰ·cases-cons k))
+              (λ k. ⊎-elim (λ (q : y ≡ x). true≢false (is-true (later (subst (λ u. Is (lt u r)) q p) (h .choice))) n)
+              (λ j. h .none y (List·Memᴰ·tail j) p) (List·Memᴰ·cases-cons k))
               (List·Memᴰ·cases-cons m);
         }
           where
@@ -135,7 +140,8 @@ next-unvisited g sense st v e = at (nodeOf (g .entries v))
     at (crossing l) = met (unvisitedIn st l) (λ x m. unvisited-in-of st l x m .1)
 
 -- an answer that is the next link in any graph of the links lent, with the fact that a caller needs
-pub next-answer : (of : List ℕ → List ℕ → Graph) (sense : Bool) (st : List ℕ) (v e : ℕ) (r : Next) → ((bid top : List ℕ) → r ≡ nextLink (of bid top) sense st v e)
+pub next-answer : (of : List ℕ → List ℕ → Graph) (sense : Bool) (st : List ℕ) (v e : ℕ) (r : Next)
+    → ((bid top : List ℕ) → r ≡ nextLink (of bid top) sense st v e)
     → ((bid top : List ℕ) → r ≡ nextLink (of bid top) sense st v e) × NamesUnvisited st r
 next-answer of sense st v e r h = (h, rw (h [] []) (next-unvisited (of [] []) sense st v e))
 
@@ -173,10 +179,10 @@ module _ (g : Graph) (sense : Bool) (st : List ℕ) (v e : ℕ) where
   lt = metFirst g sense v e
 
   irr : (x : ℕ) → Is (lt x x) → ⊥
-  irr x = irreflexive sense (runs g v e) (runs g v x)
+  irr x = irreflexive sense (awayFrom g v e) (awayFrom g v x)
 
   trans : (x y z : ℕ) → Is (lt x y) → Is (lt y z) → Is (lt x z)
-  trans x y z = transitive sense (runs g v e) (runs g v x) (runs g v y) (runs g v z)
+  trans x y z = transitive sense (awayFrom g v e) (awayFrom g v x) (awayFrom g v y) (awayFrom g v z)
 
   -- at a `Cross`
   module _ (cross : length (g .entries v) ≡ 2 → ⊥) where

@@ -1,4 +1,5 @@
--- What a graph that the checks call fine gives the functions here: what they require, and that the first link of the scan is the topmost of the unvisited links at its node.
+-- What a graph that the checks call fine gives the functions here: what they require, and that the first link of the
+-- scan is the topmost of the unvisited links at its node.
 use Prim.Native.Nat.{ℕ, _+_, _-_, _≤_, _<_}
 use native.Mathlib.Omega.{arith}
 use mathlib.Core.Path.{_≡_, sym, ap, _∙_, subst}
@@ -39,7 +40,8 @@ module _ {g : Lent} {top state : List ℕ} {r : Room} (h : FineGraph g top state
     in-part v i l low high =
         let at : getD (g .start) v 0 + (i - getD (g .start) v 0) ≡ i = omega arith in
         let within : i - getD (g .start) v 0 < getD (g .start) (v + 1) 0 - getD (g .start) v 0 = omega arith in
-        let is : getD (G .entries v) (i - getD (g .start) v 0) 0 ≡ getD (g .list) i 0 = getD-take _ _ _ 0 within ∙ getD-drop _ (g .list) _ 0 ∙ ap (λ (j : ℕ). getD (g .list) j 0) at in
+        let is : getD (G .entries v) (i - getD (g .start) v 0) 0 ≡ getD (g .list) i 0 = getD-take _ _ _ 0 within ∙ getD-drop _ (g .list) _ 0
+        ∙ ap (λ (j : ℕ). getD (g .list) j 0) at in
         let below = h .lists .below-at v (i - getD (g .start) v 0) (omega (arith, part-length (h .rising) v l)) in
         omega arith
 

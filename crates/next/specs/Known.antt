@@ -10,7 +10,7 @@ use Rattle.turn.specs.Points.{OnGrid}
 use Rattle.turn.specs.Angle.{halfOf}
 use Rattle.turn.specs.Rank.{rank}
 use Rattle.graph.specs.Graph.{Graph, graphOf, lent, pointAt}
-use Rattle.next.specs.Next.{runs}
+use Rattle.graph.specs.Checks.{awayFrom}
 use Rattle.next.specs.declared.Next.{Next}
 use Rattle.next.specs.declared.Next.the-variants.{Link, Nothing}
 use Rattle.next.specs.declared.Ray.{Ray}
@@ -62,7 +62,7 @@ stretch list from to = take (to - from) (drop from list)
 
 -- a link with the way that it runs from a node and its half turn from another way, and a link with its two points, as the code keeps them
 abbrev pub rayOf : Graph → Bool → ℕ → Vector → ℕ → Ray
-rayOf g sense v from k = record { link = k; way = runs g v k; half = rank (halfOf sense from (runs g v k)) }
+rayOf g sense v from k = record { link = k; way = awayFrom g v k; half = rank (halfOf sense from (awayFrom g v k)) }
 
 abbrev pub sideOf : Graph → ℕ → Side
 sideOf g k = record { link = k; a = g .a k; b = g .b k }

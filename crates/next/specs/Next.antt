@@ -1,14 +1,14 @@
 -- Visit states, the next link at a node (rule 3) and the first link of a walk (rule 1).
 use Prim.Native.Nat.{ℕ, suc}
-use mathlib.Core.Bool.{Bool, true, not, _&&_}
+use mathlib.Core.Bool.{Bool, not, _&&_}
 use mathlib.Core.List.{List, [], _∷_}
 use lib.ListN.{getD}
 use lib.Dec.{eqb}
 use Rattle.laws.specs.Test.{pick}
-use Rattle.turn.specs.declared.Vector.{Vector}
-use Rattle.turn.specs.Points.{fromTo, clockwise}
+use Rattle.turn.specs.Points.{clockwise}
 use Rattle.turn.specs.Angle.{metBefore}
 use Rattle.graph.specs.Graph.{Graph}
+use Rattle.graph.specs.Checks.{awayFrom}
 use Rattle.next.specs.declared.Next.{Next}
 use Rattle.next.specs.declared.Next.the-variants.{Link, Nothing}
 use Rattle.next.specs.declared.Across.{Across}
@@ -47,10 +47,6 @@ nodeOf (x ∷ []) = crossing (x ∷ [])
 nodeOf (x ∷ (y ∷ [])) = bridge x y
 nodeOf (x ∷ (y ∷ (z ∷ l))) = crossing (x ∷ (y ∷ (z ∷ l)))
 
--- link k as it runs from its end at node v
-abbrev pub runs : Graph → ℕ → ℕ → Vector
-runs g v k = pick (eqb (g .aNode k) v) (fromTo (g .a k) (g .b k)) (fromTo (g .b k) (g .a k))
-
 -- the node at link k's other end
 abbrev pub other : Graph → ℕ → ℕ → ℕ
 other g v k = pick (eqb (g .aNode k) v) (g .bNode k) (g .aNode k)
@@ -59,7 +55,7 @@ other g v k = pick (eqb (g .aNode k) v) (g .bNode k) (g .aNode k)
 
 -- turning at node v from link e, clockwise if the sense is true, link f is met strictly before link h
 abbrev pub metFirst : Graph → Bool → ℕ → ℕ → ℕ → ℕ → Bool
-metFirst g sense v e f h = metBefore sense (runs g v e) (runs g v f) (runs g v h)
+metFirst g sense v e f h = metBefore sense (awayFrom g v e) (awayFrom g v f) (awayFrom g v h)
 
 -- c, or whatever of a list is met before it
 abbrev pub best : (ℕ → ℕ → Bool) → ℕ → List ℕ → ℕ
@@ -75,7 +71,8 @@ firstMet lt (x ∷ l) = Link (best lt x l)
 abbrev pub acrossFrom : List ℕ → ℕ → ℕ → ℕ → Next
 acrossFrom st e x y = onlyUnvisited st (pick (eqb x e) y x)
 
--- "Next link at a `Bridge`: the other entry. At a `Cross`: of the unvisited links, the first met when turning from the link just walked, clockwise if the sense is true."
+-- "Next link at a `Bridge`: the other entry. At a `Cross`: of the unvisited links, the first met when turning from the
+-- link just walked, clockwise if the sense is true."
 abbrev pub nextAt : Graph → Bool → List ℕ → ℕ → ℕ → Node → Next
 nextAt g sense st v e (bridge x y) = acrossFrom st e x y
 nextAt g sense st v e (crossing l) = firstMet (metFirst g sense v e) (unvisitedIn st l)

@@ -1,4 +1,5 @@
--- What the first link is (rule 1): at a `Bridge` as the rule says; at a `Cross` always a link, unvisited where k is, with no unvisited link strictly counterclockwise of it among those that start there.
+-- What the first link is (rule 1): at a `Bridge` as the rule says; at a `Cross` always a link, unvisited where k is,
+-- with no unvisited link strictly counterclockwise of it among those that start there.
 use Prim.Native.Nat.{ℕ}
 use native.Mathlib.Omega.{arith}
 use mathlib.Core.Path.{_≡_, refl, sym, ap, _∙_}
@@ -43,7 +44,8 @@ module _ (g : Graph) (st : List ℕ) (k c x : ℕ) where
       (and-false (not (eqb x k) && isUnvisited st x) (not cw) e)
 
 -- the points alone matter
-pub topmost-same : (g h : Graph) (st : List ℕ) (k : ℕ) → ((c x : ℕ) → replaces g st k c x ≡ replaces h st k c x) → (c : ℕ) (l : List ℕ) → topmost g st k c l ≡ topmost h st k c l
+pub topmost-same : (g h : Graph) (st : List ℕ) (k : ℕ) → ((c x : ℕ) → replaces g st k c x ≡ replaces h st k c x) → (c : ℕ) (l : List ℕ)
+    → topmost g st k c l ≡ topmost h st k c l
 topmost-same g h st k e c [] = refl
 topmost-same g h st k e c (x ∷ l) = ap (λ (b : Bool). topmost g st k (pick b x c) l) (e c x) ∙ topmost-same g h st k e (pick (replaces h st k c x) x c) l
 
@@ -52,7 +54,8 @@ module _ (g : Graph) (st : List ℕ) (k : ℕ) where
   pub topmost-unvisited : (c : ℕ) (l : List ℕ) → isUnvisited st c ≡ true → isUnvisited st (topmost g st k c l) ≡ true
   topmost-unvisited c [] o = o
   topmost-unvisited c (x ∷ l) o =
-      topmost-unvisited (pick (replaces g st k c x) x c) l (pick-ind (replaces g st k c x) x c (λ d. isUnvisited st d ≡ true) (λ e. parts g st k c x e .0) (λ _. o))
+      topmost-unvisited (pick (replaces g st k c x) x c) l
+      (pick-ind (replaces g st k c x) x c (λ d. isUnvisited st d ≡ true) (λ e. parts g st k c x e .0) (λ _. o))
 
   topmost-in : (c : ℕ) (l : List ℕ) → Mem (topmost g st k c l) (c ∷ l)
   topmost-in c [] = List·Memᴰ·head refl
@@ -71,7 +74,8 @@ first-unvisited g st k o = at (nodeOf (g .entries (g .aNode k)))
     at (crossing l) = names-unvisited st (topmost g st k k l) (topmost-unvisited g st k k l o)
 
 -- at a `Bridge`: "l0 if l0.a, l0.b, l1.b turn strictly clockwise, else l1", if it is unvisited
-pub first-at-bridge : (g : Graph) (st : List ℕ) (k x y : ℕ) → g .entries (g .aNode k) ≡ x ∷ (y ∷ []) → firstLink g st k ≡ onlyUnvisited st (pick (clockwise (g .a x) (g .b x) (g .b y)) x y)
+pub first-at-bridge : (g : Graph) (st : List ℕ) (k x y : ℕ) → g .entries (g .aNode k) ≡ x ∷ (y ∷ []) → firstLink g st k
+    ≡ onlyUnvisited st (pick (clockwise (g .a x) (g .b x) (g .b y)) x y)
 unfolding firstLink
 first-at-bridge g st k x y two = rw two
 
@@ -94,7 +98,9 @@ right-before : (p q : Point) → before p q ≡ true → Right (fromTo p q)
 right-before p q e =
     ⊎-elim
     (λ (h : ltZ (p .x) (q .x) ≡ true). rw (rising (p .x) (q .x) h) (yes! tt))
-    (λ h. let k = and-true (not (ltZ (q .x) (p .x))) (ltZ (p .y) (q .y)) h in rw (rising (p .y) (q .y) (k .1)) (up (sgn (q .x -ℤ p .x)) (sym (ltZ-sgn (q .x -ℤ p .x)) ∙ falling (p .x) (q .x) (not-is (ltZ (q .x) (p .x)) (k .0)))))
+    (λ h. let k = and-true (not (ltZ (q .x) (p .x))) (ltZ (p .y) (q .y)) h in
+    rw (rising (p .y) (q .y) (k .1))
+    (up (sgn (q .x -ℤ p .x)) (sym (ltZ-sgn (q .x -ℤ p .x)) ∙ falling (p .x) (q .x) (not-is (ltZ (q .x) (p .x)) (k .0)))))
     (or-true (ltZ (p .x) (q .x)) _ e)
   where
     rising : (a b : ℤ) → ltZ a b ≡ true → sgn (b -ℤ a) ≡ pls
@@ -125,9 +131,13 @@ not-up-signs mns by h = absurd (h .is)
 not-up-signs zer mns h = absurd (h .is)
 not-up-signs zer zer h = absurd (h .is)
 not-up-signs zer pls h = λ ax ay cx cy s t u ra rc p q w ns nt.
-    mp (mp (mp (mp (mp (all6 (λ ax ay cx cy s u. right ax ay ⇒ right cx cy ⇒ plusOk (ax ⊗ pls) (flip (ay ⊗ zer)) s ⇒ plusOk (ax ⊗ cy) (flip (ay ⊗ cx)) u ⇒ not (eqS s pls) ⇒ not (eqS u pls)) tt ax ay cx cy s u) ra) rc) q) w) ns
+    mp (mp (mp
+    (mp (mp (all6 (λ ax ay cx cy s u. right ax ay ⇒ right cx cy ⇒ plusOk (ax ⊗ pls) (flip (ay ⊗ zer)) s ⇒ plusOk (ax ⊗ cy)
+    (flip (ay ⊗ cx)) u ⇒ not (eqS s pls) ⇒ not (eqS u pls)) tt ax ay cx cy s u) ra) rc) q) w) ns
 not-up-signs pls by h = λ ax ay cx cy s t u ra rc p q w ns nt.
-    mp (mp (mp (mp (mp (all6 (λ ax cx s t u z. not (is-mns ax) ⇒ not (is-mns cx) ⇒ plusOk (ax ⊗ t) (cx ⊗ s) u ⇒ not (eqS s pls) ⇒ not (eqS t pls) ⇒ not (eqS u pls)) tt ax cx s t u zer) (rightward ax ay ra)) (rightward cx cy rc)) p) ns) nt
+    mp (mp (mp
+    (mp (mp (all6 (λ ax cx s t u z. not (is-mns ax) ⇒ not (is-mns cx) ⇒ plusOk (ax ⊗ t) (cx ⊗ s) u ⇒ not (eqS s pls) ⇒ not (eqS t pls) ⇒ not
+    (eqS u pls)) tt ax cx s t u zer) (rightward ax ay ra)) (rightward cx cy rc)) p) ns) nt
   where
     rightward : (a d : Sgn) → Is (right a d) → Is (not (is-mns a))
     rightward mns d h = h
@@ -168,7 +178,9 @@ module _ (g : Graph) (st : List ℕ) (p : Point) where
 
   -- the two ways that an entry goes
   not-up-new : (c x : ℕ) → Starts g p c → clockwise (g .a c) (g .b c) (g .b x) ≡ false → NotUp (way x) (way c)
-  not-up-new c x s e = rw (cross-anti (way c) (way x), sgn-neg (cross (way c) (way x))) (flipped (sgn (cross (way c) (way x))) (sym (ltZ-sgn (cross (way c) (way x))) ∙ (rw (s .here) at e)))
+  not-up-new c x s e =
+      rw (cross-anti (way c) (way x), sgn-neg (cross (way c) (way x)))
+      (flipped (sgn (cross (way c) (way x))) (sym (ltZ-sgn (cross (way c) (way x))) ∙ (rw (s .here) at e)))
     where
       flipped : (s : Sgn) → is-mns s ≡ false → Is (not (eqS (flip s) pls))
       flipped mns n = absurd (true≢false refl n)
@@ -210,7 +222,8 @@ module _ (g : Graph) (st : List ℕ) (p : Point) where
       kept e r i = record {
         starts = i .starts;
         choice = i .choice;
-        others = λ y m o. ⊎-elim (λ (q : y ≡ x). let ox : isUnvisited st x ≡ true = rw q at o in rw q (at-entry r i ox (passed g st k c x e ox))) (λ j. i .others y j o) (List·Memᴰ·cases-cons m);
+        others = λ y m o. ⊎-elim (λ (q : y ≡ x). let ox : isUnvisited st x ≡ true = rw q at o in rw q (at-entry r i ox (passed g st k c x e ox)))
+            (λ j. i .others y j o) (List·Memᴰ·cases-cons m);
       }
 
     high : (c : ℕ) (l : List ℕ) → Starts g p c → NotUp (way c) (way k) → AllStart l → High c l (topmost g st k c l)
@@ -222,7 +235,8 @@ module _ (g : Graph) (st : List ℕ) (p : Point) where
         replaced c x l s u h e (topmost g st k x l) (high x l sx (go-on x c k sx s start (not-up-new c x s (t .1)) u) (λ y m. h y (List·Memᴰ·tail m))))
         (λ e. kept c x l s u h e (topmost g st k c l) (high c l s u (λ y m. h y (List·Memᴰ·tail m))))
 
--- At a `Cross` where the unvisited entries and k start at one point, as they do where k is the lowest unvisited link of a graph in order: the first link is a link, unvisited,
+-- At a `Cross` where the unvisited entries and k start at one point, as they do where k is the lowest unvisited link of
+-- a graph in order: the first link is a link, unvisited,
 -- one of the entries if k is, and starts there; and no unvisited entry is strictly counterclockwise of it.
 pub record Topmost (g : Graph) (st : List ℕ) (p : Point) (l : List ℕ) (r : ℕ) : Type 0 where
   pub unvisited : isUnvisited st r ≡ true
@@ -248,7 +262,9 @@ module _ (g : Graph) (st : List ℕ) (k : ℕ) (at-cross : length (g .entries (g
       record {
         unvisited = topmost-unvisited g st k k entries o;
         starts = i .starts;
-        none-above = λ x m ox e. no (sgn (cross (fromTo p (g .b r)) (fromTo p (g .b x)))) (i .others x m ox) (sym (gtZ-sgn (turn p (g .b r) (g .b x))) ∙ (rw (i .starts .here) at e));
+        none-above =
+            λ x m ox e. no (sgn (cross (fromTo p (g .b r)) (fromTo p (g .b x)))) (i .others x m ox)
+            (sym (gtZ-sgn (turn p (g .b r) (g .b x))) ∙ (rw (i .starts .here) at e));
       }
     where
       no : (s : Sgn) → Is (not (eqS s pls)) → eqS s pls ≡ true → ⊥

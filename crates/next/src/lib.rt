@@ -1,6 +1,8 @@
 // The first link of a walk and the next link at a node (document 01, "Walking", rules 1 and 3).
+use graph::point_at;
 use turn::Point;
 use turn::Vector;
+use turn::wide;
 ghost use mathlib.Core.Path.{_≡_};
 ghost use mathlib.Core.Bool.{true};
 ghost use mathlib.Core.List.{List, []};
@@ -11,8 +13,10 @@ ghost use Rattle.laws.specs.Sign.{sgn, is-mns};
 ghost use Rattle.turn.specs.Points.{Short, clockwise, cross};
 ghost use Rattle.turn.specs.Angle.{turned};
 ghost use Rattle.turn.specs.Rank.{byRank};
-ghost use Rattle.graph.specs.Graph.{lent, graphOf, pointAt, part};
-ghost use Rattle.next.specs.Next.{isUnvisited, unvisitedIn, onlyUnvisited, nodeOf, runs, metFirst, best, firstMet, acrossAt, nextLink, replaces, topmost, firstLink};
+ghost use Rattle.graph.specs.Graph.{Lent, Graph, lent, graphOf, pointAt, part};
+ghost use Rattle.next.specs.Next.{isUnvisited, unvisitedIn, onlyUnvisited, nodeOf, metFirst, best, firstMet, acrossAt, nextLink, replaces};
+ghost use Rattle.next.specs.Next.{topmost, firstLink};
+ghost use Rattle.graph.specs.Checks.{awayFrom};
 ghost use Rattle.next.specs.Known.{Links, Nodes, Entries, Numbers, NamesUnvisited, linksOf, stretch, rayOf, sideOf};
 ghost use Rattle.next.specs.Passed.{Passed};
 
@@ -42,27 +46,12 @@ struct Side {
     b: Point,
 }
 
-// A 32-bit number as an index.
-fn wide(x: u32) -> usize
-    ensures { λ r. ⌜ r ≡ x ⌝ }
-{
-    x as usize
-}
-
 // An entry of a list of numbers.
 fn number(list: &[u32], i: usize) -> usize
     requires { ⌜ i < length (now list) ⌝ }
     ensures { λ r. ⌜ r ≡ getD (now (list .entry)) i 0 ⌝ }
 {
     wide(list[i])
-}
-
-// The point that two lists of coordinates have at k.
-fn point(x: &[i32], y: &[i32], k: usize) -> Point
-    requires { ⌜ (k < length (now x)) × (k < length (now y)) ⌝ }
-    ensures { λ r. ⌜ r ≡ pointAt (now (x .entry)) (now (y .entry)) k ⌝ }
-{
-    Point { x: x[k], y: y[k] }
 }
 
 // A link that the rule names, if it is unvisited.
@@ -103,11 +92,13 @@ fn way_of(
 ) -> Vector
     requires { ⌜ Links (now ax) (now ay) (now bx) (now by) (length (now aid)) ⌝ }
     requires { ⌜ k < length (now aid) ⌝ }
-    ensures { λ r. ⌜ r ≡ runs (linksOf (now (ax .entry)) (now (ay .entry)) (now (bx .entry)) (now (by .entry)) (now (aid .entry))) node k ⌝ }
+    ensures { λ r. ⌜ (let links : Graph = linksOf (now (ax .entry)) (now (ay .entry)) (now (bx .entry)) (now (by .entry)) (now (aid .entry))
+        in
+        r ≡ awayFrom links node k) ⌝ }
     ensures { λ r. ⌜ Short r ⌝ }
 {
-    let a = point(ax, ay, k);
-    let b = point(bx, by, k);
+    let a = point_at(ax, ay, k);
+    let b = point_at(bx, by, k);
     if number(aid, k) == node {
         return turn::between(a, b);
     }
@@ -128,7 +119,9 @@ fn ray_of(
 ) -> Ray
     requires { ⌜ Links (now ax) (now ay) (now bx) (now by) (length (now aid)) ⌝ }
     requires { ⌜ (k < length (now aid)) × (Short from) ⌝ }
-    ensures { λ r. ⌜ r ≡ rayOf (linksOf (now (ax .entry)) (now (ay .entry)) (now (bx .entry)) (now (by .entry)) (now (aid .entry))) sense node from k ⌝ }
+    ensures { λ r. ⌜ (let links : Graph = linksOf (now (ax .entry)) (now (ay .entry)) (now (bx .entry)) (now (by .entry)) (now (aid .entry))
+        in
+        r ≡ rayOf links sense node from k) ⌝ }
     ensures { λ r. ⌜ Short (r .way) ⌝ }
 {
     let way = way_of(ax, ay, bx, by, aid, node, k);
@@ -170,7 +163,9 @@ fn nearest(
     requires { ⌜ (length (now state) ≡ length (now aid)) × (link < length (now aid)) × (k < length (now aid)) ⌝ }
     requires { ⌜ (second ≤ to) × (to ≤ length (now list)) × (Numbers (now list) second to (length (now aid))) ⌝ }
     requires { ⌜ (second < to → isUnvisited (now state) (getD (now list) second 0) ≡ true) ⌝ }
-    ensures { λ r. ⌜ r ≡ best (metFirst (linksOf (now (ax .entry)) (now (ay .entry)) (now (bx .entry)) (now (by .entry)) (now (aid .entry))) sense node link) k (unvisitedIn (now (state .entry)) (stretch (now (list .entry)) second to)) ⌝ }
+    ensures { λ r. ⌜ (let links : Graph = linksOf (now (ax .entry)) (now (ay .entry)) (now (bx .entry)) (now (by .entry)) (now (aid .entry))
+        in
+        r ≡ best (metFirst links sense node link) k (unvisitedIn (now (state .entry)) (stretch (now (list .entry)) second to))) ⌝ }
 {
     let from = way_of(ax, ay, bx, by, aid, node, link);
     let mut choice = ray_of(ax, ay, bx, by, aid, sense, node, from, k);
@@ -201,7 +196,9 @@ fn find_nearest_link_to(
     requires { ⌜ Links (now ax) (now ay) (now bx) (now by) (length (now aid)) ⌝ }
     requires { ⌜ (length (now state) ≡ length (now aid)) × (link < length (now aid)) ⌝ }
     requires { ⌜ (from ≤ to) × (to ≤ length (now list)) × (Numbers (now list) from to (length (now aid))) ⌝ }
-    ensures { λ r. ⌜ r ≡ firstMet (metFirst (linksOf (now (ax .entry)) (now (ay .entry)) (now (bx .entry)) (now (by .entry)) (now (aid .entry))) sense node link) (unvisitedIn (now (state .entry)) (stretch (now (list .entry)) from to)) ⌝ }
+    ensures { λ r. ⌜ (let links : Graph = linksOf (now (ax .entry)) (now (ay .entry)) (now (bx .entry)) (now (by .entry)) (now (aid .entry))
+        in
+        r ≡ firstMet (metFirst links sense node link) (unvisitedIn (now (state .entry)) (stretch (now (list .entry)) from to))) ⌝ }
 {
     let first = unvisited_from(list, state, from, to);
     if first == to {
@@ -264,7 +261,10 @@ pub fn next_link(
     requires { ⌜ Links (now ax) (now ay) (now bx) (now by) (length (now state)) ⌝ }
     requires { ⌜ Nodes (now aid) (now start) (now list) (length (now state)) ⌝ }
     requires { ⌜ (node + 1 < length (now start)) × (link < length (now state)) ⌝ }
-    ensures { λ r. ⌜ ((bid top : List ℕ) → r ≡ nextLink (graphOf (lent (now (ax .entry)) (now (ay .entry)) (now (bx .entry)) (now (by .entry)) (now (aid .entry)) bid (now (start .entry)) (now (list .entry))) top) sense (now (state .entry)) node link) ⌝ }
+    ensures { λ r. ⌜ ((bid top : List ℕ) →
+        let g : Lent = lent (now (ax .entry)) (now (ay .entry)) (now (bx .entry)) (now (by .entry)) (now (aid .entry))
+        bid (now (start .entry)) (now (list .entry)) in
+        r ≡ nextLink (graphOf g top) sense (now (state .entry)) node link) ⌝ }
     ensures { λ r. ⌜ NamesUnvisited (now (state .entry)) r ⌝ }
 {
     match on_bridge(start, list, state, node, link) {
@@ -298,11 +298,13 @@ fn find_left_top_link_on_bridge(
 ) -> Next
     requires { ⌜ Links (now ax) (now ay) (now bx) (now by) (length (now state)) ⌝ }
     requires { ⌜ (l0 < length (now state)) × (l1 < length (now state)) ⌝ }
-    ensures { λ r. ⌜ r ≡ onlyUnvisited (now (state .entry)) (pick (clockwise (pointAt (now (ax .entry)) (now (ay .entry)) l0) (pointAt (now (bx .entry)) (now (by .entry)) l0) (pointAt (now (bx .entry)) (now (by .entry)) l1)) l0 l1) ⌝ }
+    ensures { λ r. ⌜ r ≡ onlyUnvisited (now (state .entry))
+        (pick (clockwise (pointAt (now (ax .entry)) (now (ay .entry)) l0) (pointAt (now (bx .entry)) (now (by .entry)) l0)
+        (pointAt (now (bx .entry)) (now (by .entry)) l1)) l0 l1) ⌝ }
 {
-    let a = point(ax, ay, l0);
-    let b = point(bx, by, l0);
-    let c = point(bx, by, l1);
+    let a = point_at(ax, ay, l0);
+    let b = point_at(bx, by, l0);
+    let c = point_at(bx, by, l1);
     if turn::clockwise(a, b, c) {
         return only_unvisited(state, l0);
     }
@@ -323,7 +325,8 @@ fn higher(
     requires { ⌜ Links (now ax) (now ay) (now bx) (now by) (length (now state)) ⌝ }
     requires { ⌜ (choice .link < length (now state)) × (x < length (now state)) ⌝ }
     requires { ⌜ choice ≡ sideOf (linksOf (now ax) (now ay) (now bx) (now by) []) (choice .link) ⌝ }
-    ensures { λ r. ⌜ r ≡ sideOf (linksOf (now (ax .entry)) (now (ay .entry)) (now (bx .entry)) (now (by .entry)) []) (pick (replaces (linksOf (now (ax .entry)) (now (ay .entry)) (now (bx .entry)) (now (by .entry)) []) (now (state .entry)) k (choice .link) x) x (choice .link)) ⌝ }
+    ensures { λ r. ⌜ (let links : Graph = linksOf (now (ax .entry)) (now (ay .entry)) (now (bx .entry)) (now (by .entry)) [] in
+        r ≡ sideOf links (pick (replaces links (now (state .entry)) k (choice .link) x) x (choice .link))) ⌝ }
 {
     if x == k {
         return choice;
@@ -331,13 +334,13 @@ fn higher(
     if state[x] != 0 {
         return choice;
     }
-    let b = point(bx, by, x);
+    let b = point_at(bx, by, x);
     if turn::clockwise(choice.a, choice.b, b) {
         return choice;
     }
     Side {
         link: x,
-        a: point(ax, ay, x),
+        a: point_at(ax, ay, x),
         b: b,
     }
 }
@@ -356,12 +359,13 @@ fn find_left_top_link_on_indices(
 ) -> usize
     requires { ⌜ Links (now ax) (now ay) (now bx) (now by) (length (now state)) ⌝ }
     requires { ⌜ (from ≤ to) × (to ≤ length (now list)) × (Numbers (now list) from to (length (now state))) × (k < length (now state)) ⌝ }
-    ensures { λ r. ⌜ r ≡ topmost (linksOf (now (ax .entry)) (now (ay .entry)) (now (bx .entry)) (now (by .entry)) []) (now (state .entry)) k k (stretch (now (list .entry)) from to) ⌝ }
+    ensures { λ r. ⌜ (let links : Graph = linksOf (now (ax .entry)) (now (ay .entry)) (now (bx .entry)) (now (by .entry)) [] in
+        r ≡ topmost links (now (state .entry)) k k (stretch (now (list .entry)) from to)) ⌝ }
 {
     let mut choice = Side {
         link: k,
-        a: point(ax, ay, k),
-        b: point(bx, by, k),
+        a: point_at(ax, ay, k),
+        b: point_at(bx, by, k),
     };
     let mut i = from;
     while i < to {
@@ -386,7 +390,10 @@ pub fn find_left_top_link(
     requires { ⌜ Links (now ax) (now ay) (now bx) (now by) (length (now state)) ⌝ }
     requires { ⌜ Nodes (now aid) (now start) (now list) (length (now state)) ⌝ }
     requires { ⌜ isUnvisited (now state) k ≡ true ⌝ }
-    ensures { λ r. ⌜ ((bid top : List ℕ) → r ≡ firstLink (graphOf (lent (now (ax .entry)) (now (ay .entry)) (now (bx .entry)) (now (by .entry)) (now (aid .entry)) bid (now (start .entry)) (now (list .entry))) top) (now (state .entry)) k) ⌝ }
+    ensures { λ r. ⌜ ((bid top : List ℕ) →
+        let g : Lent = lent (now (ax .entry)) (now (ay .entry)) (now (bx .entry)) (now (by .entry)) (now (aid .entry))
+        bid (now (start .entry)) (now (list .entry)) in
+        r ≡ firstLink (graphOf g top) (now (state .entry)) k) ⌝ }
     ensures { λ r. ⌜ NamesUnvisited (now (state .entry)) r ⌝ }
 {
     let node = number(aid, k);

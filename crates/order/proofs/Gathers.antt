@@ -50,7 +50,8 @@ gather-start t cw who h = record {
   to-y-len = refl;
 }
 
-module _ (t : Table) (cw : Bool) (who₀ : List ℕ) (h₀ : Anchors) (who : List ℕ) (h : Anchors) (m c : ℕ) (g : Gathering t cw who₀ h₀ who h m c) (l : c < contourCount t) where
+module _ (t : Table) (cw : Bool) (who₀ : List ℕ) (h₀ : Anchors) (who : List ℕ) (h : Anchors) (m c : ℕ) (g : Gathering t cw who₀ h₀ who h m c)
+    (l : c < contourCount t) where
   -- room for the next hole's anchor
   pub gather-room : AnchorRoom h₀ (contourCount t) → AnchorRoom h (suc m)
   gather-room r = record {
@@ -115,5 +116,6 @@ module _ (t : Table) (cw : Bool) (who₀ : List ℕ) (h₀ : Anchors) (who : Lis
       to-y-len = ap (λ (w : Anchors). length (w .to-y)) q ∙ length-set (h .to-y) m (a .to .y) ∙ g .to-y-len;
     }
 
-pub gather-end : (t : Table) (cw : Bool) (who₀ : List ℕ) (h₀ : Anchors) (who : List ℕ) (h : Anchors) (m c : ℕ) → Gathering t cw who₀ h₀ who h m c → contourCount t ≤ c → Gathered t cw (contourCount t) m who h
+pub gather-end : (t : Table) (cw : Bool) (who₀ : List ℕ) (h₀ : Anchors) (who : List ℕ) (h : Anchors) (m c : ℕ) → Gathering t cw who₀ h₀ who h m c
+    → contourCount t ≤ c → Gathered t cw (contourCount t) m who h
 gather-end t cw who₀ h₀ who h m c g n = let e : c ≡ contourCount t = omega (arith, g .on) in rw e at (g .found)

@@ -29,7 +29,8 @@ module _ (a b : Anchor) (c d : ℕ) where
   pub goes-last : before (a .at) (b .at) ≡ false → before (b .at) (a .at) ≡ true → false ≡ goesBefore a b c d
   goes-last e f = rw (e, f)
 
-  pub goes-by-angle : before (a .at) (b .at) ≡ false → before (b .at) (a .at) ≡ false → (x : ℤ) → x ≡ cross (anchorWay a) (anchorWay b) → natAbs x ≤ productBound
+  pub goes-by-angle : before (a .at) (b .at) ≡ false → before (b .at) (a .at) ≡ false → (x : ℤ) → x ≡ cross (anchorWay a) (anchorWay b)
+      → natAbs x ≤ productBound
       → lower (pos 0) (Z x) (ltb c d) ≡ goesBefore a b c d
   goes-by-angle e f x q n = rw (e, f) (ap (λ z. lower (pos 0) z (ltb c d)) (same64 x (omega arith) ∙ q))
 
@@ -91,7 +92,8 @@ module _ (test : ℕ → Bool) (old new : List ℕ) (m p : ℕ) (s : Shifted tes
 
 -- the code's test of the hole that stands before the gap
 pub went : (h : Anchors) (who old new : List ℕ) (j p : ℕ) → Shifted (λ q. byAnchor h who j (getD old q 0)) old new j p → 0 < p
-    → (a b : Anchor) → a ≡ listedAnchor h j → b ≡ listedAnchor h (getD new (p - 1) 0) → (r : Bool) → r ≡ goesBefore a b (getD who j 0) (getD who (getD new (p - 1) 0) 0)
+    → (a b : Anchor) → a ≡ listedAnchor h j → b ≡ listedAnchor h (getD new (p - 1) 0) → (r : Bool) → r
+    ≡ goesBefore a b (getD who j 0) (getD who (getD new (p - 1) 0) 0)
     → {v : Bool} → r ≡ v → byAnchor h who j (getD old (p - 1) 0) ≡ v
 went h who old new j p s l a b ea eb r e {v} q =
     let z : getD new (p - 1) 0 ≡ getD old (p - 1) 0 = s .below (p - 1) (omega arith) in
@@ -115,12 +117,14 @@ module _ (h : Anchors) (who old mid : List ℕ) (m j : ℕ) (o : Ordering h who 
     on = omega arith;
     len = e ∙ o .len;
     done = rw (add-one j) (image (λ k. k) mid new (sorted (byAnchor h who) (λ k. k) j) (sorted (byAnchor h who) (λ k. k) (suc j)) j (slotOf h who mid j) j j s
-        (subst (λ (p : ℕ). Inserted (sorted (byAnchor h who) (λ k. k) j) (sorted (byAnchor h who) (λ k. k) (suc j)) j p j) (sym places) (sorted-more (byAnchor h who) (λ k. k) j))
+        (subst (λ (p : ℕ). Inserted (sorted (byAnchor h who) (λ k. k) j) (sorted (byAnchor h who) (λ k. k) (suc j)) j p j) (sym places)
+        (sorted-more (byAnchor h who) (λ k. k) j))
         refl (o .done));
   }
     where
       places : slotOf h who mid j ≡ slotIn (byAnchor h who) (λ k. k) j
-      places = slot-same (λ p. byAnchor h who j (getD mid p 0)) (λ p. byAnchor h who j (getD (sorted (byAnchor h who) (λ k. k) j) p 0)) j (λ p k. ap (byAnchor h who j) (o .done p k))
+      places = slot-same (λ p. byAnchor h who j (getD mid p 0)) (λ p. byAnchor h who j (getD (sorted (byAnchor h who) (λ k. k) j) p 0)) j
+          (λ p k. ap (byAnchor h who j) (o .done p k))
 
   pub ordering-end : m ≤ j → Ordered h who m mid
   ordering-end l = let e : j ≡ m = omega (arith, o .on) in rw e at (o .done)

@@ -60,11 +60,13 @@ unfolding holesBelow
 holes-are t zero j h = absurd (not-suc-le-zero h)
 holes-are t (suc n) j h = go (isHole t n) refl (holes-are t n j) h
   where
-    at : isHole t n ≡ true → (j < length (holesBelow t n) → isHole t (getD (holesBelow t n) j 0) ≡ true) → j < suc (length (holesBelow t n)) → Dec (j ≡ length (holesBelow t n)) → isHole t (getD (holesBelow t n ++ (n ∷ [])) j 0) ≡ true
+    at : isHole t n ≡ true → (j < length (holesBelow t n) → isHole t (getD (holesBelow t n) j 0) ≡ true) → j < suc (length (holesBelow t n))
+        → Dec (j ≡ length (holesBelow t n)) → isHole t (getD (holesBelow t n ++ (n ∷ [])) j 0) ≡ true
     at q r k (yes e) = subst (λ (c : ℕ). isHole t c ≡ true) (sym (last (holesBelow t n) n j e)) q
     at q r k (no e) = subst (λ (c : ℕ). isHole t c ≡ true) (sym (old (holesBelow t n) n j (omega arith))) (r (omega arith))
 
-    go : (b : Bool) → isHole t n ≡ b → (j < length (holesBelow t n) → isHole t (getD (holesBelow t n) j 0) ≡ true) → j < length (pick b (holesBelow t n ++ (n ∷ [])) (holesBelow t n))
+    go : (b : Bool) → isHole t n ≡ b → (j < length (holesBelow t n) → isHole t (getD (holesBelow t n) j 0) ≡ true)
+        → j < length (pick b (holesBelow t n ++ (n ∷ [])) (holesBelow t n))
         → isHole t (getD (pick b (holesBelow t n ++ (n ∷ [])) (holesBelow t n)) j 0) ≡ true
     go true q r k = at q r (omega (arith, longer (holesBelow t n) n)) (ℕ-discrete j (length (holesBelow t n)))
     go false q r k = r k

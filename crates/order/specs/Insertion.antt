@@ -105,7 +105,8 @@ unfolding sorted inserted
 sorted-length first f zero = refl
 sorted-length first f (suc n) =
     let l = sorted first f n in
-    insert-length (slot (λ p. first (f n) (getD l p 0)) (length l)) (f n) l (slot-le (λ p. first (f n) (getD l p 0)) (length l)) ∙ ap suc (sorted-length first f n)
+    insert-length (slot (λ p. first (f n) (getD l p 0)) (length l)) (f n) l (slot-le (λ p. first (f n) (getD l p 0)) (length l))
+    ∙ ap suc (sorted-length first f n)
 
 abbrev pub slotIn : (ℕ → ℕ → Bool) → (ℕ → ℕ) → ℕ → ℕ
 slotIn first f n = slot (λ p. first (f n) (getD (sorted first f n) p 0)) n
@@ -114,13 +115,15 @@ pub sorted-more : (first : ℕ → ℕ → Bool) (f : ℕ → ℕ) (n : ℕ) →
 unfolding sorted inserted
 sorted-more first f n =
     let l = sorted first f n in
-    subst (λ (k : ℕ). Inserted l (insertAt (slot (λ p. first (f n) (getD l p 0)) (length l)) (f n) l) k (slot (λ p. first (f n) (getD l p 0)) k) (f n)) (sorted-length first f n)
+    subst (λ (k : ℕ). Inserted l (insertAt (slot (λ p. first (f n) (getD l p 0)) (length l)) (f n) l) k (slot (λ p. first (f n) (getD l p 0)) k)
+    (f n)) (sorted-length first f n)
     (insert-is (slot (λ p. first (f n) (getD l p 0)) (length l)) (f n) l (slot-le (λ p. first (f n) (getD l p 0)) (length l)))
 
 -- what holds of all that were put in holds of every entry
 pub entries : (P : ℕ → Type 0) (first : ℕ → ℕ → Bool) (f : ℕ → ℕ) (n : ℕ) → ((k : ℕ) → k < n → P (f k)) → (i : ℕ) → i < n → P (getD (sorted first f n) i 0)
 entries P first f zero h i l = absurd (not-suc-le-zero l)
-entries P first f (suc n) h i l = go (decLe (suc i) (slotIn first f n)) (ℕ-discrete i (slotIn first f n)) (λ k m. entries P first f n (λ k′ m′. h k′ (omega arith)) k m)
+entries P first f (suc n) h i l =
+    go (decLe (suc i) (slotIn first f n)) (ℕ-discrete i (slotIn first f n)) (λ k m. entries P first f n (λ k′ m′. h k′ (omega arith)) k m)
   where
     s : Inserted (sorted first f n) (sorted first f (suc n)) n (slotIn first f n) (f n)
     s = sorted-more first f n
@@ -212,7 +215,9 @@ module _ (first : ℕ → ℕ → Bool) (D : ℕ → Type 0) (s : Strict first D
 
         go : Dec (i ≡ q) → first (getD l i 0) (f n) ≡ true
         go (yes z) = rw z next
-        go (no z) = s .transitive (getD l i 0) (getD l q 0) (f n) (held i (omega (arith, put .within))) (held q within) (d n (omega arith)) (o i q (omega arith) within) next
+        go (no z) =
+            s .transitive (getD l i 0) (getD l q 0) (f n) (held i (omega (arith, put .within))) (held q within) (d n (omega arith))
+            (o i q (omega arith) within) next
 
     before-new : (i : ℕ) → i < p → first (getD l i 0) (f n) ≡ true
     before-new i h = go p refl h
@@ -239,7 +244,8 @@ module _ (first : ℕ → ℕ → Bool) (D : ℕ → Type 0) (s : Strict first D
         go (no a) (yes b) c e = rw (was-below i (omega arith), b, put .here) (before-new i (omega arith))
         go (no a) (no b) (yes c) e = rw (was-below i c, was-above j (omega arith) k) (o i (j - 1) (omega arith) (omega arith))
         go (no a) (no b) (no c) (yes e) = rw (e, put .here, was-above j (omega arith) k) (after-new (j - 1) (omega arith) (omega arith))
-        go (no a) (no b) (no c) (no e) = rw (was-above i (omega arith) (omega arith), was-above j (omega arith) k) (o (i - 1) (j - 1) (omega arith) (omega arith))
+        go (no a) (no b) (no c) (no e) =
+            rw (was-above i (omega arith) (omega arith), was-above j (omega arith) k) (o (i - 1) (j - 1) (omega arith) (omega arith))
 
   pub sorted-in-order : (n : ℕ) → ((k : ℕ) → k < n → D (f k)) → ((i j : ℕ) → i < j → j < n → f j ≡ f i → ⊥) → InOrder first (sorted first f n) n
   sorted-in-order zero d apart = λ i j h k. absurd (not-suc-le-zero k)

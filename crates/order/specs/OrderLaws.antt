@@ -107,7 +107,8 @@ angle-neither u v c d p q =
     turned : lower (cross u v) (pos 0) (ltb d c) ≡ byAngle v u d c
     turned =
         lower-sign (cross u v) (pos 0) (ltb d c)
-        ∙ ap (λ (z : ℤ). bySign (sgn z) (ltb d c)) (ring (u .x ∷ u .y ∷ v .x ∷ v .y ∷ []) ((var 0 :* var 3 :- var 1 :* var 2) :- con (pos 0)) (con (pos 0) :- (var 2 :* var 1 :- var 3 :* var 0)) tt)
+        ∙ ap (λ (z : ℤ). bySign (sgn z) (ltb d c)) (ring (u .x ∷ u .y ∷ v .x ∷ v .y ∷ []) ((var 0 :* var 3 :- var 1 :* var 2) :- con (pos 0))
+        (con (pos 0) :- (var 2 :* var 1 :- var 3 :* var 0)) tt)
         ∙ sym (lower-sign (pos 0) (cross v u) (ltb d c))
 
 -- ---- by anchor, then so
@@ -131,7 +132,8 @@ module _ (a b : Anchor) (c d : ℕ) where
       let g : before (b .at) (a .at) ≡ false = rw e (before-irreflexive (b .at)) in
       rw (f, g, h)
 
-goes-trans : (a b f : Anchor) (c d e : ℕ) → Onward (anchorWay a) → Onward (anchorWay b) → Onward (anchorWay f) → goesBefore a b c d ≡ true → goesBefore b f d e ≡ true → goesBefore a f c e ≡ true
+goes-trans : (a b f : Anchor) (c d e : ℕ) → Onward (anchorWay a) → Onward (anchorWay b) → Onward (anchorWay f) → goesBefore a b c d ≡ true
+    → goesBefore b f d e ≡ true → goesBefore a f c e ≡ true
 goes-trans a b f c d e x y z p q = thus a f c e (go (how a b c d p) (how b f d e q))
   where
     go : How a b c d → How b f d e → How a f c e

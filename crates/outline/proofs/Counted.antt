@@ -5,15 +5,15 @@ use mathlib.Core.Path.{_≡_, sym, _∙_, subst}
 use mathlib.Core.List.{List, _++_}
 use lib.ListN.{length, take, drop, length-append, length-take, length-drop}
 use borrow.Rule.Slice.PartMut.{midOf}
-use Rattle.format.specs.Put.{put}
-use Rattle.print.specs.Write.{Wrote}
+use Rattle.writing.specs.Put.{put}
+use Rattle.writing.specs.Write.{Wrote}
 use Rattle.outline.specs.declared.Input.{Input}
 use Rattle.outline.specs.declared.Input.the-variants.{Read, Failed}
-use Rattle.outline.specs.Inputs.{Within}
+use Rattle.outline.specs.Inputs.{InputFits}
 
 -- what a read answers as its count
-pub read-within : {r : Input} {n most : ℕ} → r ≡ Read n → Within r most → n ≤ most
-read-within {r} {n} {most} e w = subst (λ (x : Input). Within x most) e w
+pub read-within : {r : Input} {n most : ℕ} → r ≡ Read n → InputFits r most → n ≤ most
+read-within {r} {n} {most} e w = subst (λ (x : Input). InputFits x most) e w
 
 -- a count within the rest of a buffer, from an index on
 pub rest-within : (a n : ℕ) (l : List ℕ) → a ≤ length l → n ≤ length (midOf a (length l - a) l) → a + n ≤ length l

@@ -4,6 +4,6 @@ use Rattle.outline.specs.declared.Input.{Input}
 use Rattle.outline.specs.declared.Input.the-variants.{Read, Failed}
 
 -- so many bytes at most, or that a read failed
-abbrev pub Within : Input → ℕ → Type 0
-Within (Read n) most = n ≤ most
-Within Failed most = Unit
+abbrev pub InputFits : Input → ℕ → Type 0
+InputFits (Read n) most = n ≤ most
+InputFits Failed most = Unit

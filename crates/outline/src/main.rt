@@ -7,7 +7,7 @@ use print::ANSWER_BYTES;
 ghost use Prim.Native.Nat.{_≤_};
 ghost use lib.ListN.{length};
 ghost use Rattle.print.specs.Room.{answerBytes};
-ghost use Rattle.outline.specs.Inputs.{Within};
+ghost use Rattle.outline.specs.Inputs.{InputFits};
 
 // What came of reading: so many bytes, none at the end of the input; or a read failed.
 enum Input {
@@ -17,7 +17,7 @@ enum Input {
 
 // One read, which may bring any part of what is still to come.
 fn read_some(buf: &mut [u8]) -> Input
-    ensures { λ r. ⌜ Within r (length (now (buf .entry))) ⌝ }
+    ensures { λ r. ⌜ InputFits r (length (now (buf .entry))) ⌝ }
 {
     let got = libc::read(STDIN_FILENO, buf);
     if got < 0 {
@@ -28,7 +28,7 @@ fn read_some(buf: &mut [u8]) -> Input
 
 // Reads until the buffer is full, the input ends or a read fails.
 fn read_input(buf: &mut [u8]) -> Input
-    ensures { λ r. ⌜ Within r (length (now (buf .entry))) ⌝ }
+    ensures { λ r. ⌜ InputFits r (length (now (buf .entry))) ⌝ }
 {
     let mut done = 0;
     while done < buf.len() {
@@ -48,7 +48,7 @@ fn read_input(buf: &mut [u8]) -> Input
 }
 
 // The answer to all that was read goes out in one piece.
-fn write_answer(input: &[u8], out: &mut [u8])
+fn print_answer(input: &[u8], out: &mut [u8])
     requires { ⌜ answerBytes ≤ length (now out) ⌝ }
 {
     let size = answer::answer(input, out);
@@ -64,7 +64,7 @@ fn answer_input(input: &mut [u8], out: &mut [u8])
             io::write_all(STDERR_FILENO, b"outline: standard input cannot be read\n");
         }
         Input::Read(n) => {
-            write_answer(&input[..n], out);
+            print_answer(&input[..n], out);
         }
     }
 }

@@ -34,8 +34,10 @@ module _ (who under ord own : List ℕ) (m i : ℕ) (r : m ≤ length ord) where
     give-more z = rw (next, ← e, ne-eqb _ _ z, add-one i)
 
 -- ---- the definition goes over contours, the code over places among the holes
-module _ (below hole : ℕ → ℕ) (who under : List ℕ) (m : ℕ) (who-is : (j : ℕ) → j < m → getD who j 0 ≡ hole j) (under-is : (j : ℕ) → j < m → getD under j 0 ≡ below (hole j)) where
-  pub give-same : (l l′ own : List ℕ) → length l ≡ length l′ → ((i : ℕ) → i < length l′ → getD l i 0 ≡ hole (getD l′ i 0)) → ((i : ℕ) → i < length l′ → getD l′ i 0 < m)
+module _ (below hole : ℕ → ℕ) (who under : List ℕ) (m : ℕ) (who-is : (j : ℕ) → j < m → getD who j 0 ≡ hole j)
+    (under-is : (j : ℕ) → j < m → getD under j 0 ≡ below (hole j)) where
+  pub give-same : (l l′ own : List ℕ) → length l ≡ length l′ → ((i : ℕ) → i < length l′ → getD l i 0 ≡ hole (getD l′ i 0))
+      → ((i : ℕ) → i < length l′ → getD l′ i 0 < m)
       → giveListed who under l′ own ≡ giveEach below l own
   unfolding giveListed giveEach
   give-same [] [] own e s b = refl

@@ -22,7 +22,8 @@ pub record Numbering (kind old new : List ℕ) (shape c : ℕ) : Type 0 where
   pub done : (i : ℕ) → i < c → getD new i 0 ≡ firstOwner kind i
 
 pub numbering-start : (kind old : List ℕ) → Numbering kind old old 0 0
-numbering-start kind old = record { on = omega arith; len = refl; shapes = sym (count-none 0 kind); few = omega arith; done = λ i h. absurd (not-suc-le-zero h) }
+numbering-start kind old =
+    record { on = omega arith; len = refl; shapes = sym (count-none 0 kind); few = omega arith; done = λ i h. absurd (not-suc-le-zero h) }
 
 module _ (kind old new : List ℕ) (shape c : ℕ) (n : Numbering kind old new shape c) (h : c < length kind) (r : length kind ≤ length old) where
   pub numbering-hull : getD kind c 0 ≡ 0 → Numbering kind old (set new c shape) (shape + 1) (c + 1)
@@ -43,7 +44,8 @@ module _ (kind old new : List ℕ) (shape c : ℕ) (n : Numbering kind old new s
     done = put-below 0 (firstOwner kind) new c droppedOwner (omega (arith, n .len)) (rw (ne-eqb _ _ e)) (n .done);
   }
 
-pub numbering-end : (kind old new : List ℕ) (shape c : ℕ) → Numbering kind old new shape c → length kind ≤ c → length old ≡ length kind → new ≡ tabulate (firstOwner kind) (length kind)
+pub numbering-end : (kind old new : List ℕ) (shape c : ℕ) → Numbering kind old new shape c → length kind ≤ c → length old ≡ length kind → new
+    ≡ tabulate (firstOwner kind) (length kind)
 numbering-end kind old new shape c n h r =
     ext-getD 0 new (tabulate (firstOwner kind) (length kind)) (n .len ∙ r ∙ sym (tabulate-length (firstOwner kind) (length kind))) each
   where

@@ -87,12 +87,14 @@ module _ (t : Table) (s : Sound t) (cw : Bool) (a : Anchored t cw) (m : ℕ) (wh
             let i : p < q = omega arith in
             rw (x-at p (omega arith), x-at q n)
             (not-left (anchorEdge t cw (hole t p) .at) (anchorEdge t cw (hole t q) .at)
-            (a .order (hole t p) (hole t q) (rising .rises p q i (among q n)) (hole-below q n) (holes-are t (contourCount t) p (among p (omega arith))) (holes-are t (contourCount t) q (among q n))))
+            (a .order (hole t p) (hole t q) (rising .rises p q i (among q n)) (hole-below q n)
+            (holes-are t (contourCount t) p (among p (omega arith))) (holes-are t (contourCount t) q (among q n))))
 
     pub sorted-anchors : SortedAnchors h m
     sorted-anchors = record { on-grid = on-grid; sorted = in-order }
 
-  module _ (under ord own : List ℕ) (u : (j : ℕ) → j < m → getD under j 0 ≡ searchUnder t true cw (giving (replicate maxLinks 0)) (listedAnchor h j)) (o : Ordered h who m ord) where
+  module _ (under ord own : List ℕ) (u : (j : ℕ) → j < m → getD under j 0 ≡ searchUnder t true cw (giving (replicate maxLinks 0)) (listedAnchor h j))
+      (o : Ordered h who m ord) where
     under-is : (j : ℕ) → j < m → getD under j 0 ≡ contourBelow t cw (hole t j)
     under-is j l =
         u j l ∙ ap (λ (e : ℕ → Bool). searchUnder t true cw e (listedAnchor h j)) (every-gives maxLinks)

@@ -105,8 +105,10 @@ module _ (under : ℕ → ℕ) (n : ℕ) (some : 0 < n) where
           at zero k = r .kept c (new old c (given (under c) old) b)
           at (suc i) k = r .gone i (omega arith)
 
-      go : (b : Bool) → eqb (given (under c) old) droppedOwner ≡ b → pick b (owned (Stuck c) old) (giveEach under l (set old c (given (under c) old))) ≡ owned All new′
-          → (Held (set old c (given (under c) old)) → giveEach under l (set old c (given (under c) old)) ≡ owned All new′ → Below l (set old c (given (under c) old)) new′) → Below (c ∷ l) old new′
+      go : (b : Bool) → eqb (given (under c) old) droppedOwner ≡ b → pick b (owned (Stuck c) old) (giveEach under l (set old c (given (under c) old)))
+          ≡ owned All new′
+          → (Held (set old c (given (under c) old)) → giveEach under l (set old c (given (under c) old)) ≡ owned All new′
+          → Below l (set old c (given (under c) old)) new′) → Below (c ∷ l) old new′
       go true f q r = absurd (stuck q)
       go false f q r =
           let b = parent-held (under c) old h (λ z. true≢false (eq-eqb _ _ z) f) in
@@ -125,7 +127,8 @@ module _ (t : Table) (s : Sound t) (some : 0 < hullCount t) where
   first-held : Held (λ k. k) (hullCount t) some (tabulate (firstOwner (t .kind)) (contourCount t))
   first-held c = go (decLe (suc c) (contourCount t)) (ℕ-discrete (kindOf t c) 0)
     where
-      go : Dec (c < contourCount t) → Dec (kindOf t c ≡ 0) → (getD (tabulate (firstOwner (t .kind)) (contourCount t)) c 0 < hullCount t) ⊎ (getD (tabulate (firstOwner (t .kind)) (contourCount t)) c 0 ≡ droppedOwner)
+      go : Dec (c < contourCount t) → Dec (kindOf t c ≡ 0) → (getD (tabulate (firstOwner (t .kind)) (contourCount t)) c 0 < hullCount t) ⊎
+          (getD (tabulate (firstOwner (t .kind)) (contourCount t)) c 0 ≡ droppedOwner)
       go (yes h) (yes k) = inl (rw (tabulate-at (firstOwner (t .kind)) (contourCount t) c h) (hull-below (t .kind) c (omega (arith, s .kind-long)) k))
       go (yes h) (no k) = inr (tabulate-at (firstOwner (t .kind)) (contourCount t) c h ∙ hole-none (t .kind) c k)
       go (no h) k = inl (rw (tabulate-past (firstOwner (t .kind)) (contourCount t) c (omega arith)) some)
@@ -158,7 +161,8 @@ module _ (t : Table) (s : Sound t) (some : 0 < hullCount t) where
       none q = omega arith
 
       go : (a : Bool) → eqb (hullCount t) 0 ≡ a → (b : Bool) → eqb (hullCount t) 1 ≡ b
-          → pick a (owned All (replicate (contourCount t) droppedOwner)) (pick b (owned All (replicate (contourCount t) 0)) (searchedOwners t cw)) ≡ owned All l → getD l c 0 < hullCount t
+          → pick a (owned All (replicate (contourCount t) droppedOwner)) (pick b (owned All (replicate (contourCount t) 0)) (searchedOwners t cw))
+          ≡ owned All l → getD l c 0 < hullCount t
       go true f b g q = absurd (none (eqb-true _ _ f))
       go false f true g q = zeros q
       go false f false g q = searched-below cw l q c h

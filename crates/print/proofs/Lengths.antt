@@ -11,11 +11,13 @@ use mir.Val.{Fits}
 use Rattle.laws.specs.Test.{pick, pick-ind}
 use Rattle.turn.specs.Limits.{maxLinks, maxCoordinate}
 use Rattle.turn.specs.Points.{Grid}
-use Rattle.print.specs.Text.{text}
-use Rattle.print.specs.Decimal.{decimal, decimalZ, length-digits}
-use Rattle.print.specs.Answer.{Table, said, header, roleText, contourLine, pointLine, pointLines, contourLines, contoursFrom, printed, printedRefusal}
+use Rattle.table.specs.Table.{droppedOwner}
+use Rattle.print_text.specs.Text.{text}
+use Rattle.print_text.specs.Decimal.{decimal, decimalZ, length-digits, said}
+use Rattle.print.specs.Answer.{OwnedTable, pointLines, contourLines, contoursFrom, printed, printedRefusal}
+use Rattle.print_lines.specs.Lines.{header, roleText, contourLine, pointLine}
 use Rattle.print.specs.Room.{maxContours, answerBytes, refusalBytes, Printable}
-use Rattle.print.specs.declared.Totals.{Totals}
+use Rattle.print_lines.specs.declared.Totals.{Totals}
 
 -- four digits, five, ten and twenty
 short : (k n : ℕ) → n < 10 ^ 20 → n < 10 ^ suc k → length (decimal n) ≤ suc k
@@ -44,9 +46,9 @@ header-short t a b c d =
 
 role-short : (kind owner : ℕ) → length (roleText kind owner) ≤ 9
 role-short kind owner =
-    pick-ind (eqb kind 0) (text " hull ") (pick (eqb owner 65535) (text " dropped ") (text " hole ")) (λ (l : List ℕ). length l ≤ 9)
+    pick-ind (eqb kind 0) (text " hull ") (pick (eqb owner droppedOwner) (text " dropped ") (text " hole ")) (λ (l : List ℕ). length l ≤ 9)
     (λ t. omega arith)
-    (λ t. pick-ind (eqb owner 65535) (text " dropped ") (text " hole ") (λ (l : List ℕ). length l ≤ 9) (λ u. omega arith) (λ u. omega arith))
+    (λ t. pick-ind (eqb owner droppedOwner) (text " dropped ") (text " hole ") (λ (l : List ℕ). length l ≤ 9) (λ u. omega arith) (λ u. omega arith))
 
 line-short : (number kind owner len : ℕ) → number < 10000 → owner < 65536 → len < 10000 → length (contourLine number kind owner len) ≤ 24
 unfolding contourLine
@@ -72,43 +74,44 @@ points-short points f (suc count) p h =
     omega (
       arith,
       both (pointLine (getD points (2 * p) (pos 0)) (getD points (2 * p + 1) (pos 0))) (pointLines points (p + 1) count) 16 (16 * count)
-          (point-short (getD points (2 * p) (pos 0)) (getD points (2 * p + 1) (pos 0)) (f (2 * p) (omega arith)) (f (2 * p + 1) (omega arith))) (points-short points f count (p + 1) (omega arith)),
+          (point-short (getD points (2 * p) (pos 0)) (getD points (2 * p + 1) (pos 0)) (f (2 * p) (omega arith)) (f (2 * p + 1) (omega arith)))
+          (points-short points f count (p + 1) (omega arith)),
     )
 
 -- the points of so many contours from number i on
-unfoldable pointCount : List ℕ → ℕ → ℕ → ℕ
-pointCount len i zero = 0
-pointCount len i (suc count) = getD len i 0 + pointCount len (i + 1) count
+unfoldable pointsFrom : List ℕ → ℕ → ℕ → ℕ
+pointsFrom len i zero = 0
+pointsFrom len i (suc count) = getD len i 0 + pointsFrom len (i + 1) count
 
-module _ (t : Table) (totals : Totals) (p : Printable t totals) where
+module _ (t : OwnedTable) (totals : Totals) (p : Printable t totals) where
   -- as the ranges follow each other, the contours have no more points than there are
-  count-within : (n i : ℕ) → i + suc n ≡ totals .contours → getD (t .first) i 0 + pointCount (t .len) i (suc n) ≤ totals .points
-  unfolding pointCount
+  count-within : (n i : ℕ) → i + suc n ≡ totals .contours → getD (t .first) i 0 + pointsFrom (t .len) i (suc n) ≤ totals .points
+  unfolding pointsFrom
   count-within zero i h = omega (arith, p .within i (omega arith))
   count-within (suc n) i h = omega (arith, count-within n (i + 1) (omega arith), p .follows i (omega arith))
 
-  count-few : (n : ℕ) → n ≡ totals .contours → pointCount (t .len) 0 n ≤ maxLinks
-  unfolding pointCount
+  count-few : (n : ℕ) → n ≡ totals .contours → pointsFrom (t .len) 0 n ≤ maxLinks
+  unfolding pointsFrom
   count-few zero h = omega arith
   count-few (suc n) h = omega (arith, count-within n 0 (omega arith), p .few)
 
-  three-each : (n i : ℕ) → i + n ≤ totals .contours → 3 * n ≤ pointCount (t .len) i n
-  unfolding pointCount
+  three-each : (n i : ℕ) → i + n ≤ totals .contours → 3 * n ≤ pointsFrom (t .len) i n
+  unfolding pointsFrom
   three-each zero i h = omega arith
   three-each (suc n) i h = omega (arith, p .long i (omega arith), three-each n (i + 1) (omega arith))
 
   contours-few : totals .contours ≤ maxContours
   contours-few = omega (arith, three-each (totals .contours) 0 (omega arith), count-few (totals .contours) refl)
 
-  contours-short : ((j : ℕ) → Fits w16 (getD (t .owner) j 0)) → (n i : ℕ) → i + n ≡ totals .contours → pointCount (t .len) i n ≤ maxLinks
-      → length (contoursFrom t i n) ≤ 24 * n + 16 * pointCount (t .len) i n
-  unfolding contoursFrom pointCount
+  contours-short : ((j : ℕ) → Fits w16 (getD (t .owner) j 0)) → (n i : ℕ) → i + n ≡ totals .contours → pointsFrom (t .len) i n ≤ maxLinks
+      → length (contoursFrom t i n) ≤ 24 * n + 16 * pointsFrom (t .len) i n
+  unfolding contoursFrom pointsFrom
   contours-short owners zero i h k = omega arith
   contours-short owners (suc n) i h k =
       let len = getD (t .len) i 0 in
       omega (
         arith,
-        both (contourLines t i) (contoursFrom t (i + 1) n) (24 + 16 * len) (24 * n + 16 * pointCount (t .len) (i + 1) n)
+        both (contourLines t i) (contoursFrom t (i + 1) n) (24 + 16 * len) (24 * n + 16 * pointsFrom (t .len) (i + 1) n)
             (both (contourLine i (getD (t .kind) i 0) (getD (t .owner) i 0) len) (pointLines (t .points) (getD (t .first) i 0) len) 24 (16 * len)
             (line-short i (getD (t .kind) i 0) (getD (t .owner) i 0) len (omega (arith, contours-few)) (omega (arith, owners i .fits)) (omega arith))
             (points-short (t .points) (p .grid) len (getD (t .first) i 0) (p .ranges .points i (omega arith))))
@@ -122,7 +125,7 @@ module _ (t : Table) (totals : Totals) (p : Printable t totals) where
       let points = count-few (totals .contours) refl in
       omega (
         arith,
-        both (header totals) (contoursFrom t 0 (totals .contours)) 51 (24 * totals .contours + 16 * pointCount (t .len) 0 (totals .contours))
+        both (header totals) (contoursFrom t 0 (totals .contours)) 51 (24 * totals .contours + 16 * pointsFrom (t .len) 0 (totals .contours))
             (header-short totals (omega arith) (omega (arith, p .shapes)) (omega (arith, p .few)) (omega (arith, p .dropped)))
             (contours-short owners (totals .contours) 0 (omega arith) points),
       )

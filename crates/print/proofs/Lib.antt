@@ -1,6 +1,3 @@
--- Laws that the proofs cite.
-
-pub mod Copy
-pub mod Numbers
+-- What the proofs cite.
 pub mod Points
 pub mod Lengths

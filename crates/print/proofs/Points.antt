@@ -1,4 +1,4 @@
--- The loops over points and over contours, and points as the code reads them back from their bits.
+-- The loops over points and over contours.
 use Prim.Native.Nat.{ℕ, suc, _+_, _-_, _*_, _≤_, _<_}
 use mathlib.Core.Path.{_≡_, sym, ap, ap₂, _∙_, subst}
 use mathlib.Core.List.{List, _++_}
@@ -9,20 +9,11 @@ use lib.ListN.{length, getD}
 use mir.Syntax.{w32}
 use mir.Val.{SFits, toZ, ofZ}
 use mir.ValLaws.{toZ-ofZ}
-use Rattle.print.specs.Answer.{Table, pointLine, pointLines, contourLines, contoursFrom}
-use Rattle.print.specs.Room.{Ranges}
-use Rattle.print.specs.Write.{Wrote, Left, left-all, left-after, left-none, piece-fits}
-
--- a number of 32 bits and back
-abbrev pub again : ℤ → ℤ
-again x = toZ w32 (ofZ w32 x)
-
-module _ (x y : ℤ) (f : SFits w32 x) (g : SFits w32 y) where
-  pub same-line : pointLine x y ≡ pointLine (again x) (again y)
-  same-line = ap₂ pointLine (sym (toZ-ofZ w32 x f)) (sym (toZ-ofZ w32 y g))
-
-  pub point-left : (old : List ℕ) (at : ℕ) → at + length (pointLine x y) ≤ length old → Left old old at at (pointLine (again x) (again y)) (pointLine x y)
-  point-left old at h = subst (λ (t : List ℕ). Left old old at at t (pointLine x y)) same-line (left-all old at (pointLine x y) h)
+use Rattle.print.specs.Answer.{OwnedTable, pointLines, contourLines, contoursFrom}
+use Rattle.print_lines.specs.Lines.{pointLine}
+use Rattle.print.specs.Room.{RangesInside}
+use Rattle.writing.specs.Write.{Wrote, Unwritten, left-all, left-after, left-none, piece-fits}
+use Rattle.print_lines.specs.Again.{again, same-line}
 
 -- the line of point p
 abbrev pub lineOf : List ℤ → ℕ → List ℕ
@@ -34,7 +25,7 @@ pub record Pointing (points : List ℤ) (first count : ℕ) (old : List ℕ) (at
   pub from : first ≤ p
   pub to : p ≤ end
   pub end-is : end ≡ first + count
-  pub left : Left old new at next (pointLines points p (end - p)) (pointLines points first count)
+  pub left : Unwritten old new at next (pointLines points p (end - p)) (pointLines points first count)
 
 module _ (points : List ℤ) (first count : ℕ) (old : List ℕ) (at end : ℕ) where
   pub pointing-first : at + length (pointLines points first count) ≤ length old → end ≡ first + count → Pointing points first count old at end old first at
@@ -42,7 +33,8 @@ module _ (points : List ℤ) (first count : ℕ) (old : List ℕ) (at end : ℕ)
     from = omega arith;
     to = omega arith;
     end-is = e;
-    left = subst (λ k. Left old old at at (pointLines points first k) (pointLines points first count)) size (left-all old at (pointLines points first count) h);
+    left = subst (λ k. Unwritten old old at at (pointLines points first k) (pointLines points first count)) size
+        (left-all old at (pointLines points first count) h);
   }
     where
       size : count ≡ end - first
@@ -59,8 +51,8 @@ module _ (points : List ℤ) (first count : ℕ) (old : List ℕ) (at end : ℕ)
           rest : end - p ≡ suc (end - (p + 1))
           rest = omega arith
 
-      now-left : Left old new at next (lineOf points p ++ pointLines points (p + 1) (end - (p + 1))) (pointLines points first count)
-      now-left = subst (λ (t : List ℕ). Left old new at next t (pointLines points first count)) one-more (w .left)
+      now-left : Unwritten old new at next (lineOf points p ++ pointLines points (p + 1) (end - (p + 1))) (pointLines points first count)
+      now-left = subst (λ (t : List ℕ). Unwritten old new at next t (pointLines points first count)) one-more (w .left)
 
       pub pointing-fits : next + length (lineOf points p) ≤ length new
       pointing-fits = piece-fits (lineOf points p) (pointLines points (p + 1) (end - (p + 1))) now-left
@@ -77,22 +69,22 @@ module _ (points : List ℤ) (first count : ℕ) (old : List ℕ) (at end : ℕ)
 
     pub pointing-last : end ≤ p → Wrote old new at next (pointLines points first count)
     unfolding pointLines
-    pointing-last l = left-none (subst (λ k. Left old new at next (pointLines points p k) (pointLines points first count)) none (w .left))
+    pointing-last l = left-none (subst (λ k. Unwritten old new at next (pointLines points p k) (pointLines points first count)) none (w .left))
       where
         none : end - p ≡ 0
         none = omega arith
 
 -- ---- the contours from number i on
 
-pub record Listing (t : Table) (contours : ℕ) (old : List ℕ) (at : ℕ) (new : List ℕ) (i next : ℕ) : Type 0 where
+pub record Listing (t : OwnedTable) (contours : ℕ) (old : List ℕ) (at : ℕ) (new : List ℕ) (i next : ℕ) : Type 0 where
   pub to : i ≤ contours
-  pub left : Left old new at next (contoursFrom t i (contours - i)) (contoursFrom t 0 contours)
+  pub left : Unwritten old new at next (contoursFrom t i (contours - i)) (contoursFrom t 0 contours)
 
-module _ (t : Table) (contours : ℕ) (old : List ℕ) (at : ℕ) where
+module _ (t : OwnedTable) (contours : ℕ) (old : List ℕ) (at : ℕ) where
   pub listing-first : at + length (contoursFrom t 0 contours) ≤ length old → Listing t contours old at old 0 at
   listing-first h = record {
     to = omega arith;
-    left = subst (λ k. Left old old at at (contoursFrom t 0 k) (contoursFrom t 0 contours)) size (left-all old at (contoursFrom t 0 contours) h);
+    left = subst (λ k. Unwritten old old at at (contoursFrom t 0 k) (contoursFrom t 0 contours)) size (left-all old at (contoursFrom t 0 contours) h);
   }
     where
       size : contours ≡ contours - 0
@@ -100,9 +92,9 @@ module _ (t : Table) (contours : ℕ) (old : List ℕ) (at : ℕ) where
 
   module _ (new : List ℕ) (i next : ℕ) (w : Listing t contours old at new i next) where
     module _ (l : i < contours) where
-      contour-left : Left old new at next (contourLines t i ++ contoursFrom t (i + 1) (contours - (i + 1))) (contoursFrom t 0 contours)
+      contour-left : Unwritten old new at next (contourLines t i ++ contoursFrom t (i + 1) (contours - (i + 1))) (contoursFrom t 0 contours)
       unfolding contoursFrom
-      contour-left = subst (λ k. Left old new at next (contoursFrom t i k) (contoursFrom t 0 contours)) rest (w .left)
+      contour-left = subst (λ k. Unwritten old new at next (contoursFrom t i k) (contoursFrom t 0 contours)) rest (w .left)
         where
           rest : contours - i ≡ suc (contours - (i + 1))
           rest = omega arith
@@ -118,13 +110,13 @@ module _ (t : Table) (contours : ℕ) (old : List ℕ) (at : ℕ) where
 
     pub listing-last : contours ≤ i → Wrote old new at next (contoursFrom t 0 contours)
     unfolding contoursFrom
-    listing-last l = left-none (subst (λ k. Left old new at next (contoursFrom t i k) (contoursFrom t 0 contours)) none (w .left))
+    listing-last l = left-none (subst (λ k. Unwritten old new at next (contoursFrom t i k) (contoursFrom t 0 contours)) none (w .left))
       where
         none : contours - i ≡ 0
         none = omega arith
 
 -- fewer contours
-pub fewer : (t : Table) (n k : ℕ) → k ≤ n → Ranges t n → Ranges t k
+pub fewer : (t : OwnedTable) (n k : ℕ) → k ≤ n → RangesInside t n → RangesInside t k
 fewer t n k h r = record {
   first = le-trans h (r .first);
   len = le-trans h (r .len);

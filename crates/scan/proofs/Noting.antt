@@ -93,7 +93,8 @@ module _ (g : Lent) (n : ℕ) (s : Shape g n) where
   grid-of (q ∷ l) (suc (suc i)) h = grid-of l i (omega arith)
 
 -- ---- the counts after a walk
-module _ (minimum : ℕ) (hole : Bool) (n size rest : ℕ) (a : ℤ) (t : Tables) (w : Within n (size + rest) (t .counts)) (some : 1 ≤ size) (b : natAbs a ≤ size * (2 * wedgeBound)) where
+module _ (minimum : ℕ) (hole : Bool) (n size rest : ℕ) (a : ℤ) (t : Tables) (w : Within n (size + rest) (t .counts)) (some : 1 ≤ size)
+    (b : natAbs a ≤ size * (2 * wedgeBound)) where
   pub within-enter : Within n rest (enter minimum hole size a t .counts)
   within-enter = by (isKept size a minimum) refl
     where
@@ -184,32 +185,39 @@ module _ (g : Lent) (n : ℕ) (s : Shape g n) (minimum : ℕ) (hole : Bool) (t :
           ap (λ (x : Tables). x .kind) entered-is,
         )
 
-    pub walk-fewer : (m : ℕ) → Within m (unvisited st) (t .counts) → (at + 1 ≤ to) × (to + unvisited st′ ≡ at + unvisited st) → Fewer m st st′ (noting.Entered r)
+    pub walk-fewer : (m : ℕ) → Within m (unvisited st) (t .counts) → (at + 1 ≤ to) × (to + unvisited st′ ≡ at + unvisited st)
+        → Fewer m st st′ (noting.Entered r)
     walk-fewer m i c =
         let u : unvisited st ≡ (to - at) + unvisited st′ = omega (arith, c .0, c .1) in
-        let q : r ≡ enter minimum hole (to - at) (area (pointsOf part)) (tables pts′ (t .first) (t .len) (t .kind) (t .counts)) .counts = ap (λ (x : Tables). x .counts) e in (
+        let q : r ≡ enter minimum hole (to - at) (area (pointsOf part)) (tables pts′ (t .first) (t .len) (t .kind) (t .counts)) .counts = ap
+        (λ (x : Tables). x .counts) e in (
           omega (arith, c .0, c .1),
           subst (Within m (unvisited st′)) (sym q)
-              (within-enter minimum hole m (to - at) (unvisited st′) (area (pointsOf part)) (tables pts′ (t .first) (t .len) (t .kind) (t .counts)) (subst (λ k. Within m k (t .counts)) u i) (omega (arith, c .0)) area-within),
+              (within-enter minimum hole m (to - at) (unvisited st′) (area (pointsOf part)) (tables pts′ (t .first) (t .len) (t .kind) (t .counts))
+              (subst (λ k. Within m k (t .counts)) u i) (omega (arith, c .0)) area-within),
         )
 
-pub stuck-noted : (g : Graph) (minimum : ℕ) (t : Tables) (hole : Bool) (o : Walked) (number : ℕ) (r : Noted) (st′ : List ℕ) (pts′ : List ℤ) (first len kind : List ℕ)
+pub stuck-noted : (g : Graph) (minimum : ℕ) (t : Tables) (hole : Bool) (o : Walked) (number : ℕ) (r : Noted) (st′ : List ℕ) (pts′ : List ℤ)
+    (first len kind : List ℕ)
     → o ≡ stuck number → r ≡ noting.Stuck number → WalkNoted g minimum t hole o r st′ pts′ first len kind
 stuck-noted g minimum t hole o number r st′ pts′ first len kind e q = subst (λ x. WalkNoted g minimum t hole x r st′ pts′ first len kind) (sym e) q
 
 -- ---- from the first link that rule 1 names
-module _ (g : Lent) (top : List ℕ) (cw : Bool) (minimum : ℕ) (t : Tables) (st : List ℕ) (n : Next) (r : Noted) (st′ : List ℕ) (pts′ : List ℤ) (first len kind : List ℕ) where
+module _ (g : Lent) (top : List ℕ) (cw : Bool) (minimum : ℕ) (t : Tables) (st : List ℕ) (n : Next) (r : Noted) (st′ : List ℕ) (pts′ : List ℤ)
+    (first len kind : List ℕ) where
   pub first-nothing : Nothing ≡ n → r ≡ noting.Stuck 8 → FirstNoted (graphOf g top) cw minimum t st n r st′ pts′ first len kind
   first-nothing e q = subst (λ x. FirstNoted (graphOf g top) cw minimum t st x r st′ pts′ first len kind) e q
 
   pub first-link : (s : ℕ) → Link s ≡ n
-      → WalkNoted (plain g) minimum t (graphOf g top .top s) (walkFrom (plain g) (not (senseOf (graphOf g top) cw s)) (senseOf (graphOf g top) cw s) (markOf (graphOf g top .top s)) st s) r st′ pts′ first len kind
+      → WalkNoted (plain g) minimum t (graphOf g top .top s) (walkFrom (plain g) (not (senseOf (graphOf g top) cw s)) (senseOf (graphOf g top) cw s)
+      (markOf (graphOf g top .top s)) st s) r st′ pts′ first len kind
       → FirstNoted (graphOf g top) cw minimum t st n r st′ pts′ first len kind
   first-link s e h =
       subst (λ x. FirstNoted (graphOf g top) cw minimum t st x r st′ pts′ first len kind) e
       (same-noted (walkOf (graphOf g top) cw st s) (subst (λ o. WalkNoted (plain g) minimum t (graphOf g top .top s) o r st′ pts′ first len kind)
       (from-tops g [] top (not (senseOf (graphOf g top) cw s)) (senseOf (graphOf g top) cw s) (markOf (graphOf g top .top s)) st s) h))
     where
-      same-noted : (o : Walked) → WalkNoted (plain g) minimum t (graphOf g top .top s) o r st′ pts′ first len kind → WalkNoted (graphOf g top) minimum t (graphOf g top .top s) o r st′ pts′ first len kind
+      same-noted : (o : Walked) → WalkNoted (plain g) minimum t (graphOf g top .top s) o r st′ pts′ first len kind
+          → WalkNoted (graphOf g top) minimum t (graphOf g top .top s) o r st′ pts′ first len kind
       same-noted (stuck number) h = h
       same-noted (done l after) h = h

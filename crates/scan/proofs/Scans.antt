@@ -32,7 +32,8 @@ module _ (g : Graph) (cw : Bool) (st : List ℕ) where
   abbrev after : List ℕ → Scanned
   after s = scanOn (unvisited st) g cw s
 
-  pub stands : (k : ℕ) → None (isUnvisited st) k → k < length st → isUnvisited st k ≡ true → scanOn (suc (unvisited st)) g cw st ≡ scanAt g cw after st k (firstLink g st k)
+  pub stands : (k : ℕ) → None (isUnvisited st) k → k < length st → isUnvisited st k ≡ true → scanOn (suc (unvisited st)) g cw st
+      ≡ scanAt g cw after st k (firstLink g st k)
   unfolding scanOn
   stands k h l o =
       let e : lowestUnvisited st ≡ k = found (isUnvisited st) (length st) k l h o in
@@ -45,13 +46,16 @@ module _ (g : Graph) (cw : Bool) (st : List ℕ) where
       rw (e, le-ltb (length st) (length st) (omega arith))
 
 -- ---- one walk, then the others
-module _ (g : Graph) (cw : Bool) (minimum : ℕ) (t : Tables) (st : List ℕ) (k : ℕ) (go : List ℕ → Scanned) (st′ : List ℕ) (pts′ : List ℤ) (first′ len′ kind′ : List ℕ) where
+module _ (g : Graph) (cw : Bool) (minimum : ℕ) (t : Tables) (st : List ℕ) (k : ℕ) (go : List ℕ → Scanned) (st′ : List ℕ) (pts′ : List ℤ)
+    (first′ len′ kind′ : List ℕ) where
   module _ (number : ℕ) (r : Extraction) (s : List ℕ) (p : List ℤ) (a b c : List ℕ) (q : r ≡ Refused number k) where
-    stuck-after : (hole : Bool) (o : Walked) → WalkNoted g minimum t hole o (noting.Stuck number) st′ pts′ first′ len′ kind′ → ScanLeaves g minimum t (afterWalk k hole go o) r s p a b c
+    stuck-after : (hole : Bool) (o : Walked) → WalkNoted g minimum t hole o (noting.Stuck number) st′ pts′ first′ len′ kind′
+        → ScanLeaves g minimum t (afterWalk k hole go o) r s p a b c
     stuck-after hole (stuck m) h = let e : number ≡ m = cc in q ∙ ap (λ x. Refused x k) e
     stuck-after hole (done l u) h = absurd (true≢false (cc))
 
-    pub scan-stuck : (n : Next) → FirstNoted g cw minimum t st n (noting.Stuck number) st′ pts′ first′ len′ kind′ → ScanLeaves g minimum t (scanAt g cw go st k n) r s p a b c
+    pub scan-stuck : (n : Next) → FirstNoted g cw minimum t st n (noting.Stuck number) st′ pts′ first′ len′ kind′
+        → ScanLeaves g minimum t (scanAt g cw go st k n) r s p a b c
     scan-stuck Nothing h = let e : number ≡ 8 = cc in q ∙ ap (λ x. Refused x k) e
     scan-stuck (Link f) h = stuck-after (g .top f) (walkOf g cw st f) h
 
@@ -68,7 +72,9 @@ module _ (g : Graph) (cw : Bool) (minimum : ℕ) (t : Tables) (st : List ℕ) (k
         let z : noting.Entered d ≡ noting.Entered (noted g minimum t w .counts) = h .0 in
         let e : d ≡ noted g minimum t w .counts = cc in
         let f : tables pts′ first′ len′ kind′ d ≡ noted g minimum t w = λ j. tables (h .2 j) (h .3 j) (h .4 j) (h .5 j) (e j) in
-        walk-first w (go u) (subst (λ x. ScanLeaves g minimum (noted g minimum t w) (go x) r s p a b c) (h .1) (subst (λ x. ScanLeaves g minimum x (go st′) r s p a b c) f i))
+        walk-first w (go u)
+        (subst (λ x. ScanLeaves g minimum (noted g minimum t w) (go x) r s p a b c) (h .1)
+        (subst (λ x. ScanLeaves g minimum x (go st′) r s p a b c) f i))
 
     pub scan-entered : (n : Next) → FirstNoted g cw minimum t st n (noting.Entered d) st′ pts′ first′ len′ kind′
         → ScanLeaves g minimum (tables pts′ first′ len′ kind′ d) (go st′) r s p a b c → ScanLeaves g minimum t (scanAt g cw go st k n) r s p a b c
@@ -76,8 +82,10 @@ module _ (g : Graph) (cw : Bool) (minimum : ℕ) (t : Tables) (st : List ℕ) (k
     scan-entered (Link f) h i = entered-after (g .top f) (walkOf g cw st f) h i
 
 -- ---- what the loop keeps: what the scan leaves from here it leaves from the loop's start; no link below k is unvisited
-pub record Scanning (g : Graph) (cw : Bool) (minimum n : ℕ) (st₀ : List ℕ) (pts₀ : List ℤ) (first₀ len₀ kind₀ : List ℕ) (k : ℕ) (c : Counts) (st : List ℕ) (pts : List ℤ) (first len kind : List ℕ) : Type 0 where
-  pub leaves : (r : Extraction) (s : List ℕ) (p : List ℤ) (x y z : List ℕ) → ScanLeaves g minimum (tables pts first len kind c) (scanOn (suc (unvisited st)) g cw st) r s p x y z
+pub record Scanning (g : Graph) (cw : Bool) (minimum n : ℕ) (st₀ : List ℕ) (pts₀ : List ℤ) (first₀ len₀ kind₀ : List ℕ) (k : ℕ) (c : Counts)
+    (st : List ℕ) (pts : List ℤ) (first len kind : List ℕ) : Type 0 where
+  pub leaves : (r : Extraction) (s : List ℕ) (p : List ℤ) (x y z : List ℕ) → ScanLeaves g minimum (tables pts first len kind c)
+      (scanOn (suc (unvisited st)) g cw st) r s p x y z
       → ScanLeaves g minimum (tables pts₀ first₀ len₀ kind₀ noCounts) (scanOn (suc (unvisited st₀)) g cw st₀) r s p x y z
   pub passed : None (isUnvisited st) k
   pub in-links : k ≤ n
@@ -89,7 +97,8 @@ pub record Scanning (g : Graph) (cw : Bool) (minimum n : ℕ) (st₀ : List ℕ)
   pub len-length : length len ≡ length len₀
   pub kind-length : length kind ≡ length kind₀
 
-module _ (g : Graph) (cw : Bool) (minimum n : ℕ) (st₀ : List ℕ) (pts₀ : List ℤ) (first₀ len₀ kind₀ : List ℕ) (k : ℕ) (c : Counts) (st : List ℕ) (pts : List ℤ) (first len kind : List ℕ)
+module _ (g : Graph) (cw : Bool) (minimum n : ℕ) (st₀ : List ℕ) (pts₀ : List ℤ) (first₀ len₀ kind₀ : List ℕ) (k : ℕ) (c : Counts) (st : List ℕ)
+    (pts : List ℤ) (first len kind : List ℕ)
     (i : Scanning g cw minimum n st₀ pts₀ first₀ len₀ kind₀ k c st pts first len kind) where
   -- link k is visited or skipped: the scan moves on
   pub scan-moves : k < n → isUnvisited st k ≡ false → Scanning g cw minimum n st₀ pts₀ first₀ len₀ kind₀ (k + 1) c st pts first len kind
@@ -111,22 +120,29 @@ module _ (g : Graph) (cw : Bool) (minimum n : ℕ) (st₀ : List ℕ) (pts₀ : 
     here = stands g cw st k (i .passed) (rw (i .kept .len ∙ i .all-links) l) o
 
     -- its walk is refused
-    pub scan-refused : (v : Noted) (number : ℕ) → v ≡ noting.Stuck number → FirstNoted g cw minimum (tables pts first len kind c) st (firstLink g st k) v st′ pts′ first′ len′ kind′
+    pub scan-refused : (v : Noted) (number : ℕ) → v ≡ noting.Stuck number → FirstNoted g cw minimum (tables pts first len kind c) st
+        (firstLink g st k) v st′ pts′ first′ len′ kind′
         → (r : Extraction) (s : List ℕ) (p : List ℤ) (x y z : List ℕ) → r ≡ Refused number k
         → ScanLeaves g minimum (tables pts₀ first₀ len₀ kind₀ noCounts) (scanOn (suc (unvisited st₀)) g cw st₀) r s p x y z
     scan-refused v number e f r s p x y z q =
-        i .leaves r s p x y z (rw here (scan-stuck g cw minimum (tables pts first len kind c) st k (λ s. scanOn (unvisited st) g cw s) st′ pts′ first′ len′ kind′ number r s p x y z q (firstLink g st k) (rw e at f)))
+        i .leaves r s p x y z
+        (rw here (scan-stuck g cw minimum (tables pts first len kind c) st k
+        (λ s. scanOn (unvisited st) g cw s) st′ pts′ first′ len′ kind′ number r s p x y z q (firstLink g st k) (rw e at f)))
 
     -- its walk is entered
-    pub scan-again : (v : Noted) (d : Counts) → v ≡ noting.Entered d → FirstNoted g cw minimum (tables pts first len kind c) st (firstLink g st k) v st′ pts′ first′ len′ kind′
+    pub scan-again : (v : Noted) (d : Counts) → v ≡ noting.Entered d → FirstNoted g cw minimum (tables pts first len kind c) st
+        (firstLink g st k) v st′ pts′ first′ len′ kind′
         → Fewer n st st′ v → Kept st st′
         → length pts′ ≡ length pts → length first′ ≡ length first → length len′ ≡ length len → length kind′ ≡ length kind
         → Scanning g cw minimum n st₀ pts₀ first₀ len₀ kind₀ k d st′ pts′ first′ len′ kind′
     scan-again v d e f u m lp lf ll lk =
         let w : Fewer n st st′ (noting.Entered d) = rw e at u in
-        let enough : scanOn (suc (unvisited st′)) g cw st′ ≡ scanOn (unvisited st) g cw st′ = scan-enough g cw (suc (unvisited st′)) (unvisited st) st′ (omega arith) (w .0) in
+        let enough : scanOn (suc (unvisited st′)) g cw st′ ≡ scanOn (unvisited st) g cw st′ = scan-enough g cw (suc (unvisited st′))
+        (unvisited st) st′ (omega arith) (w .0) in
         record {
-          leaves = λ r s p x y z h. i .leaves r s p x y z (rw here (scan-entered g cw minimum (tables pts first len kind c) st k (λ s. scanOn (unvisited st) g cw s) st′ pts′ first′ len′ kind′ d r s p x y z (firstLink g st k) (rw e at f) (rw enough at h)));
+          leaves = λ r s p x y z h. i .leaves r s p x y z
+              (rw here (scan-entered g cw minimum (tables pts first len kind c) st k
+              (λ s. scanOn (unvisited st) g cw s) st′ pts′ first′ len′ kind′ d r s p x y z (firstLink g st k) (rw e at f) (rw enough at h)));
           passed = λ j a. m .closed j (i .passed j a);
           in-links = i .in-links;
           all-links = i .all-links;
@@ -155,7 +171,14 @@ none-yet g cw minimum st pts first len kind = record {
   passed = λ j h. absurd (nothing j h);
   in-links = omega arith;
   all-links = refl;
-  within = record { links = omega (arith, unvisited-some st); points = omega arith; contours = omega arith; rejected = omega arith; kept-area = omega arith; rejected-area = omega arith };
+  within = record {
+    links = omega (arith, unvisited-some st);
+    points = omega arith;
+    contours = omega arith;
+    rejected = omega arith;
+    kept-area = omega arith;
+    rejected-area = omega arith;
+  };
   kept = kept-none st;
   points-length = refl;
   first-length = refl;

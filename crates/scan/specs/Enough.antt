@@ -27,7 +27,8 @@ module _ (g : Graph) (cw : Bool) where
   after-walk : (p q : List ℕ → Scanned) (st : List ℕ) (k : ℕ) (hole : Bool) (o : Walked) → Visits (markOf hole) st o
       → ((after : List ℕ) → unvisited after < unvisited st → p after ≡ q after) → afterWalk k hole p o ≡ afterWalk k hole q o
   after-walk p q st k hole (stuck number) v h = refl
-  after-walk p q st k hole (done l after) v h = ap (consWalk (record { hole = hole; steps = l })) (h after (visits-fewer (markOf hole) st l after (mark-of hole) v))
+  after-walk p q st k hole (done l after) v h =
+      ap (consWalk (record { hole = hole; steps = l })) (h after (visits-fewer (markOf hole) st l after (mark-of hole) v))
 
   at-first : (p q : List ℕ → Scanned) (st : List ℕ) (k : ℕ) (o : Next) → LinkUnvisited st o
       → ((after : List ℕ) → unvisited after < unvisited st → p after ≡ q after) → scanAt g cw p st k o ≡ scanAt g cw q st k o

@@ -55,7 +55,8 @@ LeavesAll st (stopped number place) = Unit {0}
 LeavesAll st (walks ws after) = (after ≡ statesAfter ws st) × AllFresh st ws × NoneUnvisited after
 
 module _ (g : Graph) (cw : Bool) where
-  all-cons : (w : Walk) (st : List ℕ) (o : Scanned) → Fresh (markOf (w .hole)) st (w .steps) → LeavesAll (marked (markOf (w .hole)) (w .steps) st) o → LeavesAll st (consWalk w o)
+  all-cons : (w : Walk) (st : List ℕ) (o : Scanned) → Fresh (markOf (w .hole)) st (w .steps) → LeavesAll (marked (markOf (w .hole)) (w .steps) st) o
+      → LeavesAll st (consWalk w o)
   all-cons w st (stopped number place) f h = tt
   all-cons w st (walks ws after) f h = (h .0, (f, h .1), h .2)
 
@@ -80,7 +81,8 @@ module _ (g : Graph) (cw : Bool) where
       few st h = omega arith
   scan-leaves (suc fuel) st h =
       pick-ind (ltb (lowestUnvisited st) (length st)) _ (walks [] st) (LeavesAll st)
-      (λ t. at-first (λ after. scanOn fuel g cw after) st (lowestUnvisited st) (firstLink g st (lowestUnvisited st)) (first-is-unvisited g st (lowestUnvisited st) (lowest-unvisited st t))
+      (λ t. at-first (λ after. scanOn fuel g cw after) st (lowestUnvisited st) (firstLink g st (lowestUnvisited st))
+      (first-is-unvisited g st (lowestUnvisited st) (lowest-unvisited st t))
       (λ after l. scan-leaves fuel after (omega arith)))
       (λ n. (refl, tt, lowest-none st n))
 

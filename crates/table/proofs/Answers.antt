@@ -50,9 +50,11 @@ module _ (t : Table) (owners : ℕ) where
     pub table-bad : c < contourCount t → Refused 10 c ≡ tableChecked t owners
     unfolding tableChecked
     table-bad l =
-        ap (Refused 10) k ∙ way-bad fit (unended t) (some (badContour t) (contourCount t)) bad e (ap not (eq-eqb end (pointCount t) (sym q ∙ f))) (lt-ltb bad (contourCount t) (subst (λ (x : ℕ). x < contourCount t) k l))
+        ap (Refused 10) k ∙ way-bad fit (unended t) (some (badContour t) (contourCount t)) bad e (ap not (eq-eqb end (pointCount t) (sym q ∙ f)))
+        (lt-ltb bad (contourCount t) (subst (λ (x : ℕ). x < contourCount t) k l))
 
     pub table-fine : contourCount t ≤ c → Fine ≡ tableChecked t owners
     unfolding tableChecked
     table-fine l =
-        way-fine fit (unended t) (some (badContour t) (contourCount t)) bad e (ap not (eq-eqb end (pointCount t) (sym q ∙ f))) (le-ltb bad (contourCount t) (subst (λ (x : ℕ). contourCount t ≤ x) k l))
+        way-fine fit (unended t) (some (badContour t) (contourCount t)) bad e (ap not (eq-eqb end (pointCount t) (sym q ∙ f)))
+        (le-ltb bad (contourCount t) (subst (λ (x : ℕ). contourCount t ≤ x) k l))

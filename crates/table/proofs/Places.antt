@@ -20,7 +20,8 @@ pub previous-later : (from to k : ℕ) → previousIn from to (from + (k + 1)) �
 previous-later from to k = let e : from + (k + 1) - 1 ≡ from + k = omega arith in previous-inside from to (from + (k + 1)) (omega arith) ∙ e
 
 -- what the loop over a contour's points tests at its turn k
-module _ (points : List ℤ) (from to k : ℕ) (last here : Point) (p : last ≡ pointIn points (previousIn from to (from + k))) (q : here ≡ pointIn points (from + k)) where
+module _ (points : List ℤ) (from to k : ℕ) (last here : Point) (p : last ≡ pointIn points (previousIn from to (from + k)))
+    (q : here ≡ pointIn points (from + k)) where
   pub fault-at : (a b : Bool) → a ≡ offGrid here → b ≡ differ last here → a || not b ≡ pointFault points from to (from + k)
   fault-at a b e f = ap₂ (λ x y. x || not y) (e ∙ ap offGrid q) (f ∙ ap₂ differ p q)
 

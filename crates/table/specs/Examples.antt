@@ -42,7 +42,8 @@ unfolding tableChecked lowest
 e9-cramped = refl
 
 -- the last point equal to the first: neighbours round the contour
-closed : tableChecked (table (firstHull ++ (pos 1 ∷ pos 1 ∷ pos 3 ∷ pos 1 ∷ pos 2 ∷ pos 2 ∷ pos 1 ∷ pos 1 ∷ [])) (0 ∷ 4 ∷ []) (4 ∷ 4 ∷ []) (0 ∷ 0 ∷ [])) 2 ≡ Refused 10 1
+closed : tableChecked (table (firstHull ++ (pos 1 ∷ pos 1 ∷ pos 3 ∷ pos 1 ∷ pos 2 ∷ pos 2 ∷ pos 1 ∷ pos 1 ∷ [])) (0 ∷ 4 ∷ []) (4 ∷ 4 ∷ [])
+    (0 ∷ 0 ∷ [])) 2 ≡ Refused 10 1
 unfolding tableChecked lowest
 closed = refl
 

@@ -102,7 +102,8 @@ Right t c =
 
 abbrev Fitting : Table → ℕ → Type 0
 Fitting t owners =
-    ((((length (t .len) ≡ contourCount t) × (length (t .kind) ≡ contourCount t)) × (contourCount t ≤ owners)) × (pointCount t ≤ maxLinks)) × (length (t .points) % 2 ≡ 0)
+    ((((length (t .len) ≡ contourCount t) × (length (t .kind) ≡ contourCount t)) × (contourCount t ≤ owners)) × (pointCount t ≤ maxLinks))
+    × (length (t .points) % 2 ≡ 0)
 
 abbrev Parts : Table → ℕ → Type 0
 Parts t owners =
@@ -137,8 +138,11 @@ module _ (t : Table) (owners : ℕ) (h : Parts t owners) where
   gridded i l = go (i % 2) refl
     where
       go : (r : ℕ) → i % 2 ≡ r → Coord (getD (t .points) i (pos 0))
-      go zero e = let q : i / 2 * 2 ≡ i = omega arith in subst (λ (j : ℕ). Coord (getD (t .points) j (pos 0))) q (on-grid-at (i / 2) (omega (arith, h .0 .0 .1)) .0)
-      go (suc r) e = let q : i / 2 * 2 + 1 ≡ i = omega arith in subst (λ (j : ℕ). Coord (getD (t .points) j (pos 0))) q (on-grid-at (i / 2) (omega (arith, h .0 .0 .1)) .1)
+      go zero e =
+          let q : i / 2 * 2 ≡ i = omega arith in subst (λ (j : ℕ). Coord (getD (t .points) j (pos 0))) q (on-grid-at (i / 2) (omega (arith, h .0 .0 .1)) .0)
+      go (suc r) e =
+          let q : i / 2 * 2 + 1 ≡ i = omega arith in
+          subst (λ (j : ℕ). Coord (getD (t .points) j (pos 0))) q (on-grid-at (i / 2) (omega (arith, h .0 .0 .1)) .1)
 
   sound-of : Sound t
   sound-of = record {
@@ -178,14 +182,17 @@ module _ (t : Table) (owners : ℕ) (s : Sound t) (r : contourCount t ≤ owners
   )
     where
       at : (k : ℕ) → k < lenOf t c → OnGrid (point t (firstOf t c + k))
-      at k m =
-          (s .grid ((firstOf t c + k) * 2) (omega (arith, s .within c l, s .whole)), s .grid ((firstOf t c + k) * 2 + 1) (omega (arith, s .within c l, s .whole)))
+      at k m = (
+        s .grid ((firstOf t c + k) * 2) (omega (arith, s .within c l, s .whole)),
+        s .grid ((firstOf t c + k) * 2 + 1) (omega (arith, s .within c l, s .whole)),
+      )
 
       round : (k : ℕ) → k < lenOf t c → differ (point t (previousIn (firstOf t c) (rangeEnd t c) (firstOf t c + k))) (point t (firstOf t c + k)) ≡ true
       round k m =
           let p = firstOf t c + k in
           let w = previous-within (firstOf t c) (rangeEnd t c) p (omega arith) (omega arith) in
-          subst (λ (x : ℕ). differ (point t (previousIn (firstOf t c) (rangeEnd t c) p)) (point t x) ≡ true) (next-previous (firstOf t c) (rangeEnd t c) p (omega arith) (omega arith))
+          subst (λ (x : ℕ). differ (point t (previousIn (firstOf t c) (rangeEnd t c) p)) (point t x) ≡ true)
+          (next-previous (firstOf t c) (rangeEnd t c) p (omega arith) (omega arith))
           (s .neighbours c (previousIn (firstOf t c) (rangeEnd t c) p) l (w .0) (w .1))
 
   parts-of : Parts t owners

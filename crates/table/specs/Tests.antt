@@ -13,7 +13,8 @@ use Rattle.table.specs.Table.{pointIn, previousIn}
 use Rattle.table.specs.TableChecks.{misfit, rangeFault, pointFault, somePointFault, contourFault}
 
 -- ---- the parts of check 10
-pub fitting : (points first len kind owners : ℕ) → Fails (misfit points first len kind owners) (((((len ≡ first) × (kind ≡ first)) × (first ≤ owners)) × (points / 2 ≤ maxLinks)) × (points % 2 ≡ 0))
+pub fitting : (points first len kind owners : ℕ) → Fails (misfit points first len kind owners)
+    (((((len ≡ first) × (kind ≡ first)) × (first ≤ owners)) × (points / 2 ≤ maxLinks)) × (points % 2 ≡ 0))
 fitting points first len kind owners = or-fails (or-fails (or-fails (or-fails (ne-fails _ _) (ne-fails _ _)) (lt-fails _ _)) (lt-fails _ _)) (ne-fails _ _)
 
 -- a contour's range, length and kind are right
@@ -45,5 +46,6 @@ pub all-placed : (points : List ℤ) (from len : ℕ) → Fails (somePointFault 
 all-placed points from len = some-fails len (λ k. placed points from (from + len) (from + k))
 
 pub contour-right : (points : List ℤ) (start first len kind : ℕ)
-    → Fails (contourFault points start first len kind) ((Ranged (length points / 2) start first len kind) × ((k : ℕ) → k < len → Placed points first (first + len) (first + k)))
+    → Fails (contourFault points start first len kind) ((Ranged (length points / 2) start first len kind)
+    × ((k : ℕ) → k < len → Placed points first (first + len) (first + k)))
 contour-right points start first len kind = or-fails (ranged (length points / 2) start first len kind) (all-placed points first len)

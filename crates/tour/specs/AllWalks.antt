@@ -155,7 +155,8 @@ module _ (g : Graph) (ok : Listed g) (cw : Bool) (st₀ : List ℕ) (len : lengt
           }
 
           walked : Walks g cw (sensed w B) st₀ (headN g cw s) home (walkOn (suc (unvisited σ₁)) g w home t m (headN g cw s) s σ₁)
-          walked = walk-ok g ok cw w st₀ len (cyc w) (seen w) (irr w) (trans w) m n0 s t (sub s os) (sub t ot′) (la .0) (suc (unvisited σ₁)) σ₁ s begun (omega arith)
+          walked = walk-ok g ok cw w st₀ len (cyc w) (seen w) (irr w) (trans w) m n0 s t (sub s os) (sub t ot′) (la .0)
+              (suc (unvisited σ₁)) σ₁ s begun (omega arith)
 
       from-ok : (o : Walked) × (walkOf g cw σ s ≡ consStep (record { link = s; forward = wayOf g cw s }) o) × Walks g cw (sensed w B) st₀ (headN g cw s) home o
       unfolding walkFrom
@@ -172,7 +173,8 @@ module _ (g : Graph) (ok : Listed g) (cw : Bool) (st₀ : List ℕ) (len : lengt
 
     -- ---- the scan
     module _ (fuel : ℕ) (h : unvisited σ < suc fuel)
-        (ih : (σ′ : List ℕ) → ((k : ℕ) → Unvisited σ′ k → Unvisited st₀ k) → ByTurns g cw B (UnvisitedEnd σ′) → unvisited σ′ < fuel → Scans g cw (scanOn fuel g cw σ′)) where
+        (ih : (σ′ : List ℕ) → ((k : ℕ) → Unvisited σ′ k → Unvisited st₀ k) → ByTurns g cw B (UnvisitedEnd σ′) → unvisited σ′ < fuel
+        → Scans g cw (scanOn fuel g cw σ′)) where
       walk-then : (k s : ℕ) → Unvisited σ s → Scans g cw (afterWalk k (g .top s) (λ after. scanOn fuel g cw after) (walkOf g cw σ s))
       walk-then k s os =
           let r = from-ok s os in
@@ -201,7 +203,8 @@ module _ (g : Graph) (ok : Listed g) (cw : Bool) (st₀ : List ℕ) (len : lengt
           (λ t. at-lowest (lowestUnvisited σ) (lowest-unvisited σ t))
           (λ n. record { all = []; state = σ; is = refl; closed = tt })
 
-  pub scan-ok : (fuel : ℕ) (σ : List ℕ) → ((k : ℕ) → Unvisited σ k → Unvisited st₀ k) → ByTurns g cw B (UnvisitedEnd σ) → unvisited σ < fuel → Scans g cw (scanOn fuel g cw σ)
+  pub scan-ok : (fuel : ℕ) (σ : List ℕ) → ((k : ℕ) → Unvisited σ k → Unvisited st₀ k) → ByTurns g cw B (UnvisitedEnd σ) → unvisited σ < fuel
+      → Scans g cw (scanOn fuel g cw σ)
   scan-ok zero σ sub turns h = absurd (few h)
     where
       few : unvisited σ < 0 → ⊥

@@ -4,7 +4,8 @@ use mathlib.Core.Logic.{_⊎_, inl, inr, ⊎-elim}
 use mathlib.Core.Bool.{Bool, true, false, not, Bool·not-not, true≢false, false≢true}
 use Prim.Native.Nat.{ℕ}
 
--- `B x y z`: turning from x, y is met strictly before z (x itself after a full turn). The laws are their own mirror image: B z y x is the order of turning the other way.
+-- `B x y z`: turning from x, y is met strictly before z (x itself after a full turn). The laws are their own mirror
+-- image: B z y x is the order of turning the other way.
 pub record Cyc (E : Type 0) (node : E → ℕ) (S : E → Type 0) (B : E → E → E → Type 0) : Type 0 where
   pub irr : (x y : E) → B x y y → ⊥
   pub irr′ : (x y : E) → B x x y → ⊥
@@ -158,4 +159,6 @@ module _ {E : Type 0} (dec : (x y : E) → Dec (x ≡ y)) {node : E → ℕ} (so
           go (no n) (no m) = first x wx nx n m h
 
       pub next-sort : sort f ≡ not (sort e)
-      next-sort = ⊎-elim (λ q. absurd (let r = alt (node e) e f we wf refl nf (sym q) in none-before (r .0) (r .1) (r .2) (r .4))) (λ q. q) (dicho (sort f) (sort e))
+      next-sort =
+          ⊎-elim (λ q. absurd (let r = alt (node e) e f we wf refl nf (sym q) in none-before (r .0) (r .1) (r .2) (r .4))) (λ q. q)
+          (dicho (sort f) (sort e))

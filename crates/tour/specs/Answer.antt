@@ -1,4 +1,5 @@
--- The third demand for extraction itself: a graph that passes the checks and comes by turns, lent with enough room, is answered Done, and the kept and the rejected total are the total over the links.
+-- The third demand for extraction itself: a graph that passes the checks and comes by turns, lent with enough room, is
+-- answered Done, and the kept and the rejected total are the total over the links.
 use Prim.Native.Nat.{ℕ}
 use mathlib.Core.Path.{_≡_, ap, _∙_}
 use mathlib.Core.Bool.{Bool}
@@ -28,7 +29,8 @@ pub record Answered (g : Lent) (top : List ℕ) (cw : Bool) (minimum : ℕ) (b :
   pub total : counts .«kept_area» +ℤ counts .«rejected_area» ≡ linkTotal (graphOf g top) cw (b .state)
   pub walked : counts .walked ≡ unvisited (b .state)
 
-pub answered : (g : Lent) (top : List ℕ) (cw : Bool) (minimum : ℕ) (b : Buffers) → checked g top (b .state) (roomIn b) ≡ check.Fine → ComesByTurns (graphOf g top) (b .state) → Answered g top cw minimum b
+pub answered : (g : Lent) (top : List ℕ) (cw : Bool) (minimum : ℕ) (b : Buffers) → checked g top (b .state) (roomIn b)
+    ≡ check.Fine → ComesByTurns (graphOf g top) (b .state) → Answered g top cw minimum b
 unfolding extracted
 answered g top cw minimum b e t =
     let G : Graph = graphOf g top in

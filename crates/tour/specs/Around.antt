@@ -8,7 +8,8 @@ use Rattle.laws.specs.Test.{Is, is-true, true-is}
 use Rattle.turn.specs.Angle.{sameDirection, nonzero}
 use Rattle.turn.specs.Angular.{irreflexive, transitive, own-last, total, cyclic, transitive-on, total-on}
 use Rattle.graph.specs.Graph.{Graph}
-use Rattle.next.specs.Next.{runs, metFirst}
+use Rattle.next.specs.Next.{metFirst}
+use Rattle.graph.specs.Checks.{awayFrom}
 use Rattle.next.specs.Choice.{Mem}
 use Rattle.walk.specs.States.{Unvisited}
 use Rattle.tour.specs.Alternation.{Cyc}
@@ -17,35 +18,37 @@ use Rattle.tour.specs.AllWalks.{sensed}
 
 -- ---- the rules' test, for any links
 pub met-irr : (g : Graph) (w : Bool) (v e x : ℕ) → metFirst g w v e x x ≡ true → ⊥
-met-irr g w v e x t = irreflexive w (runs g v e) (runs g v x) (true-is t)
+met-irr g w v e x t = irreflexive w (awayFrom g v e) (awayFrom g v x) (true-is t)
 
 pub met-trans : (g : Graph) (w : Bool) (v e x y z : ℕ) → metFirst g w v e x y ≡ true → metFirst g w v e y z ≡ true → metFirst g w v e x z ≡ true
-met-trans g w v e x y z p q = is-true (transitive w (runs g v e) (runs g v x) (runs g v y) (runs g v z) (true-is p) (true-is q))
+met-trans g w v e x y z p q = is-true (transitive w (awayFrom g v e) (awayFrom g v x) (awayFrom g v y) (awayFrom g v z) (true-is p) (true-is q))
 
 -- what the order asks of the unskipped links: each has a length, and no two run from a node in one direction
 pub record Spread (g : Graph) (st : List ℕ) : Type 0 where
-  pub long : (v k : ℕ) → Unvisited st k → Is (nonzero (runs g v k))
-  pub apart : (v x y : ℕ) → Unvisited st x → Unvisited st y → Mem x (g .entries v) → Mem y (g .entries v) → (x ≡ y → ⊥) → Is (sameDirection (runs g v x) (runs g v y)) → ⊥
+  pub long : (v k : ℕ) → Unvisited st k → Is (nonzero (awayFrom g v k))
+  pub apart : (v x y : ℕ) → Unvisited st x → Unvisited st y → Mem x (g .entries v) → Mem y (g .entries v) → (x ≡ y → ⊥)
+      → Is (sameDirection (awayFrom g v x) (awayFrom g v y)) → ⊥
 
 -- ---- for unskipped links
 module _ (g : Graph) (st : List ℕ) (sp : Spread g st) (v x y z : ℕ) (ox : Unvisited st x) (oy : Unvisited st y) (oz : Unvisited st z) where
   pub met-total : Mem y (g .entries v) → Mem z (g .entries v) → (y ≡ z → ⊥) → (metFirst g true v x y z ≡ true) ⊎ (metFirst g true v x z y ≡ true)
   met-total my mz d =
       ⊎-elim (λ h. inl (is-true h)) (⊎-elim (λ h. absurd (sp .apart v y z oy oz my mz d h)) (λ h. inr (is-true h)))
-      (total true (runs g v x) (runs g v y) (runs g v z) (sp .long v x ox) (sp .long v y oy) (sp .long v z oz))
+      (total true (awayFrom g v x) (awayFrom g v y) (awayFrom g v z) (sp .long v x ox) (sp .long v y oy) (sp .long v z oz))
 
   pub met-total-on : Mem x (g .entries v) → Mem y (g .entries v) → (x ≡ y → ⊥) → (metFirst g true v x y z ≡ true) ⊎ (metFirst g true v y x z ≡ true)
   met-total-on mx my d =
       ⊎-elim (λ h. inl (is-true h)) (λ h. inr (is-true h))
-      (total-on true (runs g v x) (runs g v y) (runs g v z) (sp .long v x ox) (sp .long v y oy) (sp .long v z oz) (sp .apart v x y ox oy mx my d))
+      (total-on true (awayFrom g v x) (awayFrom g v y) (awayFrom g v z) (sp .long v x ox) (sp .long v y oy) (sp .long v z oz) (sp .apart v x y ox oy mx my d))
 
   pub met-trans-on : (u : ℕ) → Unvisited st u → metFirst g true v x y u ≡ true → metFirst g true v y z u ≡ true → metFirst g true v x z u ≡ true
   met-trans-on u ou p q =
-      is-true (transitive-on true (runs g v x) (runs g v y) (runs g v z) (sp .long v x ox) (sp .long v y oy) (sp .long v z oz) (runs g v u) (sp .long v u ou) (true-is p) (true-is q))
+      is-true (transitive-on true (awayFrom g v x) (awayFrom g v y) (awayFrom g v z) (sp .long v x ox) (sp .long v y oy) (sp .long v z oz)
+      (awayFrom g v u) (sp .long v u ou) (true-is p) (true-is q))
 
   -- counterclockwise from z, y is met before x, just where clockwise from x, y is met before z
   pub met-mirror : metFirst g true v x y z ≡ true → metFirst g false v z y x ≡ true
-  met-mirror p = cyclic true (runs g v x) (runs g v z) (runs g v y) (sp .long v x ox) (sp .long v z oz) (sp .long v y oy) ∙ p
+  met-mirror p = cyclic true (awayFrom g v x) (awayFrom g v z) (awayFrom g v y) (sp .long v x ox) (sp .long v z oz) (sp .long v y oy) ∙ p
 
 -- ---- the order of ends
 pub record Met (g : Graph) (cw : Bool) (st : List ℕ) (x y z : End) : Type 0 where
@@ -80,7 +83,7 @@ module _ (g : Graph) (cw : Bool) (st : List ℕ) (sp : Spread g st)
   pub cyc : Cyc End (node g cw) (UnvisitedEnd st) (Met g cw st)
   cyc = record {
     irr = λ x y h. met-irr g true (node g cw x) (link x) (link y) (h .is);
-    irr′ = λ x y h. own-last true (runs g (node g cw x) (link x)) (runs g (node g cw x) (link y)) (true-is (h .is));
+    irr′ = λ x y h. own-last true (awayFrom g (node g cw x) (link x)) (awayFrom g (node g cw x) (link y)) (true-is (h .is));
     trans = λ x y z w h k. record {
       ox = h .ox;
       oy = h .oy;

@@ -66,7 +66,8 @@ eq-beq false false e = refl
 
 module _ (g : Graph) (st : List ℕ) (ok : Sound g st) where
   -- the next clockwise: it is there, whatever the sorts
-  next-there : (v x : ℕ) → At g st v x → (z : ℕ) × (firstMet (metFirst g true v x) (unvisitedIn st (g .entries v)) ≡ Link z) × (At g st v z × NoneBetween g st v x z)
+  next-there : (v x : ℕ) → At g st v x → (z : ℕ) × (firstMet (metFirst g true v x) (unvisitedIn st (g .entries v)) ≡ Link z)
+      × (At g st v z × NoneBetween g st v x z)
   next-there v x a =
       let l : List ℕ = g .entries v in
       let r = first-of (metFirst g true v x) (met-irr g true v x) (met-trans g true v x) x (unvisitedIn st l) (unvisited-in-in st l x (a .0) (a .1)) in
@@ -104,7 +105,8 @@ module _ (g : Graph) (st : List ℕ) (ok : Sound g st) where
   }
     where
       at-node : (v : ℕ) → Dec (m ≤ v) → some (λ v. not (turnsAt g st v)) m ≡ false → turnsAt g st v ≡ true
-      at-node v (yes h) t = subst (λ l. allOf (λ x. otherSort g v x (firstMet (metFirst g true v x) (unvisitedIn st l))) (unvisitedIn st l) ≡ true) (sym (empty v h)) refl
+      at-node v (yes h) t =
+          subst (λ l. allOf (λ x. otherSort g v x (firstMet (metFirst g true v x) (unvisitedIn st l))) (unvisitedIn st l) ≡ true) (sym (empty v h)) refl
       at-node v (no n) t = not-false (turnsAt g st v) (none-of (λ v. not (turnsAt g st v)) m t v (omega arith))
 
 -- ---- of what is lent
@@ -114,7 +116,8 @@ pub two-forms : (g : Lent) (top st : List ℕ) (r : Room) → checked g top st r
 two-forms g top st r e = let ok = sound g top st r e in record { to = next-turns (graphOf g top) st ok; from = comes-by-turns (graphOf g top) st ok }
 
 -- and the test passes exactly there
-pub comes-exactly : (g : Lent) (top st : List ℕ) (r : Room) → checked g top st r ≡ Fine → Iff (comesByTurns (graphOf g top) st (nodeCount g) ≡ true) (ComesByTurns (graphOf g top) st)
+pub comes-exactly : (g : Lent) (top st : List ℕ) (r : Room) → checked g top st r ≡ Fine → Iff (comesByTurns (graphOf g top) st (nodeCount g) ≡ true)
+    (ComesByTurns (graphOf g top) st)
 comes-exactly g top st r e =
     let h = fine g top st r e in
     decided (graphOf g top) st (sound-fine g top st r h) (nodeCount g) (h .lists .empty)

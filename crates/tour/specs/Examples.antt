@@ -1,4 +1,5 @@
--- The condition is met: two triangles that touch in a cross, one with a hole and an island in it. And it is sharp: two graphs that pass the checks, do not come by turns, and are refused.
+-- The condition is met: two triangles that touch in a cross, one with a hole and an island in it. And it is sharp: two
+-- graphs that pass the checks, do not come by turns, and are refused.
 use Prim.Native.Nat.{ℕ}
 use mathlib.Core.Path.{_≡_, refl}
 use mathlib.Core.Bool.{Bool, true, false, not}
@@ -30,7 +31,8 @@ fw k = record { link = k; forward = true }
 abbrev bw : ℕ → Step
 bw k = record { link = k; forward = false }
 
--- ---- triangle (0,0) (24,-12) (24,12) with the hole (8,0) (20,8) (20,-8) and in the hole the island (14,0) (18,-2) (18,2); triangle (-4,-2) (0,0) (-4,2) touches it
+-- ---- triangle (0,0) (24,-12) (24,12) with the hole (8,0) (20,8) (20,-8) and in the hole the island (14,0) (18,-2)
+-- (18,2); triangle (-4,-2) (0,0) (-4,2) touches it
 abbrev island : Lent
 island = lent
     (m 4 ∷ m 4 ∷ m 4 ∷ p 0 ∷ p 0 ∷ p 8 ∷ p 8 ∷ p 14 ∷ p 14 ∷ p 18 ∷ p 20 ∷ p 24 ∷ [])

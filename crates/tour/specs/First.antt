@@ -75,7 +75,8 @@ Paired g st = (v x y k : ℕ) → g .entries v ≡ x ∷ (y ∷ []) → Mem k (x
 abbrev pub NamesUnvisitedAt : List ℕ → Next → Type 0
 NamesUnvisitedAt st o = (s : ℕ) × (o ≡ Link s) × Unvisited st s
 
-first-in : (g : Graph) (st : List ℕ) (k : ℕ) (l : List ℕ) → ((x y : ℕ) → l ≡ x ∷ (y ∷ []) → Unvisited st x × Unvisited st y) → Unvisited st k → NamesUnvisitedAt st (firstAt g st k (nodeOf l))
+first-in : (g : Graph) (st : List ℕ) (k : ℕ) (l : List ℕ) → ((x y : ℕ) → l ≡ x ∷ (y ∷ []) → Unvisited st x × Unvisited st y) → Unvisited st k
+    → NamesUnvisitedAt st (firstAt g st k (nodeOf l))
 first-in g st k [] p o = (k, refl, o)
 first-in g st k (x ∷ []) p o = (topmost g st k k (x ∷ []), refl, topmost-unvisited g st k k (x ∷ []) o)
 first-in g st k (x ∷ (y ∷ [])) p o =

@@ -101,12 +101,14 @@ module _ (g : Graph) (ok : Listed g) (cw w : Bool) (st₀ : List ℕ) (len : len
 
       some-unvisited : (z : ℕ) × Mem z (g .entries (headN g cw e)) × Unvisited σ z
       some-unvisited =
-          let r = some-next dec arrives c sub-end (i .turns) (hd e) (tl s) (hd t) (inr refl) (inr refl) (inl (i .last d)) home refl refl (λ q. d (ap link q)) (i .adj) in
+          let r = some-next dec arrives c sub-end (i .turns) (hd e) (tl s) (hd t) (inr refl) (inr refl) (inl (i .last d)) home refl refl
+          (λ q. d (ap link q)) (i .adj) in
           let x = r .0 in
           let o : UnvisitedEnd σ x = during-unvisited x (r .1) (λ q. true≢false (sym (ap arrives q) ∙ r .3)) (r .4) in
           (link x, subst (λ v. Mem (link x) (g .entries v)) (r .2) (listed g ok cw x (small (link x) (i .sub (link x) o))), o)
 
-      module _ (f : ℕ) (of : Unvisited σ f) (first : (x : ℕ) → Mem x (g .entries (headN g cw e)) → Unvisited σ x → metFirst g w (headN g cw e) e x f ≡ true → ⊥) where
+      module _ (f : ℕ) (of : Unvisited σ f) (first : (x : ℕ) → Mem x (g .entries (headN g cw e)) → Unvisited σ x → metFirst g w (headN g cw e) e x f
+          ≡ true → ⊥) where
         first-end : (y : End) → link y ≡ f → (x : End) → During σ s e x → node g cw x ≡ headN g cw e → (x ≡ hd e → ⊥) → (x ≡ tl s → ⊥) → B (hd e) x y → ⊥
         first-end y q x dx nx n₁ n₂ h =
             let o : UnvisitedEnd σ x = during-unvisited x dx n₁ n₂ in
@@ -120,7 +122,9 @@ module _ (g : Graph) (ok : Listed g) (cw w : Bool) (st₀ : List ℕ) (len : len
           none-before dec arrives c sub-end (i .turns) (hd e) (tl s) (hd t) (inr refl) (inr refl) (inl (i .last d)) home refl refl (λ q. d (ap link q)) (i .adj)
               (tl f) (inl of) p (first-end (tl f) refl),
         )
-        going (inr p) = absurd (true≢false (next-sort dec arrives c sub-end (i .turns) (hd e) (tl s) (hd t) (inr refl) (inr refl) (inl (i .last d)) home refl refl (λ q. d (ap link q)) (i .adj)
+        going (inr p) =
+            absurd (true≢false (next-sort dec arrives c sub-end (i .turns) (hd e) (tl s) (hd t) (inr refl) (inr refl) (inl (i .last d)) home refl refl
+            (λ q. d (ap link q)) (i .adj)
             (hd f) (inl of) p (first-end (hd f) refl)))
 
         module _ (gf : Going f) where
@@ -131,7 +135,12 @@ module _ (g : Graph) (ok : Listed g) (cw w : Bool) (st₀ : List ℕ) (len : len
           Left x = During σ s e x × (x ≡ hd e → ⊥) × (x ≡ tl f → ⊥)
 
           to : (x : End) → Left x → During σ′ s f x
-          to (hd k) h = elim (ℕ-discrete k f) [ yes p ↦ inr p | no n ↦ inl (set-in σ f m k (during-unvisited (hd k) (h .0) (h .1) (λ q. true≢false (ap arrives q))) n) ]
+          to (hd k) h =
+              elim (ℕ-discrete k f) [
+                | yes p ↦ inr p
+                | no n ↦ inl
+                    (set-in σ f m k (during-unvisited (hd k) (h .0) (h .1) (λ q. true≢false (ap arrives q))) n)
+              ]
           to (tl k) h = ⊎-elim (λ o. inl (set-in σ f m k o (λ q. h .2 (ap tl q)))) (λ q. inr q) (h .0)
 
           from : (x : End) → During σ′ s f x → Left x
@@ -194,7 +203,8 @@ module _ (g : Graph) (ok : Listed g) (cw w : Bool) (st₀ : List ℕ) (len : len
       let l = leave g ok cw v f (small f (i .sub f of)) (gf .0) in
       let fewer : unvisited σ ≡ suc (unvisited (set σ f m)) = unvisited-set σ f m of m≢0 in
       subst (Out e) (onward fuel σ e f d (r .1) (l .1))
-      (one-more g cw B st₀ v (tailN g cw s) f (run fuel f (set σ f m)) (gf .0) (eqb (g .aNode f) v) (l .0) (ih (set σ f m) f (inv σ e i d f of (r .4) gf) (omega arith)))
+      (one-more g cw B st₀ v (tailN g cw s) f (run fuel f (set σ f m)) (gf .0) (eqb (g .aNode f) v) (l .0)
+      (ih (set σ f m) f (inv σ e i d f of (r .4) gf) (omega arith)))
 
   pub walk-ok : (fuel : ℕ) (σ : List ℕ) (e : ℕ) → Inv σ e → unvisited σ < fuel → Out e (run fuel e σ)
   walk-ok zero σ e i h = absurd (few h)

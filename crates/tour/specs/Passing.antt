@@ -1,22 +1,20 @@
 -- A graph that passes checks 1 to 7 has what the third demand uses.
 use Prim.Native.Nat.{ℕ, zero, suc, _<_}
 use native.Mathlib.Omega.{arith}
-use mathlib.Core.Path.{_≡_, refl, ap₂, _∙_, subst}
-use mathlib.Core.Bool.{Bool, true, false}
+use mathlib.Core.Path.{_≡_, refl, _∙_, subst}
+use mathlib.Core.Bool.{true, false}
 use mathlib.Core.List.{List, [], _∷_}
 use lib.ListN.{getD}
 use lib.Dec.{eqb}
 use borrow.Author.Tests.{eqb-true}
-use Rattle.laws.specs.Test.{Is, pick, pick-ind, is-true, true≢false}
-use Rattle.turn.specs.declared.Point.{Point}
+use Rattle.laws.specs.Test.{Is, pick-ind, is-true, true≢false}
 use Rattle.turn.specs.Points.{fromTo}
-use Rattle.turn.specs.Angle.{nonzero, sameDirection}
+use Rattle.turn.specs.Angle.{nonzero}
 use Rattle.turn.specs.PointOrder.{before-differ, differ-sym, nonzero-between}
 use Rattle.turn.specs.declared.Checked.the-variants.{Fine}
 use Rattle.graph.specs.Graph.{Lent, Graph, graphOf}
 use Rattle.graph.specs.Checks.{Room, checked}
-use Rattle.graph.specs.Fine.{FineGraph, wayFrom, fine}
-use Rattle.next.specs.Next.{runs}
+use Rattle.graph.specs.Fine.{FineGraph, fine}
 use Rattle.next.specs.States.{unvisited-below}
 use Rattle.walk.specs.States.{Unvisited}
 use Rattle.tour.specs.Sound.{Sound}
@@ -26,14 +24,6 @@ not-skipped : (st : List ℕ) (k : ℕ) → Unvisited st k → getD st k 0 ≡ 1
 not-skipped [] k o e = true≢false o refl
 not-skipped (x ∷ st) zero o e = omega (arith, eqb-true x 0 o)
 not-skipped (x ∷ st) (suc k) o e = not-skipped st k o e
-
--- how a link runs from a node, as check 7 and as rule 3 have it
-runs-way : (g : Graph) (v k : ℕ) → runs g v k ≡ wayFrom g v k
-runs-way g v k = by (eqb (g .aNode k) v) (g .a k) (g .b k)
-  where
-    by : (c : Bool) (a b : Point) → pick c (fromTo a b) (fromTo b a) ≡ fromTo (pick c a b) (pick c b a)
-    by true a b = refl
-    by false a b = refl
 
 pub sound-fine : (g : Lent) (top st : List ℕ) (r : Room) → FineGraph g top st r → Sound (graphOf g top) st
 sound-fine g top st r h =
@@ -49,7 +39,7 @@ sound-fine g top st r h =
             pick-ind (eqb (G .aNode k) v) (fromTo (G .a k) (G .b k)) (fromTo (G .b k) (G .a k)) (λ u. Is (nonzero u))
             (λ t. nonzero-between (G .a k) (G .b k) d) (λ n. nonzero-between (G .b k) (G .a k) (differ-sym (G .b k) (G .a k) ∙ d));
         apart = λ v x y ox oy mx my d s. true≢false (is-true s)
-            (ap₂ sameDirection (runs-way G v x) (runs-way G v y) ∙ h .band .spread v x y mx my d (not-skipped st x ox) (not-skipped st y oy));
+            (h .band .spread v x y mx my d (not-skipped st x ox) (not-skipped st y oy));
       };
     }
 

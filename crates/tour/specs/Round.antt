@@ -13,7 +13,8 @@ use Rattle.laws.specs.Test.{pick, pick-true, pick-ind, true≢false, true-is}
 use Rattle.turn.specs.Angular.{own-last}
 use Rattle.graph.specs.Graph.{Graph}
 use Rattle.laws.specs.Count.{count, counted-in}
-use Rattle.next.specs.Next.{isUnvisited, unvisitedIn, runs, metFirst}
+use Rattle.next.specs.Next.{isUnvisited, unvisitedIn, metFirst}
+use Rattle.graph.specs.Checks.{awayFrom}
 use Rattle.next.specs.Choice.{Mem, unvisited-in-in, unvisited-in-of}
 use Rattle.tour.specs.Statement.{leaves, InOrder, Clockwise, ByTurns, howMany, TurnsAt, ComesByTurns}
 use Rattle.tour.specs.Alternation.{no-not, dicho}
@@ -31,7 +32,8 @@ round-at P h p (y ∷ l) r x m = ⊎-elim (λ q. (y, subst (λ w. P w y) (sym q)
     (λ k. let f = round-at P h y l (r .1) x k in (f .0, f .1, ⊎-elim (λ i. inl (List·Memᴰ·tail i)) inr (f .2))) (List·Memᴰ·cases-cons m)
 
 -- one fact of all neighbours from another, and two at once
-round-map : (P Q : ℕ → ℕ → Type 0) (M : ℕ → Type 0) (h p : ℕ) (l : List ℕ) → M h → M p → ((x : ℕ) → Mem x l → M x) → ((x y : ℕ) → M x → M y → P x y → Q x y) → Round P h p l → Round Q h p l
+round-map : (P Q : ℕ → ℕ → Type 0) (M : ℕ → Type 0) (h p : ℕ) (l : List ℕ) → M h → M p → ((x : ℕ) → Mem x l → M x)
+    → ((x y : ℕ) → M x → M y → P x y → Q x y) → Round P h p l → Round Q h p l
 round-map P Q M h p [] mh mp ml f r = f p h mp mh r
 round-map P Q M h p (x ∷ l) mh mp ml f r =
     (f p x mp (ml x (List·Memᴰ·head refl)) (r .0), round-map P Q M h x l mh (ml x (List·Memᴰ·head refl)) (λ y m. ml y (List·Memᴰ·tail m)) f (r .1))
@@ -88,9 +90,11 @@ line-round h a [] t = ⊎-elim (λ e. inr (ap not e)) inl (dicho h a)
 line-round h a (b ∷ l) t = ⊎-elim (λ r. inl (t .0, r)) (λ r. inr (t .0, r)) (line-round h b l (t .1))
 
 as-many-round : (a : Bool) (l : List Bool) → ByTurns (a ∷ l) → howMany true (a ∷ l) ≡ howMany false (a ∷ l) → Round Other a a l
-as-many-round a l t e = ⊎-elim (λ r. r) (λ r. absurd (not-odd a (howMany true (a ∷ l)) (howMany false (a ∷ l)) e (both a (counts l .1 a r)))) (line-round a a l t)
+as-many-round a l t e =
+    ⊎-elim (λ r. r) (λ r. absurd (not-odd a (howMany true (a ∷ l)) (howMany false (a ∷ l)) e (both a (counts l .1 a r)))) (line-round a a l t)
   where
-    both : (a : Bool) → howMany a (a ∷ l) ≡ suc (howMany (not a) (a ∷ l)) → (howMany true (a ∷ l) ≡ suc (howMany false (a ∷ l))) ⊎ (howMany false (a ∷ l) ≡ suc (howMany true (a ∷ l)))
+    both : (a : Bool) → howMany a (a ∷ l) ≡ suc (howMany (not a) (a ∷ l)) → (howMany true (a ∷ l) ≡ suc (howMany false (a ∷ l))) ⊎
+        (howMany false (a ∷ l) ≡ suc (howMany true (a ∷ l)))
     both true e = inl e
     both false e = inr e
 
@@ -159,7 +163,7 @@ module _ (g : Graph) (st : List ℕ) (ok : Sound g st) (v : ℕ) where
   B x y z = metFirst g true v x y z ≡ true
 
   pub own : (x y : ℕ) → B x x y → ⊥
-  own x y h = own-last true (runs g v x) (runs g v y) (true-is h)
+  own x y h = own-last true (awayFrom g v x) (awayFrom g v y) (true-is h)
 
   asym : (x y z : ℕ) → B x y z → B x z y → ⊥
   asym x y z h k = met-irr g true v x y (met-trans g true v x y z y h k)
@@ -178,7 +182,9 @@ module _ (g : Graph) (st : List ℕ) (ok : Sound g st) (v : ℕ) where
       p≢q r = met-irr g true v e p (subst (λ y. B e p y) (sym r) epq)
 
       before : B e u p → ⊥
-      before eup = ⊎-elim (λ upq. own p q (onward p u p q mp mu mp mq puq upq)) (λ uqp. asym e p q epq (onward e u q p me mu mq mp eup uqp)) (order u p q mu mp mq p≢q)
+      before eup =
+          ⊎-elim (λ upq. own p q (onward p u p q mp mu mp mq puq upq)) (λ uqp. asym e p q epq (onward e u q p me mu mq mp eup uqp))
+          (order u p q mu mp mq p≢q)
 
       by : Dec (u ≡ p) → ⊥
       by (yes r) = own p q (subst (λ y. B p y q) r puq)
@@ -219,11 +225,14 @@ module _ (g : Graph) (st : List ℕ) (ok : Sound g st) (v : ℕ) where
   )
 
   -- the links of the node in clockwise order: between neighbours there is none
-  clockwise-gaps : (e : ℕ) (l : List ℕ) → ((u : ℕ) → M u → Mem u (e ∷ l)) → ((u : ℕ) → Mem u (e ∷ l) → M u) → Once (e ∷ l) → InOrder g v e l → Round (NoneBetween g st v) e e l
-  clockwise-gaps e [] into out one o = λ u mu h. ⊎-elim (λ q. met-irr g true v e e (subst (λ y. B e y e) q h)) (λ k. List·Memᴰ·not-nil k) (List·Memᴰ·cases-cons (into u mu))
+  clockwise-gaps : (e : ℕ) (l : List ℕ) → ((u : ℕ) → M u → Mem u (e ∷ l)) → ((u : ℕ) → Mem u (e ∷ l) → M u) → Once (e ∷ l) → InOrder g v e l
+      → Round (NoneBetween g st v) e e l
+  clockwise-gaps e [] into out one o =
+      λ u mu h. ⊎-elim (λ q. met-irr g true v e e (subst (λ y. B e y e) q h)) (λ k. List·Memᴰ·not-nil k) (List·Memᴰ·cases-cons (into u mu))
   clockwise-gaps e (x ∷ l) into out one o = (
     λ u mu h. ⊎-elim (λ q. own e x (subst (λ y. B e y x) q h))
-        (λ k. ⊎-elim (λ q. met-irr g true v e x (subst (λ y. B e y x) q h)) (λ i. asym e u x h (in-order-all e x l o u i)) (List·Memᴰ·cases-cons k)) (List·Memᴰ·cases-cons (into u mu)),
+        (λ k. ⊎-elim (λ q. met-irr g true v e x (subst (λ y. B e y x) q h)) (λ i. asym e u x h (in-order-all e x l o u i)) (List·Memᴰ·cases-cons k))
+        (List·Memᴰ·cases-cons (into u mu)),
     gaps e x l (out e (List·Memᴰ·head refl))
         (λ u i. (out u (List·Memᴰ·tail i), λ q. once-head e (x ∷ l) one (subst (λ y. Mem y (x ∷ l)) q i))) o
         (λ u mu. ⊎-elim (λ q. inr (inr q)) (λ k. ⊎-elim (λ q. inl (inl q)) (λ i. inr (inl i)) (List·Memᴰ·cases-cons k)) (List·Memᴰ·cases-cons (into u mu))),
@@ -269,8 +278,10 @@ module _ (g : Graph) (st : List ℕ) (ok : Sound g st) (v : ℕ) where
   next-in (e ∷ l) t c b n x m =
       let out = these-at (e ∷ l) t in
       let gap : Round (NoneBetween g st v) e e l = clockwise-gaps e l (at-these (e ∷ l) t) out (these-once (e ∷ l) t) c in
-      let sorts : Round (λ x y. Other (leaves g v x) (leaves g v y)) e e l = sorts-round (leaves g v) e e l (as-many-round (leaves g v e) (map (leaves g v) l) b n) in
-      let r = round-at (λ x y. NoneBetween g st v x y × Other (leaves g v x) (leaves g v y)) e e l (round-both (NoneBetween g st v) (λ x y. Other (leaves g v x) (leaves g v y)) e e l gap sorts) x m in
+      let sorts : Round (λ x y. Other (leaves g v x) (leaves g v y)) e e l = sorts-round (leaves g v) e e l
+      (as-many-round (leaves g v e) (map (leaves g v) l) b n) in
+      let r = round-at (λ x y. NoneBetween g st v x y × Other (leaves g v x) (leaves g v y)) e e l
+      (round-both (NoneBetween g st v) (λ x y. Other (leaves g v x) (leaves g v y)) e e l gap sorts) x m in
       (r .0, (out (r .0) (⊎-elim List·Memᴰ·tail List·Memᴰ·head (r .2)), r .1 .0), r .1 .1)
 
   pub next-turns-at : TurnsAt g st v → (x : ℕ) → M x → NextAt x
@@ -336,7 +347,8 @@ module _ (g : Graph) (st : List ℕ) (ok : Sound g st) (v : ℕ) where
       let out = these-at (e ∷ s) t in
       let gap : Round (NoneBetween g st v) e e s = clockwise-gaps e s (at-these (e ∷ s) t) out (these-once (e ∷ s) t) o in
       let sorts : Round Other (leaves g v e) (leaves g v e) (map (leaves g v) s) =
-      round-sorts (leaves g v) e e s (round-map (NoneBetween g st v) (λ x y. Other (leaves g v x) (leaves g v y)) M e e s me me (λ u m. out u (List·Memᴰ·tail m)) (λ x y mx my. same-next x y mx my (next x mx)) gap) in
+      round-sorts (leaves g v) e e s (round-map (NoneBetween g st v) (λ x y. Other (leaves g v x) (leaves g v y)) M e e s me me
+      (λ u m. out u (List·Memᴰ·tail m)) (λ x y mx my. same-next x y mx my (next x mx)) gap) in
       record {
         round = e ∷ s;
         these = t;

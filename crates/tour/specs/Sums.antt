@@ -38,7 +38,8 @@ module _ (w : ℕ → ℤ) where
 
   fresh-over : (m : ℕ) (st : List ℕ) (l : List Step) → Mark m → Fresh m st l → overUnvisited st ≡ along w l (overUnvisited (marked m l st))
   fresh-over m st [] n f = refl
-  fresh-over m st (s ∷ l) n f = over-set _+ℤ_ (pos 0) +ℤ-left w st (s .link) m (f .0) n ∙ ap (λ r. w (s .link) +ℤ r) (fresh-over m (set st (s .link) m) l n (f .1))
+  fresh-over m st (s ∷ l) n f =
+      over-set _+ℤ_ (pos 0) +ℤ-left w st (s .link) m (f .0) n ∙ ap (λ r. w (s .link) +ℤ r) (fresh-over m (set st (s .link) m) l n (f .1))
 
   walks-over : (st : List ℕ) (ws : List Walk) → AllFresh st ws → overUnvisited st ≡ allAlong w ws (overUnvisited (statesAfter ws st))
   walks-over st [] f = refl
@@ -87,10 +88,13 @@ module _ (g : Graph) (pt : OnePoint g) (cw : Bool) where
       ∙ ap (λ b. pick b (g .a (q .link)) (g .b (q .link))) (sym fq)
 
   weighs : (p : Step) → p .forward ≡ wayOf g cw (p .link) → wedge (left g p) (reached g p) ≡ adds g cw (p .link)
-  weighs p f = ap (λ b. wedge (left g (record { link = p .link; forward = b })) (reached g (record { link = p .link; forward = b }))) (f ∙ way-is (g .top (p .link)) cw)
+  weighs p f =
+      ap (λ b. wedge (left g (record { link = p .link; forward = b })) (reached g (record { link = p .link; forward = b })))
+      (f ∙ way-is (g .top (p .link)) cw)
 
   -- a line of links from p on, home to the beginning of the link h
-  line : (h p : Step) (l : List Step) → h .link < g .n → p .link < g .n → Within (g .n) l → h .forward ≡ wayOf g cw (h .link) → p .forward ≡ wayOf g cw (p .link)
+  line : (h p : Step) (l : List Step) → h .link < g .n → p .link < g .n → Within (g .n) l → h .forward ≡ wayOf g cw (h .link)
+      → p .forward ≡ wayOf g cw (p .link)
       → Chain g cw (headN g cw (p .link)) l (tailN g cw (h .link)) → areaTo (left g h) (map (left g) (p ∷ l)) ≡ along (adds g cw) (p ∷ l) (pos 0)
   line h p [] hh hp wl fh fp c = ap (wedge (left g p)) (sym (meets p h hp hh fp fh c)) ∙ weighs p fp ∙ sym (+ℤ-idr (adds g cw (p .link)))
   line h p (q ∷ l) hh hp wl fh fp c =

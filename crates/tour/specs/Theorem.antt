@@ -114,7 +114,8 @@ module _ (g : Graph) (st : List ℕ) (ok : Sound g st) (turns : NextTurns g st) 
       let r = turns v (link x) (mx, ox) in
       ⊎-elim (λ p. found r my (tl (r .0)) refl p) (λ p. found r my (hd (r .0)) refl p) (end-at g (ok .lists) cw v (r .0) (r .1 .0 .0))
     where
-      found : (r : (z : ℕ) × (At g st v z × NoneBetween g st v (link x) z) × (leaves g v z ≡ not (leaves g v (link x)))) → Mem (link y) (g .entries v) → (ζ : End) → link ζ ≡ r .0 → node g cw ζ ≡ v
+      found : (r : (z : ℕ) × (At g st v z × NoneBetween g st v (link x) z) × (leaves g v z ≡ not (leaves g v (link x)))) → Mem (link y) (g .entries v)
+          → (ζ : End) → link ζ ≡ r .0 → node g cw ζ ≡ v
           → (z : End) × UnvisitedEnd st z × (node g cw z ≡ v) × (arrives z ≡ not (arrives x)) × Met g cw st x z y
       found r my ζ lz nz =
           let oz : UnvisitedEnd st ζ = subst (Unvisited st) (sym lz) (r .1 .0 .1) in
@@ -125,7 +126,10 @@ module _ (g : Graph) (st : List ℕ) (ok : Sound g st) (turns : NextTurns g st) 
             nz,
             sz,
             ⊎-elim (λ h. h)
-                (λ h. absurd (r .1 .1 (link y) (my, oy) (subst (λ k. metFirst g true v (link x) (link y) k ≡ true) lz (subst (λ u. metFirst g true u (link x) (link y) (link ζ) ≡ true) nx (h .is)))))
+                (λ h. absurd
+                (r .1 .1 (link y) (my, oy)
+                (subst (λ k. metFirst g true v (link x) (link y) k ≡ true) lz
+                (subst (λ u. metFirst g true u (link x) (link y) (link ζ) ≡ true) nx (h .is)))))
                 (C .total v x ζ y ox oz oy nx nz ny (λ q. no-not (arrives x) (s ∙ ap arrives (sym q) ∙ sz))),
           )
 
@@ -142,5 +146,6 @@ module _ (g : Graph) (st : List ℕ) (ok : Sound g st) (turns : NextTurns g st) 
         once = λ k. times-of k (r .all) ∙ f .once k;
         fill = λ w m. let c = in-closed g cw (r .all) (r .closed) w m in chain-fill g cw (c .0) (c .0) (w .steps) (c .1);
         closed = λ w m. let c = in-closed g cw (r .all) (r .closed) w m in (c .0, chain-line g cw (c .0) (c .0) (w .steps) (c .1));
-        area = areas-total g (ok .points) cw st (r .all) (f .fresh) (λ k. ap (λ s. isUnvisited s k) (sym (f .states)) ∙ f .none k) (ok .states) (below g st ok) (r .closed);
+        area = areas-total g (ok .points) cw st (r .all) (f .fresh) (λ k. ap (λ s. isUnvisited s k) (sym (f .states)) ∙ f .none k) (ok .states)
+            (below g st ok) (r .closed);
       }

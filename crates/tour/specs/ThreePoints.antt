@@ -1,4 +1,5 @@
--- On a graph that passes the checks, by turns or not, every finished walk is closed and has three points or more: rule 6's "at least 3 points" decides nothing there.
+-- On a graph that passes the checks, by turns or not, every finished walk is closed and has three points or more: rule
+-- 6's "at least 3 points" decides nothing there.
 use Prim.Native.Nat.{ℕ, zero, suc, _≤_, _<_}
 use native.Mathlib.Omega.{arith}
 use mathlib.Core.Path.{_≡_, refl, sym, ap₂, _∙_, subst}
@@ -15,10 +16,10 @@ use Rattle.turn.specs.Angle.{sameDirection}
 use Rattle.turn.specs.Size.{half}
 use Rattle.turn.specs.declared.Checked.the-variants.{Fine}
 use Rattle.graph.specs.Graph.{Lent, Graph, graphOf}
-use Rattle.graph.specs.Checks.{Room, checked}
+use Rattle.graph.specs.Checks.{Room, checked, awayFrom}
 use Rattle.next.specs.declared.Next.{Next}
 use Rattle.next.specs.declared.Next.the-variants.{Link, Nothing}
-use Rattle.next.specs.Next.{runs, other, nextLink, firstLink, unvisited}
+use Rattle.next.specs.Next.{other, nextLink, firstLink, unvisited}
 use Rattle.next.specs.Choice.{Mem}
 use Rattle.walk.specs.Walk.{Step, Walk, Walked, stuck, done, consStep, onNext, stepFrom, walkOn, walkFrom, left, marked, markOf}
 use Rattle.scan.specs.Scan.{senseOf, walkOf, Scanned, stopped, walks, consWalk, afterWalk, scanAt, lowestUnvisited, scanOn, scan}
@@ -49,10 +50,12 @@ module _ (g : Graph) (ok : Listed g) where
   runs-cons v u s (done l after) e h = (e, h)
 
   module _ (w : Bool) (home last mark : ℕ) where
-    runs-next : (go : ℕ → ℕ → List ℕ → Walked) (v : ℕ) (st : List ℕ) → ((v e : ℕ) (st : List ℕ) → Runs v home (go v e st)) → (o : Next) → Among st (g .entries v) o
+    runs-next : (go : ℕ → ℕ → List ℕ → Walked) (v : ℕ) (st : List ℕ) → ((v e : ℕ) (st : List ℕ) → Runs v home (go v e st)) → (o : Next)
+        → Among st (g .entries v) o
         → Runs v home (onNext (λ f. consStep (stepFrom g v f) (go (other g v f) f (set st f mark))) o)
     runs-next go v st h Nothing a = tt
-    runs-next go v st h (Link f) a = runs-cons v home (stepFrom g v f) (go (other g v f) f (set st f mark)) (step-left v f (a .0)) (h (other g v f) f (set st f mark))
+    runs-next go v st h (Link f) a =
+        runs-cons v home (stepFrom g v f) (go (other g v f) f (set st f mark)) (step-left v f (a .0)) (h (other g v f) f (set st f mark))
 
     walk-runs : (fuel v e : ℕ) (st : List ℕ) → Runs v home (walkOn fuel g w home last mark v e st)
     unfolding walkOn
@@ -84,9 +87,14 @@ module _ (g : Graph) (ok : Listed g) where
       ahead : ℕ
       ahead = pick forward (g .bNode s) (g .aNode s)
 
-      by : (o : Next) → Rounds (onNext (λ last. consStep (record { link = s; forward = forward }) (walkOn (suc (unvisited (set st s mark))) g sense home last mark ahead s (set st s mark))) o)
+      by : (o : Next)
+          → Rounds (onNext
+          (λ last. consStep (record { link = s; forward = forward })
+          (walkOn (suc (unvisited (set st s mark))) g sense home last mark ahead s (set st s mark))) o)
       by Nothing = tt
-      by (Link last) = rounds-cons home (record { link = s; forward = forward }) (walkOn (suc (unvisited (set st s mark))) g sense home last mark ahead s (set st s mark)) refl
+      by (Link last) =
+          rounds-cons home (record { link = s; forward = forward })
+          (walkOn (suc (unvisited (set st s mark))) g sense home last mark ahead s (set st s mark)) refl
           (walk-runs sense home last mark (suc (unvisited (set st s mark))) ahead s (set st s mark))
 
   module _ (cw : Bool) where
@@ -98,7 +106,8 @@ module _ (g : Graph) (ok : Listed g) where
     all-cons w (stopped number place) r h = tt
     all-cons w (walks ws after) r h = λ x m. ⊎-elim (λ (e : x ≡ w). subst (λ y. Round (y .steps)) (sym e) r) (λ k. h x k) (List·Memᴰ·cases-cons m)
 
-    after-walk : (go : List ℕ → Scanned) (k : ℕ) (hole : Bool) (o : Walked) → Rounds o → ((after : List ℕ) → AllRounds (go after)) → AllRounds (afterWalk k hole go o)
+    after-walk : (go : List ℕ → Scanned) (k : ℕ) (hole : Bool) (o : Walked) → Rounds o → ((after : List ℕ) → AllRounds (go after))
+        → AllRounds (afterWalk k hole go o)
     after-walk go k hole (stuck number) r h = tt
     after-walk go k hole (done l after) r h = all-cons (record { hole = hole; steps = l }) (go after) r (h after)
 
@@ -125,23 +134,23 @@ module _ (g : Graph) (st : List ℕ) (ok : Sound g st) where
   differ s o = ok .lists .differ (s .link) (below g st ok (s .link) o)
 
   -- how a link runs from the node that a step along it leaves, and from the one that it reaches
-  runs-left : (h : ℕ) (s : Step) → Known s → nodeLeft g s ≡ h → runs g h (s .link) ≡ fromTo (left g s) (reached g s)
-  runs-left h s o = by (s .forward)
+  away-left : (h : ℕ) (s : Step) → Known s → nodeLeft g s ≡ h → awayFrom g h (s .link) ≡ fromTo (left g s) (reached g s)
+  away-left h s o = by (s .forward)
     where
       k : ℕ
       k = s .link
 
-      by : (b : Bool) → pick b (g .aNode k) (g .bNode k) ≡ h → runs g h k ≡ fromTo (pick b (g .a k) (g .b k)) (pick b (g .b k) (g .a k))
+      by : (b : Bool) → pick b (g .aNode k) (g .bNode k) ≡ h → awayFrom g h k ≡ fromTo (pick b (g .a k) (g .b k)) (pick b (g .b k) (g .a k))
       by true e = pick-true (fromTo (g .a k) (g .b k)) (fromTo (g .b k) (g .a k)) (eq-eqb (g .aNode k) h e)
       by false e = pick-false (fromTo (g .a k) (g .b k)) (fromTo (g .b k) (g .a k)) (ne-eqb (g .aNode k) h (λ q. differ s o (q ∙ sym e)))
 
-  runs-reached : (h : ℕ) (s : Step) → Known s → nodeReached g s ≡ h → runs g h (s .link) ≡ fromTo (reached g s) (left g s)
-  runs-reached h s o = by (s .forward)
+  away-reached : (h : ℕ) (s : Step) → Known s → nodeReached g s ≡ h → awayFrom g h (s .link) ≡ fromTo (reached g s) (left g s)
+  away-reached h s o = by (s .forward)
     where
       k : ℕ
       k = s .link
 
-      by : (b : Bool) → pick b (g .bNode k) (g .aNode k) ≡ h → runs g h k ≡ fromTo (pick b (g .b k) (g .a k)) (pick b (g .a k) (g .b k))
+      by : (b : Bool) → pick b (g .bNode k) (g .aNode k) ≡ h → awayFrom g h k ≡ fromTo (pick b (g .b k) (g .a k)) (pick b (g .a k) (g .b k))
       by true e = pick-false (fromTo (g .a k) (g .b k)) (fromTo (g .b k) (g .a k)) (ne-eqb (g .aNode k) h (λ q. differ s o (q ∙ sym e)))
       by false e = pick-true (fromTo (g .a k) (g .b k)) (fromTo (g .b k) (g .a k)) (eq-eqb (g .aNode k) h e)
 
@@ -173,11 +182,12 @@ module _ (g : Graph) (st : List ℕ) (ok : Sound g st) where
       let bt = below g st ok (t .link) ot in
       let there : reached g s ≡ left g t = meet g (ok .points) true (s .forward) (t .forward) (s .link) (t .link) bs bt (sym (l .1 .0)) in
       let home : reached g t ≡ left g s = meet g (ok .points) true (t .forward) (s .forward) (t .link) (s .link) bt bs (l .1 .1 ∙ sym (l .0)) in
-      let one : runs g h (s .link) ≡ runs g h (t .link) = runs-left h s os (l .0) ∙ ap₂ fromTo (sym home) there ∙ sym (runs-reached h t ot (l .1 .1)) in
+      let one : awayFrom g h (s .link) ≡ awayFrom g h (t .link) = away-left h s os (l .0) ∙ ap₂ fromTo (sym home) there ∙ sym (away-reached h t ot (l .1 .1)) in
       ok .spread .apart h (s .link) (t .link) os ot (at-node h s os (inl (l .0))) (at-node h t ot (inr (l .1 .1))) (λ q. d (sym q))
-      (subst (λ u. Is (sameDirection (runs g h (s .link)) u)) one (same-refl (runs g h (s .link)) (ok .spread .long h (s .link) os)))
+      (subst (λ u. Is (sameDirection (awayFrom g h (s .link)) u)) one (same-refl (awayFrom g h (s .link)) (ok .spread .long h (s .link) os)))
 
-  three-steps : (m : ℕ) (now : List ℕ) (l : List Step) → Mark m → Fresh m now l → ((k : ℕ) → Unvisited now k → Unvisited st k) → ((v : ℕ) × Line g v l v) → 0 < length l → 3 ≤ length l
+  three-steps : (m : ℕ) (now : List ℕ) (l : List Step) → Mark m → Fresh m now l → ((k : ℕ) → Unvisited now k → Unvisited st k)
+      → ((v : ℕ) × Line g v l v) → 0 < length l → 3 ≤ length l
   three-steps m now [] n f sub c z = absurd (none z)
     where
       none : 0 < 0 → ⊥
@@ -200,7 +210,8 @@ module _ (g : Graph) (st : List ℕ) (ok : Sound g st) where
       let m : ℕ = markOf (x .hole) in
       ⊎-elim
       (λ (e : w ≡ x). let r = c w i in three-steps m now (w .steps) (mark-of (x .hole)) (subst (λ y. Fresh m now (y .steps)) (sym e) (f .0)) sub (r .0) (r .1))
-      (λ k. all-three (marked m (x .steps) now) ws (f .1) (λ j o. sub j (unvisited-before m now (x .steps) (mark-of (x .hole)) (f .0) j o)) (λ y q. c y (List·Memᴰ·tail q)) w k)
+      (λ k. all-three (marked m (x .steps) now) ws (f .1) (λ j o. sub j (unvisited-before m now (x .steps) (mark-of (x .hole)) (f .0) j o))
+      (λ y q. c y (List·Memᴰ·tail q)) w k)
       (List·Memᴰ·cases-cons i)
 
 -- ---- of what is lent: closed, and with three points or more
@@ -208,7 +219,8 @@ pub record Finished (g : Graph) (w : Walk) : Type 0 where
   pub closed : Closed g w
   pub three : 3 ≤ length (w .steps)
 
-pub finished : (g : Lent) (top st : List ℕ) (r : Room) (cw : Bool) → checked g top st r ≡ Fine → (ws : List Walk) (after : List ℕ) → scan (graphOf g top) cw st ≡ walks ws after
+pub finished : (g : Lent) (top st : List ℕ) (r : Room) (cw : Bool) → checked g top st r ≡ Fine → (ws : List Walk) (after : List ℕ)
+    → scan (graphOf g top) cw st ≡ walks ws after
     → (w : Walk) → List·Memᴰ w ws → Finished (graphOf g top) w
 finished g top st r cw e ws after s w m =
     let G : Graph = graphOf g top in

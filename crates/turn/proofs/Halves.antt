@@ -1,11 +1,11 @@
--- What the code's tests tell of the halves of a turn: the sense of a product, and the half of a vector.
+-- What the code's tests tell of the halves of a turn: the sense of a product, and the halfTurn of a vector.
 use mathlib.Core.Path.{_≡_, refl, sym, ap, _∙_}
 use mathlib.Core.Bool.{Bool, true, false, not, _&&_, _||_}
 use lib.IntN.{ℤ, pos}
 use lib.Signed.{ltZ}
 use Rattle.laws.specs.Test.{pick, true≢false}
 use Rattle.laws.specs.Sign.{Sgn, mns, zer, pls, sgn, is-mns, eqS, ltZ-sgn, gtZ-sgn}
-use Rattle.turn.specs.Angle.{half, turned}
+use Rattle.turn.specs.Angle.{halfTurn, turned}
 use Rattle.turn.specs.Rank.{rank}
 
 -- ---- the sense
@@ -24,8 +24,8 @@ sense-is w z = rw (ltZ-sgn z, gtZ-sgn z) (sense-at w (sgn z))
 pub told : (w : Bool) (z p : ℤ) (b t : Bool) → z ≡ p → b ≡ is-mns (turned w (sgn z)) → b ≡ t → is-mns (turned w (sgn p)) ≡ t
 told w z p b t e h k = ap (λ z. is-mns (turned w (sgn z))) (sym e) ∙ sym h ∙ k
 
--- ---- the half: of a sign s in the sense w, and a dot product d
-pub in-early : (w : Bool) (s d : Sgn) → is-mns (turned w s) ≡ true → rank (half (turned w s) d) ≡ 0
+-- ---- the halfTurn: of a sign s in the sense w, and a dot product d
+pub in-early : (w : Bool) (s d : Sgn) → is-mns (turned w s) ≡ true → rank (halfTurn (turned w s) d) ≡ 0
 in-early true mns d e = refl
 in-early true zer d e = absurd (true≢false e refl)
 in-early true pls d e = absurd (true≢false e refl)
@@ -33,7 +33,7 @@ in-early false mns d e = absurd (true≢false e refl)
 in-early false zer d e = absurd (true≢false e refl)
 in-early false pls d e = refl
 
-pub in-late : (w : Bool) (s d : Sgn) → is-mns (turned (not w) s) ≡ true → rank (half (turned w s) d) ≡ 2
+pub in-late : (w : Bool) (s d : Sgn) → is-mns (turned (not w) s) ≡ true → rank (halfTurn (turned w s) d) ≡ 2
 in-late true mns d e = absurd (true≢false e refl)
 in-late true zer d e = absurd (true≢false e refl)
 in-late true pls d e = refl
@@ -50,11 +50,11 @@ flat false mns p q = absurd (true≢false refl q)
 flat false zer p q = refl
 flat false pls p q = absurd (true≢false refl p)
 
-by-dot : (d : Sgn) → rank (half zer d) ≡ pick (is-mns d) 1 3
+by-dot : (d : Sgn) → rank (halfTurn zer d) ≡ pick (is-mns d) 1 3
 by-dot mns = refl
 by-dot zer = refl
 by-dot pls = refl
 
 pub in-flat : (w : Bool) (s : Sgn) (z : ℤ) → is-mns (turned w s) ≡ false → is-mns (turned (not w) s) ≡ false
-    → rank (half (turned w s) (sgn z)) ≡ pick (ltZ z (pos 0)) 1 3
+    → rank (halfTurn (turned w s) (sgn z)) ≡ pick (ltZ z (pos 0)) 1 3
 in-flat w s z p q = rw (flat w s p q, ltZ-sgn z) (by-dot (sgn z))

@@ -33,7 +33,8 @@ abbrev pub readAt : List ℤ → ℕ → Point
 readAt l i = record { x = toZ w32 (ofZ w32 (getD l i (pos 0))); y = toZ w32 (ofZ w32 (getD l (i + 1) (pos 0))) }
 
 pub read-is : (l : List ℤ) (i : ℕ) → Grid l → i + 1 < length l → readAt l i ≡ pointAt l i
-read-is l i g h = λ k. record { x = same32 (getD l i (pos 0)) (omega (arith, g i (omega arith))) k; y = same32 (getD l (i + 1) (pos 0)) (omega (arith, g (i + 1) h)) k }
+read-is l i g h =
+    λ k. record { x = same32 (getD l i (pos 0)) (omega (arith, g i (omega arith))) k; y = same32 (getD l (i + 1) (pos 0)) (omega (arith, g (i + 1) h)) k }
 
 pub read-on : (l : List ℤ) (i : ℕ) → Grid l → i + 1 < length l → OnGrid (readAt l i)
 read-on l i g h = subst OnGrid (sym (read-is l i g h)) (on-grid l i g h)

@@ -4,19 +4,19 @@ use Rattle.laws.specs.Sign.{Sgn, mns, zer, pls, sgn, flip, is-mns, eqS}
 use Rattle.turn.specs.declared.Vector.{Vector}
 use Rattle.turn.specs.Points.{cross, dot}
 
--- where a direction lies, turning from e: in the first half turn, opposite, in the second half turn, or a full turn away (e's own direction)
+-- where a direction lies, turning from e: in the first halfTurn turn, opposite, in the second halfTurn turn, or a full turn away (e's own direction)
 pub data Half : Type 0 where
   early back late full : Half
 
 -- by the signs of the cross and the dot product with e, turning clockwise
-abbrev pub half : Sgn → Sgn → Half
-half mns d = early
-half zer mns = back
-half zer zer = full
-half zer pls = full
-half pls d = late
+abbrev pub halfTurn : Sgn → Sgn → Half
+halfTurn mns d = early
+halfTurn zer mns = back
+halfTurn zer zer = full
+halfTurn zer pls = full
+halfTurn pls d = late
 
--- by two halves, and within one half turn by the sign of the cross product of the two
+-- by two halves, and within one halfTurn turn by the sign of the cross product of the two
 abbrev pub sooner : Half → Half → Sgn → Bool
 sooner early early s = is-mns s
 sooner early back s = true
@@ -39,7 +39,7 @@ turned false s = flip s
 
 -- where f lies, turning from e
 abbrev pub halfOf : Bool → Vector → Vector → Half
-halfOf w e f = half (turned w (sgn (cross e f))) (sgn (dot e f))
+halfOf w e f = halfTurn (turned w (sgn (cross e f))) (sgn (dot e f))
 
 -- rule 3: turning from e, clockwise where w is true and else counterclockwise, f is met strictly before g
 abbrev pub metBefore : Bool → Vector → Vector → Vector → Bool

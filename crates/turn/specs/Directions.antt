@@ -1,4 +1,5 @@
--- Vectors by the signs of their cross and dot products. Every law of them is a few polynomial identities (`ring`), read as relations of signs (`three`), and a finite check of signs (`law`).
+-- Vectors by the signs of their cross and dot products. Every law of them is a few polynomial identities (`ring`), read
+-- as relations of signs (`three`), and a finite check of signs (`law`).
 use mathlib.Core.Path.{_≡_, refl, ap, _∙_, subst}
 use mathlib.Core.List.{List, [], _∷_}
 use mathlib.Core.Bool.{Bool, true, false, not, _&&_}
@@ -95,7 +96,9 @@ square-not-below v = mp (all3 (λ a b c. plusOk (a ⊗ a) (b ⊗ b) c ⇒ not (i
 
 pub square : (v : Vector) → Is (nonzero v) → sgn (dot v v) ≡ pls
 square v h =
-    eqS-eq (mp (mp (all3 (λ a b c. not (eqS a zer && eqS b zer) ⇒ plusOk (a ⊗ a) (b ⊗ b) c ⇒ eqS c pls) tt (sgn (v .x)) (sgn (v .y)) (sgn (dot v v))) h) (square-of v))
+    eqS-eq (mp
+    (mp (all3 (λ a b c. not (eqS a zer && eqS b zer) ⇒ plusOk (a ⊗ a) (b ⊗ b) c ⇒ eqS c pls) tt (sgn (v .x)) (sgn (v .y)) (sgn (dot v v))) h)
+    (square-of v))
 
 -- ---- three vectors
 -- what their six signs obey: a, b, c the sides of e f, e g, f g, and d, i, j the dot products of the same pairs
@@ -150,7 +153,8 @@ module _ (w : Bool) (e f g : Vector) (he : Is (nonzero e)) (hf : Is (nonzero f))
       (sgn (cross e f)) (sgn (cross e g)) (sgn (cross f g)) (sgn (dot e f)) (sgn (dot e g)) (sgn (dot f g))) six-clockwise
 
   -- a law of the six signs holds of three vectors that are not 0, in either sense
-  pub law : (p : Sgn → Sgn → Sgn → Sgn → Sgn → Sgn → Bool) → T (all (λ a. all (λ b. all (λ c. all (λ d. all (λ i. all (λ j. ok a b c d i j ⇒ p a b c d i j)))))))
+  pub law : (p : Sgn → Sgn → Sgn → Sgn → Sgn → Sgn → Bool)
+      → T (all (λ a. all (λ b. all (λ c. all (λ d. all (λ i. all (λ j. ok a b c d i j ⇒ p a b c d i j)))))))
       → Is (p (side w e f) (side w e g) (side w f g) (sgn (dot e f)) (sgn (dot e g)) (sgn (dot f g)))
   law p t = mp (all6 (λ a b c d i j. ok a b c d i j ⇒ p a b c d i j) t
       (side w e f) (side w e g) (side w f g) (sgn (dot e f)) (sgn (dot e g)) (sgn (dot f g))) (six w)
@@ -161,9 +165,11 @@ pluecker w e f g k = go w (sgn (cross e f)) (sgn (cross g k)) (sgn (cross e k)) 
     (three (cross e g) (cross f k) (cross e f) (cross g k) (cross e k) (cross f g)
     (ring (at e f g k) (crossE E G :* crossE F K) (crossE E F :* crossE G K :+ crossE E K :* crossE F G) tt))
   where
-    go : (w : Bool) (a b c d i j : Sgn) → Is (plusOk (a ⊗ b) (c ⊗ d) (i ⊗ j)) → Is (plusOk (turned w a ⊗ turned w b) (turned w c ⊗ turned w d) (turned w i ⊗ turned w j))
+    go : (w : Bool) (a b c d i j : Sgn) → Is (plusOk (a ⊗ b) (c ⊗ d) (i ⊗ j))
+        → Is (plusOk (turned w a ⊗ turned w b) (turned w c ⊗ turned w d) (turned w i ⊗ turned w j))
     go true a b c d i j h = h
-    go false a b c d i j h = mp (all6 (λ a b c d i j. plusOk (a ⊗ b) (c ⊗ d) (i ⊗ j) ⇒ plusOk (flip a ⊗ flip b) (flip c ⊗ flip d) (flip i ⊗ flip j)) tt a b c d i j) h
+    go false a b c d i j h =
+        mp (all6 (λ a b c d i j. plusOk (a ⊗ b) (c ⊗ d) (i ⊗ j) ⇒ plusOk (flip a ⊗ flip b) (flip c ⊗ flip d) (flip i ⊗ flip j)) tt a b c d i j) h
 
 -- ---- one direction is an equivalence
 pub same-refl : (f : Vector) → Is (nonzero f) → Is (sameDirection f f)
@@ -178,4 +184,5 @@ same-sym f g h = rw (side-anti true f g, dot-comm g f) (flipped (sgn (cross f g)
     flipped pls d t = t
 
 pub same-trans : (e f g : Vector) → Is (nonzero e) → Is (nonzero f) → Is (nonzero g) → Is (sameDirection e f) → Is (sameDirection f g) → Is (sameDirection e g)
-same-trans e f g he hf hg p q = mp (mp (law true e f g he hf hg (λ a b c d i j. eqS a zer && eqS d pls ⇒ eqS c zer && eqS j pls ⇒ eqS b zer && eqS i pls) tt) p) q
+same-trans e f g he hf hg p q =
+    mp (mp (law true e f g he hf hg (λ a b c d i j. eqS a zer && eqS d pls ⇒ eqS c zer && eqS j pls ⇒ eqS b zer && eqS i pls) tt) p) q

@@ -31,7 +31,9 @@ first-step w e x r l false k h = (
   r,
   record {
     listed = List·Memᴰ·tail (h .listed);
-    none-before = λ g m p. ⊎-elim (λ (q : g ≡ x). true≢false (is-true (subst (λ v. Is (metBefore w e v r)) q p)) k) (λ n. h .none-before g n p) (List·Memᴰ·cases-cons m);
+    none-before =
+        λ g m p. ⊎-elim (λ (q : g ≡ x). true≢false (is-true (subst (λ v. Is (metBefore w e v r)) q p)) k) (λ n. h .none-before g n p)
+        (List·Memᴰ·cases-cons m);
   },
 )
 
@@ -51,7 +53,8 @@ first-back w e f l he hl h =
     heads (not w) f e l (λ g n p. h .none-before g n (subst Is (cyclic w e f g he (hl f (h .listed)) (hl g n)) p))
 
 -- so the next in a list is injective on directions
-pub first-injective : (w : Bool) (e e′ f : Vector) (l : List Vector) → AllNonzero l → List·Memᴰ e l → List·Memᴰ e′ l → First w e f l → First w e′ f l → Is (sameDirection e e′)
+pub first-injective : (w : Bool) (e e′ f : Vector) (l : List Vector) → AllNonzero l → List·Memᴰ e l → List·Memᴰ e′ l → First w e f l → First w e′ f l
+    → Is (sameDirection e e′)
 first-injective w e e′ f l hl m m′ p q =
     ⊎-elim (λ h. absurd (first-back w e′ f l (hl e′ m′) hl q .none-before e (List·Memᴰ·tail m) h))
     (⊎-elim (λ h. h) (λ h. absurd (first-back w e f l (hl e m) hl p .none-before e′ (List·Memᴰ·tail m′) h)))

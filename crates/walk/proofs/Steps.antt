@@ -37,7 +37,8 @@ module _ (g : Lent) (sense : Bool) (mark : ℕ) (st : List ℕ) (pts : List ℤ)
   pub step-nowhere : Nothing ≡ nextLink (plain g) sense st (w .node) (w .link) → stepOut Nowhere st pts ≡ stepOf (plain g) sense mark st pts w
   step-nowhere e = rw (← e)
 
-pub end-there : (g : Lent) (n k : ℕ) (b : Bool) → Shape g n → k < n → (pick b (getD (g .aId) k 0) (getD (g .bId) k 0) + 1 < length (g .start)) × (pick b (getD (g .bId) k 0) (getD (g .aId) k 0) + 1 < length (g .start))
+pub end-there : (g : Lent) (n k : ℕ) (b : Bool) → Shape g n → k < n → (pick b (getD (g .aId) k 0) (getD (g .bId) k 0) + 1 < length (g .start))
+    × (pick b (getD (g .bId) k 0) (getD (g .aId) k 0) + 1 < length (g .start))
 end-there g n k true s h = (s .nodes .a-node k h, s .b-node k h)
 end-there g n k false s h = (s .b-node k h, s .nodes .a-node k h)
 
@@ -59,7 +60,8 @@ module _ (g : Graph) (sense : Bool) (home last mark : ℕ) (st : List ℕ) (pts 
   Rest s v = walkOn (suc (unvisited s)) g sense home last mark (v .node) (v .link) s
 
   on-step : (fuel : ℕ) → (w .link ≡ last → ⊥) → walkOn (suc fuel) g sense home last mark (w .node) (w .link) st
-      ≡ onNext (λ f. consStep (stepFrom g (w .node) f) (walkOn fuel g sense home last mark (other g (w .node) f) f (set st f mark))) (nextLink g sense st (w .node) (w .link))
+      ≡ onNext (λ f. consStep (stepFrom g (w .node) f) (walkOn fuel g sense home last mark (other g (w .node) f) f (set st f mark)))
+      (nextLink g sense st (w .node) (w .link))
   unfolding walkOn
   on-step fuel away = rw (ne-eqb _ _ away)
 
@@ -76,18 +78,21 @@ module _ (g : Graph) (sense : Bool) (home last mark : ℕ) (st : List ℕ) (pts 
     ends-away e h q = rw (eq-eqb _ _ e, ne-eqb _ _ h) q
 
     module _ (away : w .link ≡ last → ⊥) (st′ : List ℕ) (pts′ : List ℤ) where
-      by-nowhere : (go : ℕ → Walked) (n : Next) → stepOut Nowhere st′ pts′ ≡ stepBy g mark st pts w n → r ≡ ended.Stuck 8 → WalkLeaves g pts (w .written) (onNext go n) r s p
+      by-nowhere : (go : ℕ → Walked) (n : Next) → stepOut Nowhere st′ pts′ ≡ stepBy g mark st pts w n → r ≡ ended.Stuck 8
+          → WalkLeaves g pts (w .written) (onNext go n) r s p
       by-nowhere go Nothing e q = q
       by-nowhere go (Link f) e q = let z : Nowhere ≡ _ = ap (λ (o : StepOut). o .result) e in absurd (true≢false (cc))
 
       pub ends-nowhere : stepOut Nowhere st′ pts′ ≡ stepOf g sense mark st pts w → r ≡ ended.Stuck 8 → WalkLeaves g pts (w .written) (Rest st w) r s p
       ends-nowhere e q =
           rw (on-step (unvisited st) away)
-          (by-nowhere (λ f. consStep (stepFrom g (w .node) f) (walkOn (unvisited st) g sense home last mark (other g (w .node) f) f (set st f mark))) (nextLink g sense st (w .node) (w .link)) e q)
+          (by-nowhere (λ f. consStep (stepFrom g (w .node) f) (walkOn (unvisited st) g sense home last mark (other g (w .node) f) f (set st f mark)))
+          (nextLink g sense st (w .node) (w .link)) e q)
 
       by-went : (fuel : ℕ) (v : Walker) (n : Next) → stepOut (Went v) st′ pts′ ≡ stepBy g mark st pts w n
           → WalkLeaves g pts′ (v .written) (walkOn fuel g sense home last mark (v .node) (v .link) st′) r s p
-          → WalkLeaves g pts (w .written) (onNext (λ f. consStep (stepFrom g (w .node) f) (walkOn fuel g sense home last mark (other g (w .node) f) f (set st f mark))) n) r s p
+          → WalkLeaves g pts (w .written)
+          (onNext (λ f. consStep (stepFrom g (w .node) f) (walkOn fuel g sense home last mark (other g (w .node) f) f (set st f mark))) n) r s p
       by-went fuel v Nothing e h = let z : Went v ≡ _ = ap (λ (o : StepOut). o .result) e in absurd (true≢false (cc))
       by-went fuel v (Link f) e h =
           let z : Went v ≡ Went (record { link = f; node = other g (w .node) f; written = w .written + 1 }) = ap (λ (o : StepOut). o .result) e in
@@ -102,7 +107,8 @@ module _ (g : Graph) (sense : Bool) (home last mark : ℕ) (st : List ℕ) (pts 
       goes-on v e u h = rw (on-step (unvisited st) away, u) (by-went (suc (unvisited st′)) v (nextLink g sense st (w .node) (w .link)) e h)
 
 -- what the loop of `walk_on` keeps: what the walk leaves from here it leaves from the loop's start
-pub record Walking (g : Graph) (sense : Bool) (home last mark nodes : ℕ) (st₀ : List ℕ) (pts₀ : List ℤ) (w₀ : Walker) (st : List ℕ) (pts : List ℤ) (w : Walker) : Type 0 where
+pub record Walking (g : Graph) (sense : Bool) (home last mark nodes : ℕ) (st₀ : List ℕ) (pts₀ : List ℤ) (w₀ : Walker) (st : List ℕ) (pts : List ℤ)
+    (w : Walker) : Type 0 where
   pub goes : (r : Ended) (s : List ℕ) (p : List ℤ)
       → WalkLeaves g pts (w .written) (walkOn (suc (unvisited st)) g sense home last mark (w .node) (w .link) st) r s p
       → WalkLeaves g pts₀ (w₀ .written) (walkOn (suc (unvisited st₀)) g sense home last mark (w₀ .node) (w₀ .link) st₀) r s p
@@ -136,7 +142,8 @@ walking-less nodes links at st st′ s v q ok = let h : Goes nodes links at st s
 -- ---- a whole walk, from its first link
 module _ (g : Graph) (forward sense : Bool) (mark : ℕ) (st : List ℕ) (s : ℕ) (pts : List ℤ) (at home : ℕ) (r : Ended) (st′ : List ℕ) (pts′ : List ℤ)
     (h : home ≡ pick forward (g .aNode s) (g .bNode s)) where
-  pub starts-nowhere : Nothing ≡ nextLink g (not sense) (set st s mark) home s → r ≡ ended.Stuck 8 → WalkLeaves g pts at (walkFrom g forward sense mark st s) r st′ pts′
+  pub starts-nowhere : Nothing ≡ nextLink g (not sense) (set st s mark) home s → r ≡ ended.Stuck 8
+      → WalkLeaves g pts at (walkFrom g forward sense mark st s) r st′ pts′
   unfolding walkFrom
   starts-nowhere e q = rw (← h, ← e) q
 
@@ -147,8 +154,10 @@ module _ (g : Graph) (forward sense : Bool) (mark : ℕ) (st : List ℕ) (s : �
   unfolding walkFrom
   starts-on ahead last p q e a b i w =
       rw (← h, ← e, ← a)
-      (leaves-cons g pts at r st′ pts′ (record { link = s; forward = forward }) (walkOn (suc (unvisited (set st s mark))) g sense home last mark ahead s (set st s mark)) (rw (i, b) at w))
+      (leaves-cons g pts at r st′ pts′ (record { link = s; forward = forward })
+      (walkOn (suc (unvisited (set st s mark))) g sense home last mark ahead s (set st s mark)) (rw (i, b) at w))
 
-pub counted-on : (at : ℕ) (st st′ st″ : List ℕ) (r : Ended) → unvisited st ≡ suc (unvisited st′) → Counted (at + 1) (at + 1) st′ st″ r → Counted (at + 1) at st st″ r
+pub counted-on : (at : ℕ) (st st′ st″ : List ℕ) (r : Ended) → unvisited st ≡ suc (unvisited st′) → Counted (at + 1) (at + 1) st′ st″ r
+    → Counted (at + 1) at st st″ r
 counted-on at st st′ st″ (ended.Stuck number) u h = tt
 counted-on at st st′ st″ (ended.Done to) u h = (h .0, omega (arith, h .1))

@@ -20,8 +20,10 @@ no-fewer st h = omega arith
 
 -- ---- a walk
 module _ (g : Graph) (w : Bool) (home last mark : ℕ) (m : Mark mark) where
-  same-next : (p q : ℕ → ℕ → List ℕ → Walked) (v : ℕ) (st l : List ℕ) → ((v e f : ℕ) → Unvisited st f → p v e (set st f mark) ≡ q v e (set st f mark)) → (o : Next) → Among st l o
-      → onNext (λ f. consStep (stepFrom g v f) (p (other g v f) f (set st f mark))) o ≡ onNext (λ f. consStep (stepFrom g v f) (q (other g v f) f (set st f mark))) o
+  same-next : (p q : ℕ → ℕ → List ℕ → Walked) (v : ℕ) (st l : List ℕ) → ((v e f : ℕ) → Unvisited st f → p v e (set st f mark) ≡ q v e (set st f mark))
+      → (o : Next) → Among st l o
+      → onNext (λ f. consStep (stepFrom g v f) (p (other g v f) f (set st f mark))) o
+      ≡ onNext (λ f. consStep (stepFrom g v f) (q (other g v f) f (set st f mark))) o
   same-next p q v st l h Nothing a = refl
   same-next p q v st l h (Link f) a = ap (consStep (stepFrom g v f)) (h (other g v f) f f (a .1))
 

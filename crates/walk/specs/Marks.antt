@@ -22,7 +22,8 @@ pub kept-mark : (st : List ℕ) (k m : ℕ) → Marks m → getD st k 1 ≡ 0 �
 kept-mark st k m h e = record { len = length-set st k m; marks = map-set-same unmark st k m 1 (same ∙ ap unmark (sym e)); closed = stays }
   where
     stays : (j : ℕ) → isUnvisited st j ≡ false → isUnvisited (set st k m) j ≡ false
-    stays j c = elim (ℕ-discrete j k) [ yes q ↦ ap (isUnvisited (set st k m)) q ∙ set-same st k m (eq-eqb _ _ e) (is-mark m h) | no d ↦ set-other st k m j d ∙ c ]
+    stays j c =
+        elim (ℕ-discrete j k) [ yes q ↦ ap (isUnvisited (set st k m)) q ∙ set-same st k m (eq-eqb _ _ e) (is-mark m h) | no d ↦ set-other st k m j d ∙ c ]
 
     not-one : m ≡ 1 → ⊥
     not-one q = omega arith

@@ -62,7 +62,8 @@ module _ {A : Type 0} (op : A → A → A) (z : A) (left : (x y r : A) → op x 
 
 pub over-none : {A : Type 0} (op : A → A → A) (z : A) (w : ℕ → A) (st : List ℕ) → NoneUnvisited st → over op z w st ≡ z
 over-none op z w [] h = refl
-over-none op z w (x ∷ st) h = pick-false (op (w 0) (over op z (λ k. w (suc k)) st)) (over op z (λ k. w (suc k)) st) (h 0) ∙ over-none op z (λ k. w (suc k)) st (λ k. h (suc k))
+over-none op z w (x ∷ st) h =
+    pick-false (op (w 0) (over op z (λ k. w (suc k)) st)) (over op z (λ k. w (suc k)) st) (h 0) ∙ over-none op z (λ k. w (suc k)) st (λ k. h (suc k))
 
 -- their number is such a total
 pub unvisited-over : (st : List ℕ) → unvisited st ≡ over _+_ 0 (λ k. 1) st

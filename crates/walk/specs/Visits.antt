@@ -39,7 +39,8 @@ step-times : (k m : ℕ) (st : List ℕ) (f : ℕ) → Unvisited st f → Mark m
 step-times k m st f o n = elim (ℕ-discrete k f) [ yes q ↦ same q | no d ↦ differs d ]
   where
     same : k ≡ f → pick (eqb f k) 1 0 + one (isUnvisited (set st f m) k) ≡ one (isUnvisited st k)
-    same q = ap₂ _+_ (pick-true 1 0 (eq-eqb f k (sym q))) (ap one (ap (isUnvisited (set st f m)) q ∙ set-same st f m o n)) ∙ sym (ap one (ap (isUnvisited st) q ∙ o))
+    same q = ap₂ _+_ (pick-true 1 0 (eq-eqb f k (sym q))) (ap one (ap (isUnvisited (set st f m)) q ∙ set-same st f m o n))
+        ∙ sym (ap one (ap (isUnvisited st) q ∙ o))
 
     differs : (k ≡ f → ⊥) → pick (eqb f k) 1 0 + one (isUnvisited (set st f m) k) ≡ one (isUnvisited st k)
     differs d = omega (arith, pick-false {A = ℕ} {b = eqb f k} 1 0 (ne-eqb f k (λ q. d (sym q))), ap one (set-other st f m k d))
@@ -58,7 +59,8 @@ leaves-cons m st s (stuck number) o h = tt
 leaves-cons m st s (done l after) o h = (h .0, (o, h .1))
 
 module _ (g : Graph) (w : Bool) (home last mark : ℕ) where
-  leaves-next : (go : ℕ → ℕ → List ℕ → Walked) (v : ℕ) (st : List ℕ) → ((v e : ℕ) (st : List ℕ) → Leaves mark st (go v e st)) → (l : List ℕ) (o : Next) → Among st l o
+  leaves-next : (go : ℕ → ℕ → List ℕ → Walked) (v : ℕ) (st : List ℕ) → ((v e : ℕ) (st : List ℕ) → Leaves mark st (go v e st))
+      → (l : List ℕ) (o : Next) → Among st l o
       → Leaves mark st (onNext (λ f. consStep (stepFrom g v f) (go (other g v f) f (set st f mark))) o)
   leaves-next go v st h l Nothing a = tt
   leaves-next go v st h l (Link f) a = leaves-cons mark st (stepFrom g v f) (go (other g v f) f (set st f mark)) (a .1) (h (other g v f) f (set st f mark))
@@ -90,9 +92,14 @@ from-visits g forward sense mark st s o = by (nextLink g (not sense) (set st s m
     ahead : ℕ
     ahead = pick forward (g .bNode s) (g .aNode s)
 
-    by : (o : Next) → Visits mark st (onNext (λ last. consStep (record { link = s; forward = forward }) (walkOn (suc (unvisited (set st s mark))) g sense home last mark ahead s (set st s mark))) o)
+    by : (o : Next)
+        → Visits mark st
+        (onNext (λ last. consStep (record { link = s; forward = forward })
+        (walkOn (suc (unvisited (set st s mark))) g sense home last mark ahead s (set st s mark))) o)
     by Nothing = tt
-    by (Link last) = visits-cons mark st (record { link = s; forward = forward }) (walkOn (suc (unvisited (set st s mark))) g sense home last mark ahead s (set st s mark)) o
+    by (Link last) =
+        visits-cons mark st (record { link = s; forward = forward })
+        (walkOn (suc (unvisited (set st s mark))) g sense home last mark ahead s (set st s mark)) o
         (walk-leaves g sense home last mark (suc (unvisited (set st s mark))) ahead s (set st s mark))
 
 pub visits-fewer : (m : ℕ) (st : List ℕ) (l : List Step) (after : List ℕ) → Mark m → Visits m st (done l after) → unvisited after < unvisited st

@@ -108,9 +108,10 @@ fn next_from(
     requires { ⌜ Links (now ax) (now ay) (now bx) (now by) (length (now state)) ⌝ }
     requires { ⌜ Nodes (now aid) (now start) (now list) (length (now state)) ⌝ }
     requires { ⌜ (node + 1 < length (now start)) × (link < length (now state)) ⌝ }
-    ensures { λ r. ⌜ ((bid top : List ℕ) → r ≡ nextLink
-        (graphOf (lent (now (ax .entry)) (now (ay .entry)) (now (bx .entry)) (now (by .entry)) (now (aid .entry)) bid
-        (now (start .entry)) (now (list .entry))) top) sense (now (state .entry)) node link) ⌝ }
+    ensures { λ r. ⌜ ((bid top : List ℕ) →
+        let g : Lent = lent (now (ax .entry)) (now (ay .entry)) (now (bx .entry)) (now (by .entry)) (now (aid .entry))
+        bid (now (start .entry)) (now (list .entry)) in
+        r ≡ nextLink (graphOf g top) sense (now (state .entry)) node link) ⌝ }
     ensures { λ r. ⌜ NamesUnvisited (now (state .entry)) r ⌝ }
 {
     match next::on_bridge(start, list, state, node, link) {
@@ -149,9 +150,10 @@ fn last_link(
     requires { ⌜ Links (now ax) (now ay) (now bx) (now by) (length (now state)) ⌝ }
     requires { ⌜ Nodes (now aid) (now start) (now list) (length (now state)) ⌝ }
     requires { ⌜ (node + 1 < length (now start)) × (link < length (now state)) ⌝ }
-    ensures { λ r. ⌜ ((bid top : List ℕ) → r ≡ nextLink
-        (graphOf (lent (now (ax .entry)) (now (ay .entry)) (now (bx .entry)) (now (by .entry)) (now (aid .entry)) bid
-        (now (start .entry)) (now (list .entry))) top) (not sense) (now (state .entry)) node link) ⌝ }
+    ensures { λ r. ⌜ ((bid top : List ℕ) →
+        let g : Lent = lent (now (ax .entry)) (now (ay .entry)) (now (bx .entry)) (now (by .entry)) (now (aid .entry))
+        bid (now (start .entry)) (now (list .entry)) in
+        r ≡ nextLink (graphOf g top) (not sense) (now (state .entry)) node link) ⌝ }
     ensures { λ r. ⌜ NamesUnvisited (now (state .entry)) r ⌝ }
 {
     match next::on_bridge(start, list, state, node, link) {

@@ -86,7 +86,7 @@ impl Input {
         let answer = (side.extract)(&self.graph, Settings { clockwise, minimum }, &mut lent);
         let words = |counts: Counts| {
             let Counts { contours, points, rejected, walked, kept_area, rejected_area } = counts;
-            let areas = format!("kept {kept_area} lost {rejected_area}");
+            let areas = format!("kept_area {kept_area} rejected_area {rejected_area}");
             format!("contours {contours} points {points} rejected {rejected} walked {walked} {areas}")
         };
         let asked = format!("{}, minimum {minimum}", direction(clockwise));

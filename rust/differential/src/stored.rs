@@ -21,7 +21,10 @@ pub struct Case {
     pub answer: String,
 }
 
-/// Reads the sample: a line `graph` with the file, then the answer, then an empty line.
+/// What stands between the lines of a stored answer, which is one line.
+const BETWEEN: &str = "; ";
+
+/// Reads the sample: a line `graph` with the file, then the answer on a line, then an empty line.
 pub fn parse(text: &str) -> Vec<Case> {
     let case = |block: &str| {
         let (file, answer) = block.split_once('\n').expect("a case has an answer");
@@ -30,7 +33,7 @@ pub fn parse(text: &str) -> Vec<Case> {
             let pair = std::str::from_utf8(pair).expect("hexadecimal digits");
             u8::from_str_radix(pair, 16).expect("hexadecimal digits")
         });
-        Case { file: bytes.collect(), answer: format!("{}\n", answer.trim_end()) }
+        Case { file: bytes.collect(), answer: format!("{}\n", answer.trim_end().replace(BETWEEN, "\n")) }
     };
     text.split("\n\n").filter(|block| !block.trim().is_empty()).map(case).collect()
 }
@@ -63,7 +66,8 @@ pub fn write(count: usize) -> String {
             let Sample { graph, state } = sample;
             let file = encode(&Study { settings, graph, state });
             let digits: String = file.iter().map(|byte| format!("{byte:02x}")).collect();
-            write!(out, "graph {digits}\n{answer}\n").expect("strings take all");
+            let answer = answer.trim_end().replace('\n', BETWEEN);
+            write!(out, "graph {digits}\n{answer}\n\n").expect("strings take all");
             written += 1;
         }
     }

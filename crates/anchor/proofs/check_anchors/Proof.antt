@@ -12,7 +12,8 @@ use Rattle.anchor.proofs.check_anchors.Statement.{statement}
 use Rattle.anchor.proofs.check_anchors.Tie as tie
 
 abbrev Inv-loop : tie.InvT-loop
-Inv-loop points first len kind clockwise last₀ c₀ last c = (c ≤ length first) × (last ≡ holeBefore (table points first len kind) c) × None (badAnchor (table points first len kind) clockwise) c
+Inv-loop points first len kind clockwise last₀ c₀ last c =
+    (c ≤ length first) × (last ≡ holeBefore (table points first len kind) c) × None (badAnchor (table points first len kind) clockwise) c
 
 abbrev μ-loop : tie.MeasureT-loop
 μ-loop points first len kind clockwise last₀ c₀ last c = length first - c
@@ -24,24 +25,35 @@ anchor-fault-requires : tie.Need-anchor-fault-requires Inv-loop μ-loop
 anchor-fault-requires c κs = (c .before .before .before .before .before .pre, c .loop-test .taken, c .before .loop .inv .1)
 
 returns : tie.Need-returns Inv-loop μ-loop
-returns c = let l = c .before .before .before .loop in anchors-bad _ (c .before .before .before .before .before .before .before .args .clockwise) (l .c) (c .before .before .loop-test .taken) (l .inv .2) (sym (c .before .anchor-fault .ensures) ∙ c .if1 .taken)
+returns c =
+    let l = c .before .before .before .loop in
+    anchors-bad _ (c .before .before .before .before .before .before .before .args .clockwise) (l .c) (c .before .before .loop-test .taken)
+    (l .inv .2) (sym (c .before .anchor-fault .ensures) ∙ c .if1 .taken)
 
 shared-slice-read-hole-up-to : tie.Need-shared-slice-read-hole-up-to Inv-loop μ-loop
-shared-slice-read-hole-up-to c = let s = c .before .before .before .before .before .before .before .before in omega (arith, s .pre .kind-long, c .before .before .before .loop-test .taken)
+shared-slice-read-hole-up-to c =
+    let s = c .before .before .before .before .before .before .before .before in
+    omega (arith, s .pre .kind-long, c .before .before .before .loop-test .taken)
 
 hole-up-to-requires : tie.Need-hole-up-to-requires Inv-loop μ-loop
-hole-up-to-requires c κs = let s = c .before .before .before .before .before .before .before .before in omega (arith, s .good, c .before .before .before .loop-test .taken)
+hole-up-to-requires c κs =
+    let s = c .before .before .before .before .before .before .before .before in omega (arith, s .good, c .before .before .before .loop-test .taken)
 
 add-c : tie.Need-add-c Inv-loop μ-loop
-add-c c = let s = c .before .before .before .before .before .before .before .before .before in omega (arith, s .good, c .before .before .before .before .loop-test .taken)
+add-c c =
+    let s = c .before .before .before .before .before .before .before .before .before in
+    omega (arith, s .good, c .before .before .before .before .loop-test .taken)
 
 loop-less : tie.Need-loop-less Inv-loop μ-loop
 loop-less c = omega (arith, c .before .before .before .before .loop-test .taken)
 
 loop-again : tie.Need-loop-again Inv-loop μ-loop
 loop-again c =
-    let l = c .before .before .before .before .before .loop in
-    (omega (arith, c .before .before .before .before .loop-test .taken), hole-next _ (l .c) (l .last) _ (c .hole-up-to .ensures) (l .inv .1), below-more _ _ (l .inv .2) (sym (c .before .before .before .anchor-fault .ensures) ∙ c .before .before .if1 .left))
+    let l = c .before .before .before .before .before .loop in (
+      omega (arith, c .before .before .before .before .loop-test .taken),
+      hole-next _ (l .c) (l .last) _ (c .hole-up-to .ensures) (l .inv .1),
+      below-more _ _ (l .inv .2) (sym (c .before .before .before .anchor-fault .ensures) ∙ c .before .before .if1 .left),
+    )
 
 returns-2 : tie.Need-returns-2 Inv-loop μ-loop
 returns-2 c = let l = c .before .loop in anchors-fine _ (c .before .before .before .before .before .args .clockwise) (λ k m. l .inv .2 k (omega arith))

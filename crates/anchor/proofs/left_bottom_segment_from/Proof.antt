@@ -26,7 +26,9 @@ before-anchor-requires : tie.Need-before-anchor-requires
 before-anchor-requires c κs = let s = c .before .before .before in (s .pre .0, omega (arith, s .good))
 
 point-in-requires-2 : tie.Need-point-in-requires-2
-point-in-requires-2 c κs = let s = c .before .before .before .before in omega (arith, c .before-anchor .ensures, before-anchor-within (s .args .from) (s .args .len) (s .args .clockwise) (s .pre .0))
+point-in-requires-2 c κs =
+    let s = c .before .before .before .before in
+    omega (arith, c .before-anchor .ensures, before-anchor-within (s .args .from) (s .args .len) (s .args .clockwise) (s .pre .0))
 
 lower-end-requires : tie.Need-lower-end-requires
 lower-end-requires c κs =
@@ -43,9 +45,11 @@ lower-end-requires c κs =
 returns : tie.Need-returns
 returns c =
     let a = c .before .before .before .before .before .before .args in
-    let next = c .before .before .before .point-in .ensures ∙ ap (λ x. pointIn (now (a .points)) (x + 1)) (c .before .before .before .before .anchor-position .ensures) in
+    let next = c .before .before .before .point-in .ensures ∙ ap (λ x. pointIn (now (a .points)) (x + 1))
+    (c .before .before .before .before .anchor-position .ensures) in
     let previous = c .before .point-in2 .ensures ∙ ap (pointIn (now (a .points))) (c .before .before .before-anchor .ensures) in
-    edge-is (now (a .points)) (a .from) (a .len) (a .clockwise) (c .before .before .before .before .before .before .pre .0) _ _ _ _ (c .before .before .before .before .before .anchor-point .ensures) next previous (c .lower-end .ensures)
+    edge-is (now (a .points)) (a .from) (a .len) (a .clockwise) (c .before .before .before .before .before .before .pre .0) _ _ _ _
+    (c .before .before .before .before .before .anchor-point .ensures) next previous (c .lower-end .ensures)
 
 pub left-bottom-segment-from-spec : {M : Type 1} → statement M
 left-bottom-segment-from-spec =

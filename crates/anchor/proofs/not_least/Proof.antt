@@ -40,7 +40,8 @@ returns : tie.Need-returns Inv-loop μ-loop
 returns c =
     let a = c .before .before .before .before .before .args in
     let l = c .before .before .before .before .loop in
-    sym (some-yes (λ i. before (pointIn (now (a .points)) (a .from + i)) (a .anchor)) (a .len) (l .k) (omega arith) (l .inv .1) (sym (here (c .before)) ∙ c .if1 .taken))
+    sym (some-yes (λ i. before (pointIn (now (a .points)) (a .from + i)) (a .anchor)) (a .len) (l .k) (omega arith) (l .inv .1)
+    (sym (here (c .before)) ∙ c .if1 .taken))
 
 add-k : tie.Need-add-k Inv-loop μ-loop
 add-k c = omega arith

@@ -19,22 +19,36 @@ enum-told : tie.Need-enum-told
 enum-told c = search needs
 
 bind-sound-requires : tie.Need-bind-sound-requires
-bind-sound-requires c κs = let s = c .before .before .before .before .before .before .before .before in let k = checks (t s) (length (s .args .owner .now)) (s .args .clockwise) (sym (c .before .before .before .check .ensures) ∙ c .before .enum-told .given .1) in (k .sound, k .anchored, k .room)
+bind-sound-requires c κs =
+    let s = c .before .before .before .before .before .before .before .before in
+    let k = checks (t s) (length (s .args .owner .now)) (s .args .clockwise) (sym (c .before .before .before .check .ensures)
+    ∙ c .before .enum-told .given .1) in (k .sound, k .anchored, k .room)
 
 enum-known-number : tie.Need-enum-known-number
 enum-known-number c = search needs
 
 cast-t14 : tie.Need-cast-t14
-cast-t14 c = let s = c .before .before .before .before .before .before .before .before in omega (arith, place-few (t s) (length (s .args .owner .now)) (s .args .clockwise) _ _ (sym (c .before .before .before .check .ensures) ∙ c .before .number .given .1))
+cast-t14 c =
+    let s = c .before .before .before .before .before .before .before .before in
+    omega (
+      arith,
+      place-few (t s) (length (s .args .owner .now)) (s .args .clockwise) _ _ (sym (c .before .before .before .check .ensures)
+          ∙ c .before .number .given .1),
+    )
 
 same-length : tie.Need-same-length
 same-length c = search needs
 
 returns : tie.Need-returns
-returns c = let s = c .before .before .before .before .before .before .before .before .before .before .before in bound-fine (t s) (s .args .clockwise) (s .args .owner .now) _ (sym (c .before .before .before .before .before .before .check .ensures) ∙ c .before .before .before .before .enum-told .given .1) (c .before .before .bind-sound .ensures)
+returns c =
+    let s = c .before .before .before .before .before .before .before .before .before .before .before in
+    bound-fine (t s) (s .args .clockwise) (s .args .owner .now) _ (sym (c .before .before .before .before .before .before .check .ensures)
+    ∙ c .before .before .before .before .enum-told .given .1) (c .before .before .bind-sound .ensures)
 
 returns-2 : tie.Need-returns-2
-returns-2 c = let s = c .before .before .before .before .before .before .before .before in bound-at (t s) (s .args .clockwise) (s .args .owner .now) _ _ (sym (c .before .before .before .check .ensures) ∙ c .before .number .given .1)
+returns-2 c =
+    let s = c .before .before .before .before .before .before .before .before in
+    bound-at (t s) (s .args .clockwise) (s .args .owner .now) _ _ (sym (c .before .before .before .check .ensures) ∙ c .before .number .given .1)
 
 pub bind-spec : {M : Type 1} → statement M
 bind-spec =

@@ -12,10 +12,14 @@ abbrev t : tie.Start → Table
 t s = table (s .args .points .now) (s .args .first .now) (s .args .len .now) (s .args .kind .now)
 
 number-hulls-requires : tie.Need-number-hulls-requires
-number-hulls-requires c κs = let s = c .before .before .before .before .before .before in (s .pre .1 .0 ∙ sym (s .pre .0 .0 .kind-long), omega (arith, s .pre .0 .0 .kind-long, contours-few (t s) (s .pre .0 .0)))
+number-hulls-requires c κs =
+    let s = c .before .before .before .before .before .before in
+    (s .pre .1 .0 ∙ sym (s .pre .0 .0 .kind-long), omega (arith, s .pre .0 .0 .kind-long, contours-few (t s) (s .pre .0 .0)))
 
 search-owners-requires : tie.Need-search-owners-requires
-search-owners-requires c κs = let s = c .before .before .before .before .before .before .before .before .before .before in (s .pre .0 .0, s .pre .0 .1, c .before .before .before .number-hulls .kept .1 .0 ∙ s .pre .1 .0)
+search-owners-requires c κs =
+    let s = c .before .before .before .before .before .before .before .before .before .before in
+    (s .pre .0 .0, s .pre .0 .1, c .before .before .before .number-hulls .kept .1 .0 ∙ s .pre .1 .0)
 
 enum-known-c : tie.Need-enum-known-c
 enum-known-c c = search needs
@@ -31,8 +35,11 @@ same-length c = search needs
 
 returns : tie.Need-returns
 returns c =
-    let s = c .before .before .before .before .before .before .before .before .before .before .before .before .before .before .before .before in let n = c .before .before .before .before .before .before .before .before .before .number-hulls in let o = c .before .before .before .before .before .search-owners in
-    deliver-stuck (t s) (s .pre .0 .0) (s .args .clockwise) (n .last .1 .0) (o .last .1 .1 .1 .1 .1 .0) (s .args .owner .now) (o .result) (n .ensures) (o .ensures) _ (c .before .c .given .1)
+    let s = c .before .before .before .before .before .before .before .before .before .before .before .before .before .before .before .before in
+    let n = c .before .before .before .before .before .before .before .before .before .number-hulls in
+    let o = c .before .before .before .before .before .search-owners in
+    deliver-stuck (t s) (s .pre .0 .0) (s .args .clockwise) (n .last .1 .0) (o .last .1 .1 .1 .1 .1 .0) (s .args .owner .now) (o .result) (n .ensures)
+    (o .ensures) _ (c .before .c .given .1)
 
 same-length-2 : tie.Need-same-length-2
 same-length-2 c = search needs
@@ -42,8 +49,13 @@ same-length-3 c = search needs
 
 returns-2 : tie.Need-returns-2
 returns-2 c =
-    let s = c .before .before .before .before .before .before .before .before .before .before .before .before .before .before .before .before .before .before .before .before in let n = c .before .before .before .before .before .before .before .before .before .before .before .before .before .number-hulls in let o = c .before .before .before .before .before .before .before .before .before .search-owners in let k = c .before .before .copy in
-    deliver-all (t s) (s .pre .0 .0) (s .args .clockwise) (n .last .1 .0) (o .last .1 .1 .1 .1 .1 .0) (s .args .owner .now) (o .result) (n .ensures) (o .ensures) (k .last .1 .0) (c .before .before .before .before .before .enum-told .given .1) (k .ensures)
+    let s = c
+    .before .before .before .before .before .before .before .before .before .before .before .before .before .before .before .before .before
+    .before .before .before in let n =
+    c .before .before .before .before .before .before .before .before .before .before .before .before .before .number-hulls in let o =
+    c .before .before .before .before .before .before .before .before .before .search-owners in let k = c .before .before .copy in
+    deliver-all (t s) (s .pre .0 .0) (s .args .clockwise) (n .last .1 .0) (o .last .1 .1 .1 .1 .1 .0) (s .args .owner .now) (o .result) (n .ensures)
+    (o .ensures) (k .last .1 .0) (c .before .before .before .before .before .enum-told .given .1) (k .ensures)
 
 pub bind-in-spec : {M : Type 1} → statement M
 bind-in-spec =

@@ -17,16 +17,23 @@ enum-told : tie.Need-enum-told
 enum-told c = search needs
 
 check-anchors-requires : tie.Need-check-anchors-requires
-check-anchors-requires c κs = let s = c .before .before .before .before .before .before in passes-sound (t s) (s .args .owners) .to (sym (c .before .before .check-table .ensures) ∙ c .enum-told .given .1) .0
+check-anchors-requires c κs =
+    let s = c .before .before .before .before .before .before in
+    passes-sound (t s) (s .args .owners) .to (sym (c .before .before .check-table .ensures) ∙ c .enum-told .given .1) .0
 
 enum-known-number : tie.Need-enum-known-number
 enum-known-number c = search needs
 
 returns : tie.Need-returns
-returns c = let s = c .before .before .before .before .before .before .before in both-fine (t s) (s .args .owners) (s .args .clockwise) _ (sym (c .before .before .before .check-table .ensures) ∙ c .before .enum-told .given .1) (c .check-anchors .ensures)
+returns c =
+    let s = c .before .before .before .before .before .before .before in
+    both-fine (t s) (s .args .owners) (s .args .clockwise) _ (sym (c .before .before .before .check-table .ensures) ∙ c .before .enum-told .given .1)
+    (c .check-anchors .ensures)
 
 returns-2 : tie.Need-returns-2
-returns-2 c = let s = c .before .before .before .before .before .before .before in both-at (t s) (s .args .owners) (s .args .clockwise) _ _ (sym (c .before .before .before .check-table .ensures) ∙ c .before .number .given .1)
+returns-2 c =
+    let s = c .before .before .before .before .before .before .before in
+    both-at (t s) (s .args .owners) (s .args .clockwise) _ _ (sym (c .before .before .before .check-table .ensures) ∙ c .before .number .given .1)
 
 pub check-spec : {M : Type 1} → statement M
 check-spec =

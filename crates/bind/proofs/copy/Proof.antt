@@ -34,7 +34,9 @@ loop-less : tie.Need-loop-less Inv-loop μ-loop
 loop-less c = omega arith
 
 loop-again : tie.Need-loop-again Inv-loop μ-loop
-loop-again c = let s = c .before .before .before in let l = c .before .before .loop in copy-more _ (l .to) _ (l .i) (l .inv) (omega (arith, s .pre)) (c .before .loop-test .taken)
+loop-again c =
+    let s = c .before .before .before in let l = c .before .before .loop in
+    copy-more _ (l .to) _ (l .i) (l .inv) (omega (arith, s .pre)) (c .before .loop-test .taken)
 
 same-length : tie.Need-same-length Inv-loop μ-loop
 same-length c = c .before .loop .inv .len

@@ -34,7 +34,9 @@ same-length : tie.Need-same-length Inv-loop μ-loop
 same-length c = c .before .loop .inv .len
 
 returns : tie.Need-returns Inv-loop μ-loop
-returns c = let s = c .before .before in let l = c .before .loop in copy-end _ (l .owner) _ (l .i) (l .inv) (rw (length-replicate (s .args .n) (s .args .number)) (c .loop-test .left))
+returns c =
+    let s = c .before .before in let l = c .before .loop in
+    copy-end _ (l .owner) _ (l .i) (l .inv) (rw (length-replicate (s .args .n) (s .args .number)) (c .loop-test .left))
 
 pub fill-spec : {M : Type 1} → statement M
 fill-spec =

@@ -36,7 +36,9 @@ loop-less : tie.Need-loop-less Inv-loop μ-loop
 loop-less c = omega arith
 
 loop-again : tie.Need-loop-again Inv-loop μ-loop
-loop-again c = let s = c .before .before .before .before .before in let l = c .before .before .loop in listing-more _ _ _ _ _ (l .next) (l .of) (l .k) (l .inv) _ (c .before .loop-test .taken) (s .pre .2) (s .pre .3) (c .follows .ensures)
+loop-again c =
+    let s = c .before .before .before .before .before in let l = c .before .before .loop in
+    listing-more _ _ _ _ _ (l .next) (l .of) (l .k) (l .inv) _ (c .before .loop-test .taken) (s .pre .2) (s .pre .3) (c .follows .ensures)
 
 same-length : tie.Need-same-length Inv-loop μ-loop
 same-length c = c .before .loop .inv .len-next

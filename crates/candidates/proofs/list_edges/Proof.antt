@@ -36,22 +36,39 @@ cast-to : tie.Need-cast-to Inv-loop μ-loop
 cast-to c = omega (arith, c .shared-slice-known4 .given (c .before .before .before .loop .c))
 
 add-to : tie.Need-add-to Inv-loop μ-loop
-add-to c = let s = c .before .before .before .before .before .before .before .before in omega (arith, s .pre .0 .within (c .before .before .before .loop .c) (c .before .before .loop-test .taken))
+add-to c =
+    let s = c .before .before .before .before .before .before .before .before in
+    omega (arith, s .pre .0 .within (c .before .before .before .loop .c) (c .before .before .loop-test .taken))
 
 cast-list-contour : tie.Need-cast-list-contour Inv-loop μ-loop
 cast-list-contour c = let s = c .before .before .before .before .before .before .before .before .before .before in omega (arith, s .pre .0 .few)
 
 list-contour-requires : tie.Need-list-contour-requires Inv-loop μ-loop
-list-contour-requires c κs = let s = c .before .before .before .before .before .before .before .before .before .before in let l = c .before .before .before .before .before .loop in let w = s .pre .0 .within (l .c) (c .before .before .before .before .loop-test .taken) in (omega arith, w, omega (arith, s .pre .1, l .inv .1), omega (arith, s .pre .2, l .inv .2))
+list-contour-requires c κs =
+    let s = c .before .before .before .before .before .before .before .before .before .before in
+    let l = c .before .before .before .before .before .loop in
+    let w = s .pre .0 .within (l .c) (c .before .before .before .before .loop-test .taken) in
+    (omega arith, w, omega (arith, s .pre .1, l .inv .1), omega (arith, s .pre .2, l .inv .2))
 
 add-c : tie.Need-add-c Inv-loop μ-loop
-add-c c = let s = c .before .before .before .before .before .before .before .before .before .before .before .before .before .before .before in omega (arith, s .pre .0 .few)
+add-c c =
+    let s = c .before .before .before .before .before .before .before .before .before .before .before .before .before .before .before in
+    omega (arith, s .pre .0 .few)
 
 loop-less : tie.Need-loop-less Inv-loop μ-loop
 loop-less c = omega arith
 
 loop-again : tie.Need-loop-again Inv-loop μ-loop
-loop-again c = let s = c .before .before .before .before .before .before .before .before .before .before .before .before .before .before .before in let l = c .before .before .before .before .before .before .before .before .before .before .loop in let k = c .before .before .before .before .list-contour in (omega arith, k .kept .0 ∙ l .inv .1, k .kept .1 .0 ∙ l .inv .2, round-more _ _ (s .pre .0) (l .c) (l .next) (l .of) _ _ (c .before .before .before .before .before .before .before .before .before .loop-test .taken) (l .inv .3) (k .ensures))
+loop-again c =
+    let s = c .before .before .before .before .before .before .before .before .before .before .before .before .before .before .before in
+    let l = c .before .before .before .before .before .before .before .before .before .before .loop in
+    let k = c .before .before .before .before .list-contour in (
+      omega arith,
+      k .kept .0 ∙ l .inv .1,
+      k .kept .1 .0 ∙ l .inv .2,
+      round-more _ _ (s .pre .0) (l .c) (l .next) (l .of) _ _
+          (c .before .before .before .before .before .before .before .before .before .loop-test .taken) (l .inv .3) (k .ensures),
+    )
 
 same-length : tie.Need-same-length Inv-loop μ-loop
 same-length c = c .before .loop .inv .1
@@ -60,7 +77,9 @@ same-length-2 : tie.Need-same-length-2 Inv-loop μ-loop
 same-length-2 c = c .before .loop .inv .2
 
 returns : tie.Need-returns Inv-loop μ-loop
-returns c = let l = c .before .loop in let e : l .c ≡ length (c .before .before .before .before .before .before .args .first .now) = omega arith in rw e at (l .inv .3)
+returns c =
+    let l = c .before .loop in let e : l .c ≡ length (c .before .before .before .before .before .before .args .first .now) = omega arith in
+    rw e at (l .inv .3)
 
 pub list-edges-spec : {M : Type 1} → statement M
 list-edges-spec =

@@ -20,7 +20,9 @@ here : (s : tie.Start) (p : Point) → p ≡ pointIn (s .args .points .now) (s .
 here s p e = grid-read (s .args .points .now) (s .args .k) p e (s .pre .0 .grid) (omega (arith, s .pre .0 .room, s .pre .1))
 
 there : (s : tie.Start) (q : Point) → q ≡ pointIn (s .args .points .now) (getD (s .args .next .now) (s .args .k) 0) → OnGrid q
-there s q e = grid-read (s .args .points .now) (getD (s .args .next .now) (s .args .k) 0) q e (s .pre .0 .grid) (omega (arith, s .pre .0 .next (s .args .k) (s .pre .1), s .pre .0 .room))
+there s q e =
+    grid-read (s .args .points .now) (getD (s .args .next .now) (s .args .k) 0) q e (s .pre .0 .grid)
+    (omega (arith, s .pre .0 .next (s .args .k) (s .pre .1), s .pre .0 .room))
 
 mul-c : tie.Need-mul-c
 mul-c c = search needs
@@ -47,7 +49,8 @@ point-in-requires : tie.Need-point-in-requires
 point-in-requires c κs = search needs
 
 point-in-requires-2 : tie.Need-point-in-requires-2
-point-in-requires-2 c κs = let s = c .before .before .before .before .before .before .before in omega (arith, s .pre .0 .next (s .args .k) (s .pre .1), s .pre .0 .room)
+point-in-requires-2 c κs =
+    let s = c .before .before .before .before .before .before .before in omega (arith, s .pre .0 .next (s .args .k) (s .pre .1), s .pre .0 .room)
 
 returns : tie.Need-returns
 returns c =

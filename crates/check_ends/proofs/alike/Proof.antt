@@ -23,7 +23,8 @@ returns : tie.Need-returns
 returns c =
     let x = c .before .before .before .before .before .before .args in
     not-parallel (pointAt (x .ax .now) (x .ay .now)) (pointAt (x .bx .now) (x .by .now)) (nodeAt (x .aid .now)) (x .state .now) (x .v) (x .e) (x .f)
-    (λ h. c .if1 .taken (ap (ofZ w64) (c .before .cross-product .ensures .0 ∙ ap₂ cross (c .before .before .before .along .ensures .0) (c .before .before .along2 .ensures .0) ∙ h)))
+    (λ h. c .if1 .taken (ap (ofZ w64) (c .before .cross-product .ensures .0 ∙ ap₂ cross (c .before .before .before .along .ensures .0)
+    (c .before .before .along2 .ensures .0) ∙ h)))
 
 shared-slice-read-if2 : tie.Need-shared-slice-read-if2
 shared-slice-read-if2 c = search needs
@@ -32,7 +33,10 @@ shared-slice-read-if2-2 : tie.Need-shared-slice-read-if2-2
 shared-slice-read-if2-2 c = search needs
 
 returns-2 : tie.Need-returns-2
-returns-2 c = let x = c .before .before .before .before .before .before .before .before .before .args in one-skipped (pointAt (x .ax .now) (x .ay .now)) (pointAt (x .bx .now) (x .by .now)) (nodeAt (x .aid .now)) (x .state .now) (x .v) (x .e) (x .f) (c .if2 .taken)
+returns-2 c =
+    let x = c .before .before .before .before .before .before .before .before .before .args in
+    one-skipped (pointAt (x .ax .now) (x .ay .now)) (pointAt (x .bx .now) (x .by .now)) (nodeAt (x .aid .now)) (x .state .now) (x .v) (x .e) (x .f)
+    (c .if2 .taken)
 
 away-requires : tie.Need-away-requires
 away-requires c κs = let p = c .before .before .before .before .before .before .before .before .before .pre in (p .0, (p .1 .0, p .1 .1 .1 .0))
@@ -44,7 +48,11 @@ same-direction-requires : tie.Need-same-direction-requires
 same-direction-requires c κs = search needs
 
 returns-3 : tie.Need-returns-3
-returns-3 c = let x = c .before .before .before .before .before .before .before .before .before .before .before .before .args in c .same-direction .ensures ∙ simp (c .before .before .away .ensures .0, c .before .away2 .ensures .0) (none-skipped (pointAt (x .ax .now) (x .ay .now)) (pointAt (x .bx .now) (x .by .now)) (nodeAt (x .aid .now)) (x .state .now) (x .v) (x .e) (x .f) (c .before .before .before .if2 .left))
+returns-3 c =
+    let x = c .before .before .before .before .before .before .before .before .before .before .before .before .args in
+    c .same-direction .ensures ∙ simp (c .before .before .away .ensures .0, c .before .away2 .ensures .0)
+    (none-skipped (pointAt (x .ax .now) (x .ay .now)) (pointAt (x .bx .now) (x .by .now)) (nodeAt (x .aid .now)) (x .state .now) (x .v) (x .e) (x .f)
+    (c .before .before .before .if2 .left))
 
 pub alike-spec : {M : Type 1} → statement M
 alike-spec =

@@ -13,8 +13,10 @@ point-at-requires-2 c κs = search needs
 
 between-requires : tie.Need-between-requires
 between-requires c κs =
-    let s = c .before .before in
-    (rw (c .before .point-at .ensures) (s .pre .1 .0 .a-grid (s .args .k) (s .pre .1 .1)), rw (c .point-at2 .ensures) (s .pre .1 .0 .b-grid (s .args .k) (s .pre .1 .1)))
+    let s = c .before .before in (
+      rw (c .before .point-at .ensures) (s .pre .1 .0 .a-grid (s .args .k) (s .pre .1 .1)),
+      rw (c .point-at2 .ensures) (s .pre .1 .0 .b-grid (s .args .k) (s .pre .1 .1)),
+    )
 
 returns : tie.Need-returns
 returns c = (c .between .ensures .0 ∙ ap₂ fromTo (c .before .before .point-at .ensures) (c .before .point-at2 .ensures), c .between .ensures .1)

@@ -26,10 +26,14 @@ entries-requires : tie.Need-entries-requires Inv-loop μ-loop
 entries-requires c κs = search needs
 
 apart-in-requires : tie.Need-apart-in-requires Inv-loop μ-loop
-apart-in-requires c κs = let s = c .before .before .before .before .before .before in (s .pre .0, rw (c .entries .ensures) (s .pre .1 .1 (c .before .before .loop .v) (omega arith)))
+apart-in-requires c κs =
+    let s = c .before .before .before .before .before .before in
+    (s .pre .0, rw (c .entries .ensures) (s .pre .1 .1 (c .before .before .loop .v) (omega arith)))
 
 returns : tie.Need-returns Inv-loop μ-loop
-returns c = sym (found _ _ _ (omega arith) (c .before .before .before .before .loop .inv .1) (rw (c .before .before .entries .ensures) at (sym (c .before .apart-in .ensures) ∙ c .if1 .taken)))
+returns c =
+    sym (found _ _ _ (omega arith) (c .before .before .before .before .loop .inv .1)
+    (rw (c .before .before .entries .ensures) at (sym (c .before .apart-in .ensures) ∙ c .if1 .taken)))
 
 add-v : tie.Need-add-v Inv-loop μ-loop
 add-v c = omega arith
@@ -38,7 +42,11 @@ loop-less : tie.Need-loop-less Inv-loop μ-loop
 loop-less c = omega arith
 
 loop-again : tie.Need-loop-again Inv-loop μ-loop
-loop-again c = (omega arith, below-more _ _ (c .before .before .before .before .loop .inv .1) (rw (c .before .before .entries .ensures) at (sym (c .before .apart-in .ensures) ∙ c .if1 .left)))
+loop-again c = (
+  omega arith,
+  below-more _ _ (c .before .before .before .before .loop .inv .1)
+      (rw (c .before .before .entries .ensures) at (sym (c .before .apart-in .ensures) ∙ c .if1 .left)),
+)
 
 returns-2 : tie.Need-returns-2 Inv-loop μ-loop
 returns-2 c = sym (none _ _ (λ k l. c .before .loop .inv .1 k (omega arith)))

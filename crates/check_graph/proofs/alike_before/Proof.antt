@@ -36,7 +36,8 @@ alike-requires c κs =
 
 -- what the call says of entry i
 here : (c : tie.After-alike Inv-loop μ-loop) → let x = c .before .before .before .before .before .before .before .before .args in
-    c .alike .result ≡ alike (pointAt (x .ax .now) (x .ay .now)) (pointAt (x .bx .now) (x .by .now)) (nodeAt (x .aid .now)) (x .state .now) (x .v) (getD (x .here .now) (c .before .before .before .before .loop .i) 0) (x .f)
+    c .alike .result ≡ alike (pointAt (x .ax .now) (x .ay .now)) (pointAt (x .bx .now) (x .by .now)) (nodeAt (x .aid .now)) (x .state .now) (x .v)
+    (getD (x .here .now) (c .before .before .before .before .loop .i) 0) (x .f)
 here c = c .alike .ensures ∙ simp (c .before .wide .ensures)
 
 returns : tie.Need-returns Inv-loop μ-loop

@@ -15,7 +15,8 @@ use Rattle.graph.specs.Checks.{nodeAt}
 use Rattle.graph.specs.Quick.{nodeWrong}
 
 abbrev Inv-loop : tie.InvT-loop
-Inv-loop ax ay bx by aid bid start list state m v₀ v = (v ≤ m) × None (λ u. nodeWrong aid bid (pointAt ax ay) (pointAt bx by) (nodeAt aid) state (part start list u) u) v
+Inv-loop ax ay bx by aid bid start list state m v₀ v =
+    (v ≤ m) × None (λ u. nodeWrong aid bid (pointAt ax ay) (pointAt bx by) (nodeAt aid) state (part start list u) u) v
 
 abbrev μ-loop : tie.MeasureT-loop
 μ-loop ax ay bx by aid bid start list state m v₀ v = m - v
@@ -34,10 +35,13 @@ node-wrong-requires c κs = let p = c .before .before .before .before .before .b
 
 -- what the call says of node v
 here : (c : tie.After-node-wrong Inv-loop μ-loop) → let x = c .before .before .before .before .before .before .before .before .before .args in
-    c .node-wrong .result ≡ nodeWrong (x .aid .now) (x .bid .now) (pointAt (x .ax .now) (x .ay .now)) (pointAt (x .bx .now) (x .by .now)) (nodeAt (x .aid .now)) (x .state .now) (part (x .start .now) (x .list .now) (c .before .before .before .loop .v)) (c .before .before .before .loop .v)
+    c .node-wrong .result ≡ nodeWrong (x .aid .now) (x .bid .now) (pointAt (x .ax .now) (x .ay .now)) (pointAt (x .bx .now) (x .by .now))
+    (nodeAt (x .aid .now)) (x .state .now) (part (x .start .now) (x .list .now) (c .before .before .before .loop .v))
+    (c .before .before .before .loop .v)
 here c =
     let x = c .before .before .before .before .before .before .before .before .before .args in
-    c .node-wrong .ensures ∙ ap (λ (l : List ℕ). nodeWrong (x .aid .now) (x .bid .now) (pointAt (x .ax .now) (x .ay .now)) (pointAt (x .bx .now) (x .by .now)) (nodeAt (x .aid .now)) (x .state .now) l (c .before .before .before .loop .v)) (c .before .entries .ensures)
+    c .node-wrong .ensures ∙ ap (λ (l : List ℕ). nodeWrong (x .aid .now) (x .bid .now) (pointAt (x .ax .now) (x .ay .now))
+    (pointAt (x .bx .now) (x .by .now)) (nodeAt (x .aid .now)) (x .state .now) l (c .before .before .before .loop .v)) (c .before .entries .ensures)
 
 returns : tie.Need-returns Inv-loop μ-loop
 returns c = sym (some-yes _ _ _ (omega arith) (c .before .before .before .before .loop .inv .1) (sym (here (c .before)) ∙ c .if1 .taken))

@@ -20,8 +20,11 @@ stray-requires-2 c κs = search needs
 
 -- what the calls say of the two entries
 listed : (c : tie.After-stray2) → let x = c .before .before .before .before .before .args in
-    c .before .stray .result || c .stray2 .result || eqb (x .e) (x .f) ≡ stray (x .aid .now) (x .bid .now) (x .v) (x .e) || stray (x .aid .now) (x .bid .now) (x .v) (x .f) || eqb (x .e) (x .f)
-listed c = let x = c .before .before .before .before .before .args in ap (λ (t : Bool). t || eqb (x .e) (x .f)) (ap₂ _||_ (c .before .stray .ensures) (c .stray2 .ensures))
+    c .before .stray .result || c .stray2 .result || eqb (x .e) (x .f) ≡ stray (x .aid .now) (x .bid .now) (x .v) (x .e)
+    || stray (x .aid .now) (x .bid .now) (x .v) (x .f) || eqb (x .e) (x .f)
+listed c =
+    let x = c .before .before .before .before .before .args in
+    ap (λ (t : Bool). t || eqb (x .e) (x .f)) (ap₂ _||_ (c .before .stray .ensures) (c .stray2 .ensures))
 
 returns : tie.Need-returns
 returns c = sym (pick-true _ _ (sym (listed (c .before)) ∙ c .if1 .taken))
@@ -30,7 +33,8 @@ returns c = sym (pick-true _ _ (sym (listed (c .before)) ∙ c .if1 .taken))
 links : (c : tie.Else1) → let x = c .before .before .before .before .before .before .args in (x .e < length (x .aid .now)) × (x .f < length (x .aid .now))
 links c =
     let x = c .before .before .before .before .before .before .args in
-    let s = or-false (stray (x .aid .now) (x .bid .now) (x .v) (x .e)) (stray (x .aid .now) (x .bid .now) (x .v) (x .f)) (or-false _ (eqb (x .e) (x .f)) (sym (listed (c .before)) ∙ c .if1 .left) .0) in
+    let s = or-false (stray (x .aid .now) (x .bid .now) (x .v) (x .e)) (stray (x .aid .now) (x .bid .now) (x .v) (x .f))
+    (or-false _ (eqb (x .e) (x .f)) (sym (listed (c .before)) ∙ c .if1 .left) .0) in
     (no-stray (x .aid .now) (x .bid .now) (x .v) (x .e) .to (s .0) .below, no-stray (x .aid .now) (x .bid .now) (x .v) (x .f) .to (s .1) .below)
 
 end-at-requires : tie.Need-end-at-requires
@@ -43,11 +47,14 @@ differ-requires : tie.Need-differ-requires
 differ-requires c κs = search needs
 
 alike-requires : tie.Need-alike-requires
-alike-requires c κs = let p = c .before .before .before .before .before .before .before .before .before .pre in (p .0, (p .1 .0, (p .1 .1 .0, links (c .before .before .before))))
+alike-requires c κs =
+    let p = c .before .before .before .before .before .before .before .before .before .pre in
+    (p .0, (p .1 .0, (p .1 .1 .0, links (c .before .before .before))))
 
 returns-2 : tie.Need-returns-2
 returns-2 c =
-    ap₂ _||_ (c .before .differ .ensures ∙ ap₂ differ (c .before .before .before .end-at .ensures) (c .before .before .end-at2 .ensures)) (c .alike .ensures) ∙ sym (pick-false _ _ (sym (listed (c .before .before .before .before .before)) ∙ c .before .before .before .before .if1 .left))
+    ap₂ _||_ (c .before .differ .ensures ∙ ap₂ differ (c .before .before .before .end-at .ensures) (c .before .before .end-at2 .ensures))
+    (c .alike .ensures) ∙ sym (pick-false _ _ (sym (listed (c .before .before .before .before .before)) ∙ c .before .before .before .before .if1 .left))
 
 pub bridge-wrong-spec : {M : Type 1} → statement M
 bridge-wrong-spec =

@@ -11,7 +11,8 @@ use Rattle.graph.specs.Checks.{room, linksChecked, nodesChecked, checked}
 use Rattle.graph.specs.Told.{LinksTold, links-told}
 
 abbrev g : tie.Start → Lent
-g s = lent (s .args .ax .now) (s .args .ay .now) (s .args .bx .now) (s .args .by .now) (s .args .aid .now) (s .args .bid .now) (s .args .start .now) (s .args .list .now)
+g s = lent (s .args .ax .now) (s .args .ay .now) (s .args .bx .now) (s .args .by .now) (s .args .aid .now) (s .args .bid .now) (s .args .start .now)
+    (s .args .list .now)
 
 -- what checks 1 to 4 say
 abbrev first : tie.Start → Checked
@@ -31,20 +32,24 @@ enum-told c = search needs
 
 check-nodes-requires : tie.Need-check-nodes-requires
 check-nodes-requires c κs =
-    let t = told (c .before .before .before .before .before .before .before .before .before) (sym (c .before .before .check-links .ensures) ∙ c .enum-told .given .1) in
+    let t = told (c .before .before .before .before .before .before .before .before .before) (sym (c .before .before .check-links .ensures)
+    ∙ c .enum-told .given .1) in
     (t .points, (t .grids, (t .states, ((t .ids, t .few), t .starts))))
 
 returns : tie.Need-returns
 unfolding checked
 returns c =
     let s = c .before .before .before .before .before .before .before .before .before .before in
-    sym (ap (λ (k : Checked). followedBy k (nodesChecked (g s) (s .args .state .now))) (sym (c .before .before .before .check-links .ensures) ∙ c .before .number .given .1))
+    sym (ap (λ (k : Checked). followedBy k (nodesChecked (g s) (s .args .state .now))) (sym (c .before .before .before .check-links .ensures)
+    ∙ c .before .number .given .1))
 
 returns-2 : tie.Need-returns-2
 unfolding checked
 returns-2 c =
     let s = c .before .before .before .before .before .before .before .before .before .before in
-    c .check-nodes .ensures ∙ sym (ap (λ (k : Checked). followedBy k (nodesChecked (g s) (s .args .state .now))) (sym (c .before .before .before .check-links .ensures) ∙ c .before .enum-told .given .1))
+    c .check-nodes .ensures ∙ sym
+    (ap (λ (k : Checked). followedBy k (nodesChecked (g s) (s .args .state .now))) (sym (c .before .before .before .check-links .ensures)
+    ∙ c .before .enum-told .given .1))
 
 pub check-graph-spec : {M : Type 1} → statement M
 check-graph-spec =

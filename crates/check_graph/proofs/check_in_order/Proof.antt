@@ -16,29 +16,67 @@ unfolding nodesChecked
 returns c = simp (sym (c .before .bad-nodes .ensures) ∙ c .if1 .taken)
 
 -- check 5 finds nothing
-right : (c : tie.Else1) → let x = c .before .before .before .before .before .before .before .args in badNodes (x .aid .now) (x .bid .now) (x .start .now) (x .list .now) ≡ false
+right : (c : tie.Else1) → let x =
+    c .before .before .before .before .before .before .before .args in badNodes (x .aid .now) (x .bid .now) (x .start .now) (x .list .now) ≡ false
 right c = sym (c .before .bad-nodes .ensures) ∙ c .if1 .left
 
 sub-m : tie.Need-sub-m
 sub-m c = search needs
 
 apart-node-requires : tie.Need-apart-node-requires
-apart-node-requires c κs = let x = c .before .before .before .before .before .before .before .args in (c .before .before .before .before .before .before .before .pre .0, (starts-known (x .aid .now) (x .bid .now) (x .start .now) (x .list .now) (right c) (c .before .before .before .before .before .before .before .pre .1 .1 .1 .1), entries-known (x .aid .now) (x .bid .now) (x .start .now) (x .list .now) (right c)))
+apart-node-requires c κs =
+    let x = c .before .before .before .before .before .before .before .args in (
+      c .before .before .before .before .before .before .before .pre .0,
+      (
+        starts-known (x .aid .now) (x .bid .now) (x .start .now) (x .list .now) (right c)
+            (c .before .before .before .before .before .before .before .pre .1 .1 .1 .1),
+        entries-known (x .aid .now) (x .bid .now) (x .start .now)
+            (x .list .now) (right c),
+      ),
+    )
 
 returns-2 : tie.Need-returns-2
 unfolding nodesChecked
 returns-2 c = simp (right (c .before .before), ← c .before .apart-node .ensures, lt-ltb _ _ (c .if2 .taken))
 
 alike-node-requires : tie.Need-alike-node-requires
-alike-node-requires c κs = let x = c .before .before .before .before .before .before .before .before .before .args in let p = c .before .before .before .before .before .before .before .before .before .pre in (p .0, (p .1 .0, (p .1 .1 .0, (starts-known (x .aid .now) (x .bid .now) (x .start .now) (x .list .now) (right (c .before .before)) (p .1 .1 .1 .1), entries-known (x .aid .now) (x .bid .now) (x .start .now) (x .list .now) (right (c .before .before))))))
+alike-node-requires c κs =
+    let x = c .before .before .before .before .before .before .before .before .before .args in
+    let p = c .before .before .before .before .before .before .before .before .before .pre in (
+      p .0,
+      (
+        p .1 .0,
+        (
+          p .1 .1 .0,
+          (
+            starts-known (x .aid .now) (x .bid .now) (x .start .now) (x .list .now) (right (c .before .before)) (p .1 .1 .1 .1),
+            entries-known (x .aid .now) (x .bid .now) (x .start .now) (x .list .now) (right (c .before .before)),
+          ),
+        ),
+      ),
+    )
 
 returns-3 : tie.Need-returns-3
 unfolding nodesChecked
-returns-3 c = simp (right (c .before .before .before .before), ← c .before .before .before .apart-node .ensures, le-ltb _ _ (c .before .before .if2 .left), ← c .before .alike-node .ensures, lt-ltb _ _ (c .if3 .taken))
+returns-3 c =
+    simp (
+      right (c .before .before .before .before),
+      ← c .before .before .before .apart-node .ensures,
+      le-ltb _ _ (c .before .before .if2 .left),
+      ← c .before .alike-node .ensures,
+      lt-ltb _ _ (c .if3 .taken),
+    )
 
 returns-4 : tie.Need-returns-4
 unfolding nodesChecked
-returns-4 c = simp (right (c .before .before .before .before), ← c .before .before .before .apart-node .ensures, le-ltb _ _ (c .before .before .if2 .left), ← c .before .alike-node .ensures, le-ltb _ _ (c .if3 .left))
+returns-4 c =
+    simp (
+      right (c .before .before .before .before),
+      ← c .before .before .before .apart-node .ensures,
+      le-ltb _ _ (c .before .before .if2 .left),
+      ← c .before .alike-node .ensures,
+      le-ltb _ _ (c .if3 .left),
+    )
 
 pub check-in-order-spec : {M : Type 1} → statement M
 check-in-order-spec =

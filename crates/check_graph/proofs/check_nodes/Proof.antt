@@ -26,36 +26,49 @@ mul-if1 c = omega (arith, c .before .before .before .before .before .before .pre
 
 -- what the call says of the starts
 asked : (c : tie.After-bad-starts) → let x = c .before .before .before .before .before .before .args in
-    c .bad-starts .result || not (eqb (length (x .list .now)) (2 * length (x .aid .now))) ≡ badStarts (x .start .now) (x .list .now) || not (eqb (length (x .list .now)) (2 * length (x .aid .now)))
-asked c = let x = c .before .before .before .before .before .before .args in ap (λ (t : Bool). t || not (eqb (length (x .list .now)) (2 * length (x .aid .now)))) (c .bad-starts .ensures)
+    c .bad-starts .result || not (eqb (length (x .list .now)) (2 * length (x .aid .now))) ≡ badStarts (x .start .now) (x .list .now)
+    || not (eqb (length (x .list .now)) (2 * length (x .aid .now)))
+asked c =
+    let x = c .before .before .before .before .before .before .args in
+    ap (λ (t : Bool). t || not (eqb (length (x .list .now)) (2 * length (x .aid .now)))) (c .bad-starts .ensures)
 
 returns : tie.Need-returns
 unfolding nodesChecked
 returns c =
     let x = c .before .before .before .before .before .before .before .args in
-    simp (other-total (x .aid .now) (x .bid .now) (x .start .now) (x .list .now) (c .before .before .before .before .before .before .before .pre .1 .1 .1 .1) (c .before .before .before .before .before .before .before .pre .1 .1 .1 .0 .0) (sym (asked (c .before)) ∙ c .if1 .taken))
+    simp (other-total (x .aid .now) (x .bid .now) (x .start .now) (x .list .now)
+    (c .before .before .before .before .before .before .before .pre .1 .1 .1 .1)
+    (c .before .before .before .before .before .before .before .pre .1 .1 .1 .0 .0) (sym (asked (c .before)) ∙ c .if1 .taken))
 
 -- the starts are right, and the list is as long as it must be
-right : (c : tie.Else1) → let x = c .before .before .before .before .before .before .before .args in (badStarts (x .start .now) (x .list .now) ≡ false) × (length (x .list .now) ≡ 2 * length (x .aid .now))
+right : (c : tie.Else1) → let x =
+    c .before .before .before .before .before .before .before .args in
+    (badStarts (x .start .now) (x .list .now) ≡ false) × (length (x .list .now) ≡ 2 * length (x .aid .now))
 right c = let h = or-false _ _ (sym (asked (c .before)) ∙ c .if1 .left) in (h .0, ne-fails _ _ .to (h .1))
 
 rises : (c : tie.Else1) → let x = c .before .before .before .before .before .before .before .args in Rising (x .start .now) (x .list .now)
-rises c = let x = c .before .before .before .before .before .before .before .args in rising (x .start .now) (x .list .now) (c .before .before .before .before .before .before .before .pre .1 .1 .1 .1) .to (right c .0)
+rises c =
+    let x = c .before .before .before .before .before .before .before .args in
+    rising (x .start .now) (x .list .now) (c .before .before .before .before .before .before .before .pre .1 .1 .1 .1) .to (right c .0)
 
 any-node-wrong-requires : tie.Need-any-node-wrong-requires
-any-node-wrong-requires c κs = let p = c .before .before .before .before .before .before .before .pre in (p .0, (p .1 .0, (p .1 .1 .0, (p .1 .1 .1 .0 .0 .same, rises c))))
+any-node-wrong-requires c κs =
+    let p = c .before .before .before .before .before .before .before .pre in (p .0, (p .1 .0, (p .1 .1 .0, (p .1 .1 .1 .0 .0 .same, rises c))))
 
 returns-2 : tie.Need-returns-2
 returns-2 c =
     let x = c .before .before .before .before .before .before .before .before .before .args in
     let n = none-of _ _ (sym (c .before .any-node-wrong .ensures) ∙ not-is _ (c .if2 .taken)) in
     sym
-    (nodes-fine (lent (x .ax .now) (x .ay .now) (x .bx .now) (x .by .now) (x .aid .now) (x .bid .now) (x .start .now) (x .list .now)) (x .state .now) (rises (c .before .before)) (c .before .before .before .before .before .before .before .before .before .pre .1 .1 .1 .0 .0)
+    (nodes-fine (lent (x .ax .now) (x .ay .now) (x .bx .now) (x .by .now) (x .aid .now) (x .bid .now) (x .start .now) (x .list .now)) (x .state .now)
+    (rises (c .before .before)) (c .before .before .before .before .before .before .before .before .before .pre .1 .1 .1 .0 .0)
     (λ v l. fine-node _ _ _ _ _ _ _ v (n v l))
     (right (c .before .before) .1) (right (c .before .before) .0))
 
 check-in-order-requires : tie.Need-check-in-order-requires
-check-in-order-requires c κs = let p = c .before .before .before .before .before .before .before .before .before .pre in (p .0, (p .1 .0, (p .1 .1 .0, (p .1 .1 .1 .0 .0, p .1 .1 .1 .1))))
+check-in-order-requires c κs =
+    let p = c .before .before .before .before .before .before .before .before .before .pre in
+    (p .0, (p .1 .0, (p .1 .1 .0, (p .1 .1 .1 .0 .0, p .1 .1 .1 .1))))
 
 returns-3 : tie.Need-returns-3
 returns-3 c = search needs

@@ -33,10 +33,14 @@ wide-requires-2 c κs = search needs
 
 -- entry j is a link
 link-j : (c : tie.After-wide) → c .wide .result < length (c .before .before .before .before .before .args .aid .now)
-link-j c = let p = c .before .before .before .before .before .pre in rw (c .wide .ensures) (p .1 .1 .1 .0 (c .before .before .before .before .before .args .j) (p .1 .1 .1 .1))
+link-j c =
+    let p = c .before .before .before .before .before .pre in
+    rw (c .wide .ensures) (p .1 .1 .1 .0 (c .before .before .before .before .before .args .j) (p .1 .1 .1 .1))
 
 end-at-requires : tie.Need-end-at-requires
-end-at-requires c κs = let p = c .before .before .before .before .before .before .before .before .pre in (p .0, rw (c .wide2 .ensures) (p .1 .1 .1 .0 0 (omega (arith, p .1 .1 .1 .1))))
+end-at-requires c κs =
+    let p = c .before .before .before .before .before .before .before .before .pre in
+    (p .0, rw (c .wide2 .ensures) (p .1 .1 .1 .0 0 (omega (arith, p .1 .1 .1 .1))))
 
 end-at-requires-2 : tie.Need-end-at-requires-2
 end-at-requires-2 c κs = (c .before .before .before .before .before .before .before .before .before .pre .0, link-j (c .before .before .before .before))
@@ -45,11 +49,15 @@ differ-requires : tie.Need-differ-requires
 differ-requires c κs = search needs
 
 alike-before-requires : tie.Need-alike-before-requires
-alike-before-requires c κs = let p = c .before .before .before .before .before .before .before .before .before .before .before .pre in (p .0, (p .1 .0, (p .1 .1 .0, (p .1 .1 .1 .0, omega (arith, p .1 .1 .1 .1), link-j (c .before .before .before .before .before .before)))))
+alike-before-requires c κs =
+    let p = c .before .before .before .before .before .before .before .before .before .before .before .pre in
+    (p .0, (p .1 .0, (p .1 .1 .0, (p .1 .1 .1 .0, omega (arith, p .1 .1 .1 .1), link-j (c .before .before .before .before .before .before)))))
 
 -- a link's end at the node
 abbrev end : tie.After-alike-before → ℕ → Point
-end c = let x = c .before .before .before .before .before .before .before .before .before .before .before .before .args in endAt (pointAt (x .ax .now) (x .ay .now)) (pointAt (x .bx .now) (x .by .now)) (nodeAt (x .aid .now)) (x .v)
+end c = let x =
+    c .before .before .before .before .before .before .before .before .before .before .before .before .args in
+    endAt (pointAt (x .ax .now) (x .ay .now)) (pointAt (x .bx .now) (x .by .now)) (nodeAt (x .aid .now)) (x .v)
 
 returns : tie.Need-returns
 returns c =
@@ -58,8 +66,11 @@ returns c =
     ap₂ _||_
     (ap₂ _||_
     (c .before .before .before .before .before .before .stands-before .ensures ∙ ap (standsBefore (x .here .now) (x .j)) f)
-    (c .before .differ .ensures ∙ ap₂ differ (c .before .before .before .end-at .ensures ∙ ap (end c) (c .before .before .before .before .wide2 .ensures)) (c .before .before .end-at2 .ensures ∙ ap (end c) f)))
-    (c .alike-before .ensures ∙ ap (alikeBefore (pointAt (x .ax .now) (x .ay .now)) (pointAt (x .bx .now) (x .by .now)) (nodeAt (x .aid .now)) (x .state .now) (x .here .now) (x .v) (x .j)) f)
+    (c .before .differ .ensures ∙ ap₂ differ
+    (c .before .before .before .end-at .ensures ∙ ap (end c) (c .before .before .before .before .wide2 .ensures))
+    (c .before .before .end-at2 .ensures ∙ ap (end c) f)))
+    (c .alike-before .ensures ∙ ap (alikeBefore (pointAt (x .ax .now) (x .ay .now)) (pointAt (x .bx .now) (x .by .now)) (nodeAt (x .aid .now))
+    (x .state .now) (x .here .now) (x .v) (x .j)) f)
 
 pub clashes-spec : {M : Type 1} → statement M
 clashes-spec =

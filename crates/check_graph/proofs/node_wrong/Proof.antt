@@ -32,7 +32,8 @@ returns : tie.Need-returns
 returns c =
     let x = c .before .before .before .before .before .before .before .before .before .before .args in
     c .bridge-wrong .ensures ∙
-    ap₂ (bridgeWrong (x .aid .now) (x .bid .now) (pointAt (x .ax .now) (x .ay .now)) (pointAt (x .bx .now) (x .by .now)) (nodeAt (x .aid .now)) (x .state .now) (x .v)) (c .before .before .before .wide .ensures) (c .before .wide2 .ensures) ∙
+    ap₂ (bridgeWrong (x .aid .now) (x .bid .now) (pointAt (x .ax .now) (x .ay .now)) (pointAt (x .bx .now) (x .by .now)) (nodeAt (x .aid .now))
+    (x .state .now) (x .v)) (c .before .before .before .wide .ensures) (c .before .wide2 .ensures) ∙
     sym (pick-true _ _ (eq-eqb _ 2 (c .before .before .before .before .before .if1 .taken)))
 
 stray-in-requires : tie.Need-stray-in-requires
@@ -45,13 +46,16 @@ returns-2 c = sym (pick-false _ _ (ne-eqb _ 2 (c .before .before .if1 .left)) �
 links : (c : tie.Else2) → let x = c .before .before .before .before .before .before .before .args in Below (x .here .now) (length (x .aid .now))
 links c i l =
     let x = c .before .before .before .before .before .before .before .args in
-    some-fails (length (x .here .now)) (λ j. no-stray (x .aid .now) (x .bid .now) (x .v) (getD (x .here .now) j 0)) .to (sym (c .before .stray-in .ensures) ∙ c .if2 .left) i l .below
+    some-fails (length (x .here .now)) (λ j. no-stray (x .aid .now) (x .bid .now) (x .v) (getD (x .here .now) j 0)) .to (sym
+    (c .before .stray-in .ensures) ∙ c .if2 .left) i l .below
 
 any-clash-requires : tie.Need-any-clash-requires
 any-clash-requires c κs = let p = c .before .before .before .before .before .before .before .pre in (p .0, (p .1 .0, (p .1 .1 .0, links c)))
 
 returns-3 : tie.Need-returns-3
-returns-3 c = c .any-clash .ensures ∙ sym (pick-false _ _ (ne-eqb _ 2 (c .before .before .before .if1 .left)) ∙ pick-false _ _ (sym (c .before .before .stray-in .ensures) ∙ c .before .if2 .left))
+returns-3 c =
+    c .any-clash .ensures ∙ sym (pick-false _ _ (ne-eqb _ 2 (c .before .before .before .if1 .left))
+    ∙ pick-false _ _ (sym (c .before .before .stray-in .ensures) ∙ c .before .if2 .left))
 
 pub node-wrong-spec : {M : Type 1} → statement M
 node-wrong-spec =

@@ -36,7 +36,11 @@ loop-less : tie.Need-loop-less Inv-loop μ-loop
 loop-less c = omega arith
 
 loop-again : tie.Need-loop-again Inv-loop μ-loop
-loop-again c = (omega arith, ap₂ _||_ (c .before .before .before .loop .inv .1) (ap (λ (y : ℕ). eqb y (c .before .before .before .before .before .args .x)) (c .wide .ensures)) ∙ sym (some-more _ _))
+loop-again c = (
+  omega arith,
+  ap₂ _||_ (c .before .before .before .loop .inv .1)
+      (ap (λ (y : ℕ). eqb y (c .before .before .before .before .before .args .x)) (c .wide .ensures)) ∙ sym (some-more _ _),
+)
 
 returns : tie.Need-returns Inv-loop μ-loop
 returns c = let e : c .before .loop .i ≡ c .before .before .before .args .j = omega arith in c .before .loop .inv .1 ∙ rw e

@@ -33,7 +33,9 @@ loop-again : tie.Need-loop-again Inv-loop μ-loop
 loop-again c = (omega arith, ap₂ _||_ (c .before .before .loop .inv .1) (c .link-wrong .ensures) ∙ sym (some-more _ _))
 
 returns : tie.Need-returns Inv-loop μ-loop
-returns c = let e : c .before .loop .k ≡ length (c .before .before .before .before .before .before .before .before .args .aid .now) = omega arith in c .before .loop .inv .1 ∙ rw e
+returns c =
+    let e : c .before .loop .k ≡ length (c .before .before .before .before .before .before .before .before .args .aid .now) = omega arith in
+    c .before .loop .inv .1 ∙ rw e
 
 pub any-bad-link-spec : {M : Type 1} → statement M
 any-bad-link-spec =

@@ -23,7 +23,11 @@ any-out-of-order-requires : tie.Need-any-out-of-order-requires
 any-out-of-order-requires c κs = let e = c .before .before .before .before .before .before .before .before .pre .0 in e .ay ∙ sym (e .ax)
 
 -- check 4's test, by the number of links
-order : (c : tie.After-any-out-of-order) → let x = c .before .before .before .before .before .before .before .before .before .args in c .any-out-of-order .result ≡ some (outOfOrder (aOf (lent (x .ax .now) (x .ay .now) (x .bx .now) (x .by .now) (x .aid .now) (x .bid .now) (x .start .now) (x .list .now)))) (length (x .aid .now))
+order : (c : tie.After-any-out-of-order) → let x =
+    c .before .before .before .before .before .before .before .before .before .args in
+    c .any-out-of-order .result ≡ some
+    (outOfOrder (aOf (lent (x .ax .now) (x .ay .now) (x .bx .now) (x .by .now) (x .aid .now) (x .bid .now) (x .start .now) (x .list .now))))
+    (length (x .aid .now))
 order c = rw (c .before .before .before .before .before .before .before .before .before .pre .0 .ax) at (c .any-out-of-order .ensures)
 
 out-of-order-requires : tie.Need-out-of-order-requires
@@ -32,7 +36,12 @@ out-of-order-requires c κs = let e = c .before .before .before .before .before 
 returns-2 : tie.Need-returns-2
 unfolding eachChecked
 returns-2 c =
-    simp (sym (c .before .before .before .before .any-bad-link .ensures) ∙ c .before .before .before .if1 .left, sym (order (c .before .before)) ∙ c .before .if2 .taken, rw (c .before .before .before .before .before .before .before .before .before .before .before .pre .0 .ax) at (c .out-of-order .ensures))
+    simp (
+      sym (c .before .before .before .before .any-bad-link .ensures) ∙ c .before .before .before .if1 .left,
+      sym (order (c .before .before))
+          ∙ c .before .if2 .taken,
+      rw (c .before .before .before .before .before .before .before .before .before .before .before .pre .0 .ax) at (c .out-of-order .ensures),
+    )
 
 returns-3 : tie.Need-returns-3
 unfolding eachChecked

@@ -29,16 +29,36 @@ few-contours-requires c κs = search needs
 
 returns-2 : tie.Need-returns-2
 unfolding linksChecked
-returns-2 c = simp (le-ltb _ _ (c .before .before .before .before .before .if1 .left), rw (c .before .before .before .before .unlike .ensures, c .before .before .before .few-points .ensures, c .before .before .unlike-band .ensures, c .before .few-contours .ensures) at (c .if2 .taken))
+returns-2 c =
+    simp (
+      le-ltb _ _ (c .before .before .before .before .before .if1 .left),
+      rw (
+        c .before .before .before .before .unlike .ensures,
+        c .before .before .before .few-points .ensures,
+        c .before .before .unlike-band .ensures,
+        c .before .few-contours .ensures,
+      ) at (c .if2 .taken),
+    )
 
 -- check 2 finds nothing
 right :
     (c : tie.Else2) →
     let x = c .before .before .before .before .before .before .before .before .before .before .before .before .args in
-    unlike (lent (x .ax .now) (x .ay .now) (x .bx .now) (x .by .now) (x .aid .now) (x .bid .now) (x .start .now) (x .list .now)) || fewPoints (length (x .aid .now)) (x .points) || unlikeBand (length (x .aid .now)) (x .top .now) (x .state .now) || fewContours (length (x .aid .now)) (x .firsts) (x .lens) (x .kinds) ≡ false
-right c = rw (c .before .before .before .before .unlike .ensures, c .before .before .before .few-points .ensures, c .before .before .unlike-band .ensures, c .before .few-contours .ensures) at (c .if2 .left)
+    unlike (lent (x .ax .now) (x .ay .now) (x .bx .now) (x .by .now) (x .aid .now) (x .bid .now) (x .start .now) (x .list .now))
+    || fewPoints (length (x .aid .now)) (x .points) || unlikeBand (length (x .aid .now)) (x .top .now) (x .state .now)
+    || fewContours (length (x .aid .now)) (x .firsts) (x .lens) (x .kinds) ≡ false
+right c =
+    rw (
+      c .before .before .before .before .unlike .ensures,
+      c .before .before .before .few-points .ensures,
+      c .before .before .unlike-band .ensures,
+      c .before .few-contours .ensures,
+    ) at (c .if2 .left)
 
-fit : (c : tie.Else2) → let x = c .before .before .before .before .before .before .before .before .before .before .before .before .args in (unlike (lent (x .ax .now) (x .ay .now) (x .bx .now) (x .by .now) (x .aid .now) (x .bid .now) (x .start .now) (x .list .now)) ≡ false) × (unlikeBand (length (x .aid .now)) (x .top .now) (x .state .now) ≡ false)
+fit : (c : tie.Else2) → let x =
+    c .before .before .before .before .before .before .before .before .before .before .before .before .args in
+    (unlike (lent (x .ax .now) (x .ay .now) (x .bx .now) (x .by .now) (x .aid .now) (x .bid .now) (x .start .now) (x .list .now)) ≡ false)
+    × (unlikeBand (length (x .aid .now)) (x .top .now) (x .state .now) ≡ false)
 fit c = let h = or-false _ _ (or-false _ _ (right c) .0) in (or-false _ _ (h .0) .0, h .1)
 
 check-each-requires : tie.Need-check-each-requires

@@ -32,16 +32,25 @@ misnamed-requires : tie.Need-misnamed-requires
 misnamed-requires c κs = search needs
 
 shared-slice-read-misflagged : tie.Need-shared-slice-read-misflagged
-shared-slice-read-misflagged c = omega (arith, c .before .before .before .before .before .before .before .before .before .before .before .before .before .pre .1 .0 .0)
+shared-slice-read-misflagged c =
+    omega (arith, c .before .before .before .before .before .before .before .before .before .before .before .before .before .pre .1 .0 .0)
 
 shared-slice-read-misflagged-2 : tie.Need-shared-slice-read-misflagged-2
-shared-slice-read-misflagged-2 c = omega (arith, c .before .before .before .before .before .before .before .before .before .before .before .before .before .before .pre .1 .0 .1)
+shared-slice-read-misflagged-2 c =
+    omega (arith, c .before .before .before .before .before .before .before .before .before .before .before .before .before .before .pre .1 .0 .1)
 
 misflagged-requires : tie.Need-misflagged-requires
 misflagged-requires c κs = search needs
 
 returns : tie.Need-returns
-returns c = simp (c .before .before .before .before .before .before .misplaced .ensures, c .before .before .before .before .before .before .before .before .point-at .ensures, c .before .before .before .before .before .before .before .point-at2 .ensures, c .before .before .before .misnamed .ensures, c .misflagged .ensures)
+returns c =
+    simp (
+      c .before .before .before .before .before .before .misplaced .ensures,
+      c .before .before .before .before .before .before .before .before .point-at .ensures,
+      c .before .before .before .before .before .before .before .point-at2 .ensures,
+      c .before .before .before .misnamed .ensures,
+      c .misflagged .ensures,
+    )
 
 pub link-wrong-spec : {M : Type 1} → statement M
 link-wrong-spec =

@@ -38,7 +38,11 @@ here :
     let x = c .before .before .before .before .before .args in
     c .before2 .result ≡ outOfOrder (pointAt (x .ax .now) (x .ay .now)) (c .before .before .before .before .loop .k)
 here c =
-    c .before2 .ensures ∙ simp (lt-ltb 0 (c .before .before .before .before .loop .k) (omega arith), c .before .before .point-at .ensures, c .before .point-at2 .ensures)
+    c .before2 .ensures ∙ simp (
+      lt-ltb 0 (c .before .before .before .before .loop .k) (omega arith),
+      c .before .before .point-at .ensures,
+      c .before .point-at2 .ensures,
+    )
 
 returns : tie.Need-returns Inv-loop μ-loop
 returns c = sym (found _ _ _ (omega arith) (c .before .before .before .before .before .loop .inv .1) (sym (here (c .before)) ∙ c .if1 .taken))

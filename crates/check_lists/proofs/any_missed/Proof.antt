@@ -29,7 +29,9 @@ wide-requires : tie.Need-wide-requires Inv-loop μ-loop
 wide-requires c κs = search needs
 
 not-once-requires : tie.Need-not-once-requires Inv-loop μ-loop
-not-once-requires c κs = let s = c .before .before .before .before .before .before .before .before in (s .pre .0, omega (arith, s .pre .1 .a-below (c .before .before .before .loop .k) (omega arith)))
+not-once-requires c κs =
+    let s = c .before .before .before .before .before .before .before .before in
+    (s .pre .0, omega (arith, s .pre .1 .a-below (c .before .before .before .loop .k) (omega arith)))
 
 mul-wide-2 : tie.Need-mul-wide-2 Inv-loop μ-loop
 mul-wide-2 c = omega arith
@@ -41,10 +43,19 @@ wide-requires-2 : tie.Need-wide-requires-2 Inv-loop μ-loop
 wide-requires-2 c κs = search needs
 
 not-once-requires-2 : tie.Need-not-once-requires-2 Inv-loop μ-loop
-not-once-requires-2 c κs = let s = c .before .before .before .before .before .before .before .before .before .before .before in (s .pre .0, omega (arith, s .pre .1 .b-below (c .before .before .before .before .before .before .loop .k) (omega arith)))
+not-once-requires-2 c κs =
+    let s = c .before .before .before .before .before .before .before .before .before .before .before in
+    (s .pre .0, omega (arith, s .pre .1 .b-below (c .before .before .before .before .before .before .loop .k) (omega arith)))
 
 returns : tie.Need-returns Inv-loop μ-loop
-returns c = sym (some-yes _ _ _ (omega arith) (c .before .before .before .before .before .before .before .before .loop .inv .1) (rw (c .before .before .before .before .not-once .ensures, c .before .before .before .before .before .wide .ensures, c .before .not-once2 .ensures, c .before .before .wide2 .ensures) at (c .if1 .taken)))
+returns c =
+    sym (some-yes _ _ _ (omega arith) (c .before .before .before .before .before .before .before .before .loop .inv .1)
+    (rw (
+      c .before .before .before .before .not-once .ensures,
+      c .before .before .before .before .before .wide .ensures,
+      c .before .not-once2 .ensures,
+      c .before .before .wide2 .ensures,
+    ) at (c .if1 .taken)))
 
 add-k : tie.Need-add-k Inv-loop μ-loop
 add-k c = omega arith
@@ -53,7 +64,16 @@ loop-less : tie.Need-loop-less Inv-loop μ-loop
 loop-less c = omega arith
 
 loop-again : tie.Need-loop-again Inv-loop μ-loop
-loop-again c = (omega arith, below-more _ _ (c .before .before .before .before .before .before .before .before .loop .inv .1) (rw (c .before .before .before .before .not-once .ensures, c .before .before .before .before .before .wide .ensures, c .before .not-once2 .ensures, c .before .before .wide2 .ensures) at (c .if1 .left)))
+loop-again c = (
+  omega arith,
+  below-more _ _ (c .before .before .before .before .before .before .before .before .loop .inv .1)
+      (rw (
+        c .before .before .before .before .not-once .ensures,
+        c .before .before .before .before .before .wide .ensures,
+        c .before .not-once2 .ensures,
+        c .before .before .wide2 .ensures,
+      ) at (c .if1 .left)),
+)
 
 returns-2 : tie.Need-returns-2 Inv-loop μ-loop
 returns-2 c = sym (some-no _ _ (λ k l. c .before .loop .inv .1 k (omega arith)))

@@ -28,7 +28,9 @@ stray-in-requires : tie.Need-stray-in-requires Inv-loop μ-loop
 stray-in-requires c κs = search needs
 
 returns : tie.Need-returns Inv-loop μ-loop
-returns c = sym (some-yes _ _ _ (omega arith) (c .before .before .before .before .loop .inv .1) (rw (c .before .before .entries .ensures) at (sym (c .before .stray-in .ensures) ∙ c .if1 .taken)))
+returns c =
+    sym (some-yes _ _ _ (omega arith) (c .before .before .before .before .loop .inv .1)
+    (rw (c .before .before .entries .ensures) at (sym (c .before .stray-in .ensures) ∙ c .if1 .taken)))
 
 add-v : tie.Need-add-v Inv-loop μ-loop
 add-v c = omega arith
@@ -37,7 +39,11 @@ loop-less : tie.Need-loop-less Inv-loop μ-loop
 loop-less c = omega arith
 
 loop-again : tie.Need-loop-again Inv-loop μ-loop
-loop-again c = (omega arith, below-more _ _ (c .before .before .before .before .loop .inv .1) (rw (c .before .before .entries .ensures) at (sym (c .before .stray-in .ensures) ∙ c .if1 .left)))
+loop-again c = (
+  omega arith,
+  below-more _ _ (c .before .before .before .before .loop .inv .1)
+      (rw (c .before .before .entries .ensures) at (sym (c .before .stray-in .ensures) ∙ c .if1 .left)),
+)
 
 returns-2 : tie.Need-returns-2 Inv-loop μ-loop
 returns-2 c = sym (some-no _ _ (λ k l. c .before .loop .inv .1 k (omega arith)))

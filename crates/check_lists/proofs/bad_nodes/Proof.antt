@@ -14,7 +14,10 @@ returns c = simp (sym (c .before .bad-starts .ensures) ∙ c .if1 .taken)
 
 -- the starts are right
 rises : (c : tie.Else1) → let x = c .before .before .before .before .before .before .args in Rising (x .start .now) (x .list .now)
-rises c = let x = c .before .before .before .before .before .before .args in rising (x .start .now) (x .list .now) (c .before .before .before .before .before .before .pre .1) .to (sym (c .before .bad-starts .ensures) ∙ c .if1 .left)
+rises c =
+    let x = c .before .before .before .before .before .before .args in
+    rising (x .start .now) (x .list .now) (c .before .before .before .before .before .before .pre .1) .to (sym (c .before .bad-starts .ensures)
+    ∙ c .if1 .left)
 
 any-stray-requires : tie.Need-any-stray-requires
 any-stray-requires c κs = (c .before .before .before .before .before .before .pre .0 .same, rises c)

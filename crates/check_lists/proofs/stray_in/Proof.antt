@@ -32,7 +32,9 @@ stray-requires : tie.Need-stray-requires Inv-loop μ-loop
 stray-requires c κs = search needs
 
 returns : tie.Need-returns Inv-loop μ-loop
-returns c = sym (some-yes _ _ _ (omega arith) (c .before .before .before .before .before .loop .inv .1) (rw (c .before .before .wide .ensures) at (sym (c .before .stray .ensures) ∙ c .if1 .taken)))
+returns c =
+    sym (some-yes _ _ _ (omega arith) (c .before .before .before .before .before .loop .inv .1)
+    (rw (c .before .before .wide .ensures) at (sym (c .before .stray .ensures) ∙ c .if1 .taken)))
 
 add-i : tie.Need-add-i Inv-loop μ-loop
 add-i c = omega arith
@@ -41,7 +43,11 @@ loop-less : tie.Need-loop-less Inv-loop μ-loop
 loop-less c = omega arith
 
 loop-again : tie.Need-loop-again Inv-loop μ-loop
-loop-again c = (omega arith, below-more _ _ (c .before .before .before .before .before .loop .inv .1) (rw (c .before .before .wide .ensures) at (sym (c .before .stray .ensures) ∙ c .if1 .left)))
+loop-again c = (
+  omega arith,
+  below-more _ _ (c .before .before .before .before .before .loop .inv .1)
+      (rw (c .before .before .wide .ensures) at (sym (c .before .stray .ensures) ∙ c .if1 .left)),
+)
 
 returns-2 : tie.Need-returns-2 Inv-loop μ-loop
 returns-2 c = sym (some-no _ _ (λ k l. c .before .loop .inv .1 k (omega arith)))

@@ -24,14 +24,20 @@ scaled-requires-2 c κs = search needs
 
 returns : tie.Need-returns
 returns c =
-    let u = c .before .before .before .before .before .before .before .before .between in let v = c .before .before .before .before .before .before .before .between2 in let i = c .before .before .before .before .before .before .height-over in let x = c .before .before .before .before .scaled in let j = c .before .before .before .height-over2 in let y = c .before .scaled2 in
+    let u = c .before .before .before .before .before .before .before .before .between in
+    let v = c .before .before .before .before .before .before .before .between2 in
+    let i = c .before .before .before .before .before .before .height-over in let x = c .before .before .before .before .scaled in
+    let j = c .before .before .before .height-over2 in let y = c .before .scaled2 in
     nearer-yes _ _ _ (i .result) (j .result) (u .result) (v .result) (x .result) (y .result) (i .ensures .1) (j .ensures .1) (u .ensures .1) (v .ensures .1)
     (i .ensures .0) (j .ensures .0) (u .ensures .0) (v .ensures .0) (x .ensures .0) (y .ensures .0) (x .ensures .1) (y .ensures .1)
     (c .if1 .taken)
 
 returns-2 : tie.Need-returns-2
 returns-2 c =
-    let u = c .before .before .before .before .before .before .before .before .before .between in let v = c .before .before .before .before .before .before .before .before .between2 in let i = c .before .before .before .before .before .before .before .height-over in let x = c .before .before .before .before .before .scaled in let j = c .before .before .before .before .height-over2 in let y = c .before .before .scaled2 in
+    let u = c .before .before .before .before .before .before .before .before .before .between in
+    let v = c .before .before .before .before .before .before .before .before .between2 in
+    let i = c .before .before .before .before .before .before .before .height-over in let x = c .before .before .before .before .before .scaled in
+    let j = c .before .before .before .before .height-over2 in let y = c .before .before .scaled2 in
     nearer-no _ _ _ (i .result) (j .result) (u .result) (v .result) (x .result) (y .result) (i .ensures .1) (j .ensures .1) (u .ensures .1) (v .ensures .1)
     (i .ensures .0) (j .ensures .0) (u .ensures .0) (v .ensures .0) (x .ensures .0) (y .ensures .0) (x .ensures .1) (y .ensures .1)
     (c .before .if1 .left) (c .if2 .taken)
@@ -41,7 +47,11 @@ wins-tie-requires c κs = search needs
 
 returns-3 : tie.Need-returns-3
 returns-3 c =
-    let u = c .before .before .before .before .before .before .before .before .before .before .between in let v = c .before .before .before .before .before .before .before .before .before .between2 in let i = c .before .before .before .before .before .before .before .before .height-over in let x = c .before .before .before .before .before .before .scaled in let j = c .before .before .before .before .before .height-over2 in let y = c .before .before .before .scaled2 in
+    let u = c .before .before .before .before .before .before .before .before .before .before .between in
+    let v = c .before .before .before .before .before .before .before .before .before .between2 in
+    let i = c .before .before .before .before .before .before .before .before .height-over in
+    let x = c .before .before .before .before .before .before .scaled in let j = c .before .before .before .before .before .height-over2 in
+    let y = c .before .before .before .scaled2 in
     nearer-rest _ _ _ (i .result) (j .result) (u .result) (v .result) (x .result) (y .result) (i .ensures .1) (j .ensures .1) (u .ensures .1) (v .ensures .1)
     (i .ensures .0) (j .ensures .0) (u .ensures .0) (v .ensures .0) (x .ensures .0) (y .ensures .0) (x .ensures .1) (y .ensures .1)
     _ (c .wins-tie .ensures) (c .before .before .if1 .left) (c .before .if2 .left)

@@ -26,7 +26,8 @@ returns-3 : tie.Need-returns-3
 returns-3 c =
     let h = c .before .before .before .before .before .height-over in
     let e = rw (c .before .before .between .ensures .0, c .before .between2 .ensures .0) at (c .cross-product .ensures .0) in
-    under-on _ _ (h .result) (h .ensures .0) (h .ensures .1) (c .cross-product .result) e (c .cross-product .ensures .1) (c .before .before .before .before .if1 .left) (c .before .before .before .if2 .left)
+    under-on _ _ (h .result) (h .ensures .0) (h .ensures .1) (c .cross-product .result) e (c .cross-product .ensures .1)
+    (c .before .before .before .before .if1 .left) (c .before .before .before .if2 .left)
 
 pub lies-under-spec : {M : Type 1} → statement M
 lies-under-spec =

@@ -12,7 +12,8 @@ use borrow.Author.Needs.{needs}
 use Rattle.check_graph.proofs.check_graph.Reads as check-graph-reads
 
 abbrev g : tie.Start → Lent
-g s = lent (s .args .ax .now) (s .args .ay .now) (s .args .bx .now) (s .args .by .now) (s .args .aid .now) (s .args .bid .now) (s .args .start .now) (s .args .list .now)
+g s = lent (s .args .ax .now) (s .args .ay .now) (s .args .bx .now) (s .args .by .now) (s .args .aid .now) (s .args .bid .now) (s .args .start .now)
+    (s .args .list .now)
 
 abbrev b : tie.Start → Buffers
 b s = buffers (s .args .state .now) (s .args .points .now) (s .args .first .now) (s .args .len .now) (s .args .kind .now)
@@ -27,13 +28,17 @@ enum-told : tie.Need-enum-told
 enum-told c = search needs
 
 extract-fine-requires : tie.Need-extract-fine-requires
-extract-fine-requires c κs = sym (c .before .before .before .before .before .before .before .check-graph .ensures) ∙ c .before .before .before .before .before .enum-told .given .1
+extract-fine-requires c κs =
+    sym (c .before .before .before .before .before .before .before .check-graph .ensures) ∙ c .before .before .before .before .before .enum-told .given .1
 
 same-length : tie.Need-same-length
 same-length c = search needs
 
 returns : tie.Need-returns
-returns c = let s = c .before .before .before .before .before .before .before .before .before .before .before .before .before .before in after-refusal (g s) (s .args .top .now) (s .args .clockwise) (s .args .minimum) (b s) _ _ (sym (c .before .before .before .check-graph .ensures) ∙ c .before .number .given .1)
+returns c =
+    let s = c .before .before .before .before .before .before .before .before .before .before .before .before .before .before in
+    after-refusal (g s) (s .args .top .now) (s .args .clockwise) (s .args .minimum) (b s) _ _ (sym (c .before .before .before .check-graph .ensures)
+    ∙ c .before .number .given .1)
 
 same-length-2 : tie.Need-same-length-2
 same-length-2 c = search needs
@@ -51,7 +56,15 @@ same-length-6 : tie.Need-same-length-6
 same-length-6 c = search needs
 
 returns-2 : tie.Need-returns-2
-returns-2 c = let s = c .before .before .before .before .before .before .before .before .before .before .before .before .before .before .before .before .before .before .before .before .before .before .before .before .before .before .before .before in c .before .before .before .before .before .before .before .before .before .extract-fine .ensures ∙ after-fine (g s) (s .args .top .now) (s .args .clockwise) (s .args .minimum) (b s) (sym (c .before .before .before .before .before .before .before .before .before .before .before .before .before .before .before .before .before .check-graph .ensures) ∙ c .before .before .before .before .before .before .before .before .before .before .before .before .before .before .before .enum-told .given .1)
+returns-2 c =
+    let s = c
+    .before .before .before .before .before .before .before .before .before .before .before .before .before .before .before .before .before .before
+    .before .before .before .before .before .before .before .before .before .before in
+    c .before .before .before .before .before .before .before .before .before .extract-fine .ensures ∙ after-fine (g s) (s .args .top .now)
+    (s .args .clockwise) (s .args .minimum) (b s)
+    (sym (c .before .before .before .before .before .before .before .before .before .before .before .before .before .before .before .before .before
+    .check-graph .ensures)
+    ∙ c .before .before .before .before .before .before .before .before .before .before .before .before .before .before .before .enum-told .given .1)
 
 pub extract-spec : {M : Type 1} → statement M
 extract-spec =

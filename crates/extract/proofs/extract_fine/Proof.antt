@@ -16,15 +16,18 @@ use Rattle.finish.proofs.finish.Reads as finish-reads
 use Rattle.scan.proofs.scan_links.Reads as scan-links-reads
 
 abbrev g : tie.Start → Lent
-g s = lent (s .args .ax .now) (s .args .ay .now) (s .args .bx .now) (s .args .by .now) (s .args .aid .now) (s .args .bid .now) (s .args .start .now) (s .args .list .now)
+g s = lent (s .args .ax .now) (s .args .ay .now) (s .args .bx .now) (s .args .by .now) (s .args .aid .now) (s .args .bid .now) (s .args .start .now)
+    (s .args .list .now)
 
 abbrev b : tie.Start → Buffers
 b s = buffers (s .args .state .now) (s .args .points .now) (s .args .first .now) (s .args .len .now) (s .args .kind .now)
 
-facts : (s : tie.Start) → FineGraph (g s) (s .args .top .now) (s .args .state .now) (room (length (s .args .points .now)) (length (s .args .first .now)) (length (s .args .len .now)) (length (s .args .kind .now)))
+facts : (s : tie.Start) → FineGraph (g s) (s .args .top .now) (s .args .state .now)
+    (room (length (s .args .points .now)) (length (s .args .first .now)) (length (s .args .len .now)) (length (s .args .kind .now)))
 facts s = fine (g s) (s .args .top .now) (s .args .state .now) _ (s .pre)
 
-roomy : (s : tie.Start) → Roomy (length (s .args .state .now)) (length (s .args .points .now)) (length (s .args .first .now)) (length (s .args .len .now)) (length (s .args .kind .now))
+roomy : (s : tie.Start) → Roomy (length (s .args .state .now)) (length (s .args .points .now)) (length (s .args .first .now))
+    (length (s .args .len .now)) (length (s .args .kind .now))
 roomy s = roomy-of (g s) (s .args .top .now) (s .args .state .now) _ _ _ _ (facts s)
 
 -- where the scan was called
@@ -39,8 +42,14 @@ left o =
 
 scan-links-requires : tie.Need-scan-links-requires
 scan-links-requires c κs =
-    let s = c .before .before .before .before .before .before .before .before .before .before .before .before .before .before in
-    ((shape-of (g s) (s .args .top .now) (s .args .state .now) _ _ _ _ (facts s), tops-long (g s) (s .args .top .now) (s .args .state .now) _ _ _ _ (facts s)), roomy s)
+    let s = c .before .before .before .before .before .before .before .before .before .before .before .before .before .before in (
+      (
+        shape-of (g s) (s .args .top .now) (s .args .state .now) _ _ _ _ (facts s),
+        tops-long (g s) (s .args .top .now) (s .args .state .now) _ _ _ _
+            (facts s),
+      ),
+      roomy s,
+    )
 
 finish-requires : tie.Need-finish-requires
 finish-requires c κs =
@@ -66,11 +75,15 @@ same-length-5 c = search needs
 
 returns : tie.Need-returns
 returns c =
-    let o = c .before .before .before .before .before .before .before .before .before .before .before .before .before .before .before .before .before .before .before .before .before .before .before .before in
+    let o = c
+    .before .before .before .before .before .before .before .before .before .before .before .before .before .before .before .before .before
+    .before .before .before .before .before .before .before in
     let s = at-start o in
     let k = o .scan-links .kept .1 .1 .1 .1 .1 .1 .1 .1 .1 .1 .1 in
-    finished-as (b s) (left o) (roomy s) (k .0) (k .1 .0) (k .1 .1 .0) (k .1 .1 .1 .0) (graphOf (g s) (s .args .top .now)) (s .args .settings .clockwise) (s .args .settings .minimum)
-    (unmarked (g s) (s .args .top .now) (s .args .state .now) _ _ _ _ (facts s)) (o .scan-links .ensures .1 .1) _ (o .scan-links .result) (o .scan-links .ensures .0) (c .before .before .before .before .before .before .before .before .before .finish .ensures)
+    finished-as (b s) (left o) (roomy s) (k .0) (k .1 .0) (k .1 .1 .0) (k .1 .1 .1 .0) (graphOf (g s) (s .args .top .now))
+    (s .args .settings .clockwise) (s .args .settings .minimum)
+    (unmarked (g s) (s .args .top .now) (s .args .state .now) _ _ _ _ (facts s)) (o .scan-links .ensures .1 .1) _ (o .scan-links .result)
+    (o .scan-links .ensures .0) (c .before .before .before .before .before .before .before .before .before .finish .ensures)
 
 pub extract-fine-spec : {M : Type 1} → statement M
 extract-fine-spec =

@@ -24,7 +24,9 @@ enum-known-answer : tie.Need-enum-known-answer
 enum-known-answer c = search needs
 
 trim-requires : tie.Need-trim-requires
-trim-requires c κs = let s = c .before .before .before .before .before .before .before .before .before .before .before in subst (λ (a : Extraction). Holds a (b s)) (c .before .before .before .before .before .answer .given .1) (s .pre)
+trim-requires c κs =
+    let s = c .before .before .before .before .before .before .before .before .before .before .before in
+    subst (λ (a : Extraction). Holds a (b s)) (c .before .before .before .before .before .answer .given .1) (s .pre)
 
 same-length : tie.Need-same-length
 same-length c = search needs
@@ -43,10 +45,14 @@ same-length-5 c = search needs
 
 returns : tie.Need-returns
 returns c =
-    let s = c .before .before .before .before .before .before .before .before .before .before .before .before .before .before .before .before .before .before .before .before .before in
+    let s = c
+    .before .before .before .before .before .before .before .before .before .before .before .before .before .before .before .before .before
+    .before .before .before .before in
     let e = c .before .before .before .before .before .before .before .before .before .clear .ensures in
     (λ i. buffers (e .0 i) (e .1 .0 i) (e .1 .1 .0 i) (e .1 .1 .1 .0 i) (e .1 .1 .1 .1 i))
-    ∙ ap (λ (a : Extraction). finishedBy a (b s)) (sym (c .before .before .before .before .before .before .before .before .before .before .before .before .before .before .before .enum-told .given .1))
+    ∙ ap (λ (a : Extraction). finishedBy a (b s))
+    (sym (c .before .before .before .before .before .before .before .before .before .before .before .before .before .before .before .enum-told
+    .given .1))
 
 same-length-6 : tie.Need-same-length-6
 same-length-6 c = search needs
@@ -62,10 +68,13 @@ same-length-9 c = search needs
 
 returns-2 : tie.Need-returns-2
 returns-2 c =
-    let s = c .before .before .before .before .before .before .before .before .before .before .before .before .before .before .before .before .before .before .before in
+    let s = c
+    .before .before .before .before .before .before .before .before .before .before .before .before .before .before .before .before .before
+    .before .before in
     let e = c .before .before .before .before .before .before .before .trim .ensures in
     (λ i. buffers (s .args .state .now) (e .0 i) (e .1 .0 i) (e .1 .1 .0 i) (e .1 .1 .1 i))
-    ∙ ap (λ (a : Extraction). finishedBy a (b s)) (sym (c .before .before .before .before .before .before .before .before .before .before .before .before .before .answer .given .1))
+    ∙ ap (λ (a : Extraction). finishedBy a (b s))
+    (sym (c .before .before .before .before .before .before .before .before .before .before .before .before .before .answer .given .1))
 
 pub finish-spec : {M : Type 1} → statement M
 finish-spec =

@@ -36,7 +36,9 @@ loop-less : tie.Need-loop-less Inv-loop μ-loop
 loop-less c = search needs
 
 loop-again : tie.Need-loop-again Inv-loop μ-loop
-loop-again c = let l = c .before .before .before .loop in rewriting-again _ _ _ (l .i) (l .state) 0 _ (l .inv) (c .before .before .loop-test .taken) (c .unmarked .ensures)
+loop-again c =
+    let l = c .before .before .before .loop in
+    rewriting-again _ _ _ (l .i) (l .state) 0 _ (l .inv) (c .before .before .loop-test .taken) (c .unmarked .ensures)
 
 same-length : tie.Need-same-length Inv-loop μ-loop
 same-length c = search needs

@@ -29,7 +29,8 @@ wide-requires-2 : tie.Need-wide-requires-2
 wide-requires-2 c κs = search needs
 
 -- the starts of the node and of the next one
-bounds : (c : tie.After-wide2) → (c .before .before .wide .result ≤ c .wide2 .result) × (c .wide2 .result ≤ length (c .before .before .before .before .before .before .args .list .now))
+bounds : (c : tie.After-wide2) → (c .before .before .wide .result ≤ c .wide2 .result)
+    × (c .wide2 .result ≤ length (c .before .before .before .before .before .before .args .list .now))
 bounds c =
     let s = c .before .before .before .before .before .before in
     let h = s .pre .0 .step (s .args .v) (s .pre .1) in

@@ -8,7 +8,7 @@ use Rattle.guovdamas.proofs.found_record.Reads as reads
 use Rattle.guovdamas.proofs.found_record.Lts as lts
 use Rattle.guovdamas.proofs.role_number.Reads as role-number-reads
 use Rattle.guovdamas.proofs.role_owner.Reads as role-owner-reads
-use Rattle.guovdamas.proofs.wide.Reads as wide-reads
+use Rattle.guovdamas.proofs.as_u32.Reads as as-u32-reads
 
 -- src/lib.rt:105:15
 role-number-requires : tie.Need-role-number-requires
@@ -19,13 +19,13 @@ role-owner-requires : tie.Need-role-owner-requires
 role-owner-requires c κs = search needs
 
 -- src/lib.rt:106:16
-wide-requires : tie.Need-wide-requires
-wide-requires c κs = search needs
+as-u32-requires : tie.Need-as-u32-requires
+as-u32-requires c κs = search needs
 
 -- src/lib.rt:99:1
 returns : tie.Need-returns
-returns c = rw (c .wide .ensures, c .before .role-owner .ensures, c .before .before .role-number .ensures) refl
+returns c = rw (c .as-u32 .ensures, c .before .role-owner .ensures, c .before .before .role-number .ensures) refl
 
 pub found-record-spec : {M : Type 1} → statement M
 found-record-spec =
-    tie.close (tie.spec role-number-requires role-owner-requires wide-requires returns)
+    tie.close (tie.spec role-number-requires role-owner-requires as-u32-requires returns)

@@ -38,7 +38,8 @@ same-length-5 c = search needs
 
 -- src/lib.rt:128:1
 returns : tie.Need-returns
-returns c = extraction-numbered (c .extraction-of .ensures) (c .before .before .before .before .before .before .before .before .before .before .extract .ensures)
+returns c =
+    extraction-numbered (c .extraction-of .ensures) (c .before .before .before .before .before .before .before .before .before .before .extract .ensures)
 
 pub guovdamas-extract-spec : {M : Type 1} → statement M
 guovdamas-extract-spec =

@@ -24,7 +24,8 @@ module _ (s : tie.Start) where
   one = area-fits (s .args .area) (s .args .size) (s .pre .1) (omega (arith, s .pre .0 .links))
 
   both : natAbs (s .args .c .«kept_area» +ℤ s .args .area) < 9223372036854775808
-  both = area-fits (s .args .c .«kept_area» +ℤ s .args .area) (s .args .c .walked + s .args .size) (sum-within (s .args .c .«kept_area») (s .args .area) _ _ (s .pre .0 .kept-area) (s .pre .1)) (s .pre .0 .links)
+  both = area-fits (s .args .c .«kept_area» +ℤ s .args .area) (s .args .c .walked + s .args .size)
+      (sum-within (s .args .c .«kept_area») (s .args .area) _ _ (s .pre .0 .kept-area) (s .pre .1)) (s .pre .0 .links)
 
 add-kept-area : tie.Need-add-kept-area
 add-kept-area c = let s = c .before .before in rw (same64 (s .args .c .«kept_area») (small s), same64 (s .args .area) (one s)) (fits64 _ (both s))
@@ -39,7 +40,14 @@ add-t8 : tie.Need-add-t8
 add-t8 c = search needs
 
 returns : tie.Need-returns
-returns c = let s = c .before .before .before .before .before .before in rw (same64 (s .args .c .«kept_area») (small s), same64 (s .args .area) (one s), same64 (s .args .c .«rejected_area») (small′ s), same64 (s .args .c .«kept_area» +ℤ s .args .area) (both s)) refl
+returns c =
+    let s = c .before .before .before .before .before .before in
+    rw (
+      same64 (s .args .c .«kept_area») (small s),
+      same64 (s .args .area) (one s),
+      same64 (s .args .c .«rejected_area») (small′ s),
+      same64 (s .args .c .«kept_area» +ℤ s .args .area) (both s),
+    ) refl
 
 pub kept-counts-spec : {M : Type 1} → statement M
 kept-counts-spec = tie.close (tie.spec add-kept-area add-t6 add-t7 add-t8 returns)

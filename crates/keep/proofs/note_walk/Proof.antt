@@ -29,7 +29,9 @@ abbrev size : tie.Start → ℕ
 size s = s .args .to - s .args .c .points
 
 bound : (c : tie.After-doubled-area) → natAbs (c .doubled-area .result) ≤ size (at-start c) * (2 * wedgeBound)
-bound c = let s = at-start c in part-bound (s .args .points .now) (s .args .c .points) (s .args .to) (c .doubled-area .result) (s .pre .0 .1) (c .doubled-area .ensures .1)
+bound c =
+    let s = at-start c in
+    part-bound (s .args .points .now) (s .args .c .points) (s .args .to) (c .doubled-area .result) (s .pre .0 .1) (c .doubled-area .ensures .1)
 
 -- the area, as it is passed on
 whole : (c : tie.After-doubled-area) → toZ w64 (ofZ w64 (c .doubled-area .result)) ≡ c .doubled-area .result
@@ -68,13 +70,16 @@ enter-contour-requires : tie.Need-enter-contour-requires
 enter-contour-requires c κs =
     let d = c .before .before .before .before .before in
     let s = at-start d in
-    let t = kept-three (size s) (d .doubled-area .result) (s .args .minimum) (sym (rw (whole d) at (c .before .before .before .before .is-kept .ensures)) ∙ c .before .before .before .if1 .taken) in
+    let t = kept-three (size s) (d .doubled-area .result) (s .args .minimum)
+    (sym (rw (whole d) at (c .before .before .before .before .is-kept .ensures)) ∙ c .before .before .before .if1 .taken) in
     let w = s .pre .0 .2 in
     let i : s .args .c .contours < length (s .args .first .now) = omega (arith, w .contours, s .pre .1 .1 .0, t, s .pre .0 .0) in
     ((i, rw (s .pre .1 .1 .1) i, rw (s .pre .1 .1 .2) i), (omega (arith, w .points, w .links), omega (arith, w .links)))
 
 kept-counts-requires : tie.Need-kept-counts-requires
-kept-counts-requires c κs = let d = c .before .before .before .before .before .before .before .before .before .before .before .before in (at-start d .pre .0 .2, rw (whole d) (bound d))
+kept-counts-requires c κs =
+    let d = c .before .before .before .before .before .before .before .before .before .before .before .before in
+    (at-start d .pre .0 .2, rw (whole d) (bound d))
 
 same-length : tie.Need-same-length
 same-length c = search needs
@@ -90,8 +95,11 @@ returns c =
     let d = c .before .before .before .before .before .before .before .before .before .before .before .before .before in
     let s = at-start d in
     let o = c .before .before .before .before .before .before .before in
-    note-kept (s .args .minimum) (s .args .hole) (size s) _ (tables (s .args .points .now) (s .args .first .now) (s .args .len .now) (s .args .kind .now) (s .args .c)) _ _ (d .doubled-area .ensures .0) _ _ _
-    (sym (rw (whole d) at (c .before .before .before .before .before .before .before .before .before .before .before .before .is-kept .ensures)) ∙ c .before .before .before .before .before .before .before .before .before .before .before .if1 .taken) (o .enter-contour .ensures .0) (o .enter-contour .ensures .1 .0) (o .enter-contour .ensures .1 .1) (rw (whole d) at (c .kept-counts .ensures))
+    note-kept (s .args .minimum) (s .args .hole) (size s) _
+    (tables (s .args .points .now) (s .args .first .now) (s .args .len .now) (s .args .kind .now) (s .args .c)) _ _ (d .doubled-area .ensures .0) _ _ _
+    (sym (rw (whole d) at (c .before .before .before .before .before .before .before .before .before .before .before .before .is-kept .ensures))
+    ∙ c .before .before .before .before .before .before .before .before .before .before .before .if1 .taken) (o .enter-contour .ensures .0)
+    (o .enter-contour .ensures .1 .0) (o .enter-contour .ensures .1 .1) (rw (whole d) at (c .kept-counts .ensures))
 
 rejected-counts-requires : tie.Need-rejected-counts-requires
 rejected-counts-requires c κs = let d = c .before .before in (at-start d .pre .0 .2, rw (whole d) (bound d))
@@ -100,7 +108,8 @@ returns-2 : tie.Need-returns-2
 returns-2 c =
     let d = c .before .before .before in
     let s = at-start d in
-    note-rejected (s .args .minimum) (s .args .hole) (size s) _ (tables (s .args .points .now) (s .args .first .now) (s .args .len .now) (s .args .kind .now) (s .args .c)) _ _ (d .doubled-area .ensures .0)
+    note-rejected (s .args .minimum) (s .args .hole) (size s) _
+    (tables (s .args .points .now) (s .args .first .now) (s .args .len .now) (s .args .kind .now) (s .args .c)) _ _ (d .doubled-area .ensures .0)
     (sym (rw (whole d) at (c .before .before .is-kept .ensures)) ∙ c .before .if1 .left) (rw (whole d) at (c .rejected-counts .ensures))
 
 pub note-walk-spec : {M : Type 1} → statement M

@@ -15,7 +15,9 @@ abbrev t-of : tie.Start → Table
 t-of c = table (now (c .args .points)) (now (c .args .first)) (now (c .args .len)) (now (c .args .kind))
 
 returns : tie.Need-returns
-returns c = lookup-past (t-of (c .before .before .before .before .before)) (now (c .before .before .before .before .before .args .owner)) (c .before .before .before .before .before .args .contour) (c .if1 .taken)
+returns c =
+    lookup-past (t-of (c .before .before .before .before .before)) (now (c .before .before .before .before .before .args .owner))
+    (c .before .before .before .before .before .args .contour) (c .if1 .taken)
 
 check-table-requires : tie.Need-check-table-requires
 check-table-requires c κs = search needs
@@ -38,7 +40,8 @@ enum-told-2 c = search needs
 returns-2 : tie.Need-returns-2
 returns-2 c =
     let s = c .before .before .before .before .before .before .before .before .before in
-    lookup-found (t-of s) (now (s .args .owner)) (s .args .contour) _ (c .before .before .before .before .if1 .left) (sym (sym (c .before .before .before .check-table .ensures) ∙ c .before .enum-told .given .1)) (c .record-at .ensures)
+    lookup-found (t-of s) (now (s .args .owner)) (s .args .contour) _ (c .before .before .before .before .if1 .left)
+    (sym (sym (c .before .before .before .check-table .ensures) ∙ c .before .enum-told .given .1)) (c .record-at .ensures)
 
 returns-3 : tie.Need-returns-3
 returns-3 c =

@@ -31,7 +31,12 @@ owner-right-requires : tie.Need-owner-right-requires
 owner-right-requires c κs = search needs
 
 returns : tie.Need-returns
-returns c = owner-wrong (t-of (c .before .before .before .before .before .before .before .before .before .before)) (now (c .before .before .before .before .before .before .before .before .before .before .args .owner)) (c .before .before .before .before .before .before .before .before .before .before .args .c) _ _ (c .before .before .before .before .before .hulls-before .ensures .0) (c .before .before .hulls-before2 .ensures .0) _ (c .before .owner-right .ensures) (not-is _ (c .if1 .taken))
+returns c =
+    owner-wrong (t-of (c .before .before .before .before .before .before .before .before .before .before))
+    (now (c .before .before .before .before .before .before .before .before .before .before .args .owner))
+    (c .before .before .before .before .before .before .before .before .before .before .args .c) _ _
+    (c .before .before .before .before .before .hulls-before .ensures .0) (c .before .before .hulls-before2 .ensures .0) _
+    (c .before .owner-right .ensures) (not-is _ (c .if1 .taken))
 
 shared-slice-read-role-of : tie.Need-shared-slice-read-role-of
 shared-slice-read-role-of c = search needs
@@ -58,7 +63,14 @@ shared-slice-read-t21 : tie.Need-shared-slice-read-t21
 shared-slice-read-t21 c = search needs
 
 returns-2 : tie.Need-returns-2
-returns-2 c = owner-fine (t-of (c .before .before .before .before .before .before .before .before .before .before .before .before .before .before .before)) (now (c .before .before .before .before .before .before .before .before .before .before .before .before .before .before .before .args .owner)) (c .before .before .before .before .before .before .before .before .before .before .before .before .before .before .before .args .c) _ _ (c .before .before .before .before .before .before .before .before .before .before .hulls-before .ensures .0) (c .before .before .before .before .before .before .before .hulls-before2 .ensures .0) _ _ (c .before .before .before .before .before .before .owner-right .ensures) (not-false _ (c .before .before .before .before .before .if1 .left)) (c .before .before .role-of .ensures)
+returns-2 c =
+    owner-fine (t-of (c .before .before .before .before .before .before .before .before .before .before .before .before .before .before .before))
+    (now (c .before .before .before .before .before .before .before .before .before .before .before .before .before .before .before .args .owner))
+    (c .before .before .before .before .before .before .before .before .before .before .before .before .before .before .before .args .c) _ _
+    (c .before .before .before .before .before .before .before .before .before .before .hulls-before .ensures .0)
+    (c .before .before .before .before .before .before .before .hulls-before2 .ensures .0) _ _
+    (c .before .before .before .before .before .before .owner-right .ensures) (not-false _ (c .before .before .before .before .before .if1 .left))
+    (c .before .before .role-of .ensures)
 
 pub record-at-spec : {M : Type 1} → statement M
 record-at-spec =

@@ -42,9 +42,11 @@ slice-aggregate-nearest-edges-3 c = search needs
 
 nearest-edges-requires : tie.Need-nearest-edges-requires
 nearest-edges-requires c κs =
-    let s = c .before .before .before .before .before .before .before .before .before .before .before .before .before in let l = c .before .before .before .before .before .list-edges in let p = s .pre .1 in (
+    let s = c .before .before .before .before .before .before .before .before .before .before .before .before .before in
+    let l = c .before .before .before .before .before .list-edges in let p = s .pre .1 in (
       (
-        fit (t s) (s .pre .0) (l .last .1 .1 .0) (l .last .1 .1 .1 .0) (l .ensures) (right s) (omega (arith, l .kept .1 .1 .0)) (omega (arith, l .kept .1 .1 .1 .0)),
+        fit (t s) (s .pre .0) (l .last .1 .1 .0) (l .last .1 .1 .1 .0) (l .ensures) (right s) (omega (arith, l .kept .1 .1 .0))
+            (omega (arith, l .kept .1 .1 .1 .0)),
         s .pre .0 .few,
         flags (t s) (s .pre .0) (l .last .1 .1 .0) (l .last .1 .1 .1 .0) (l .ensures) (s .args .mute .now) (p .0 .0),
       ),
@@ -59,9 +61,19 @@ slice-aggregate-name-contours-2 c = search needs
 
 name-contours-requires : tie.Need-name-contours-requires
 name-contours-requires c κs =
-    let s = c .before .before .before .before .before .before .before .before .before .before .before .before .before .before .before .before .before .before in let l = c .before .before .before .before .before .before .before .before .before .before .list-edges in let e = c .before .before .before .before .nearest-edges in let p = s .pre .1 in (
+    let s = c
+    .before .before .before .before .before .before .before .before .before .before .before .before .before .before .before .before .before
+    .before in let l =
+    c .before .before .before .before .before .before .before .before .before .before .list-edges in let e =
+    c .before .before .before .before .nearest-edges in let p = s .pre .1 in (
       (omega (arith, l .kept .1 .1 .1 .0, s .pre .0 .few), of-few (t s) (s .pre .0) (l .last .1 .1 .0) (l .last .1 .1 .1 .0) (l .ensures)),
-      (omega (arith, e .kept .1 .1 .1 .1 .1 .1 .1 .1 .1 .1 .1 .1 .0, p .0 .1), p .0 .2, best-numbers (t s) (s .pre .0) (l .last .1 .1 .0) (l .last .1 .1 .1 .0) (l .ensures) (right s) (s .args .mute .now) (h s) (s .args .m) (e .last .1 .1 .1 .1 .1 .1 .1 .1 .1 .1 .1 .1 .0) (e .ensures)),
+      (
+        omega (arith, e .kept .1 .1 .1 .1 .1 .1 .1 .1 .1 .1 .1 .1 .0, p .0 .1),
+        p .0 .2,
+        best-numbers (t s) (s .pre .0) (l .last .1 .1 .0)
+            (l .last .1 .1 .1 .0) (l .ensures) (right s) (s .args .mute .now) (h s) (s .args .m) (e .last .1 .1 .1 .1 .1 .1 .1 .1 .1 .1 .1 .1 .0)
+            (e .ensures),
+      ),
     )
 
 same-length : tie.Need-same-length
@@ -69,8 +81,13 @@ same-length c = search needs
 
 returns : tie.Need-returns
 returns c =
-    let s = c .before .before .before .before .before .before .before .before .before .before .before .before .before .before .before .before .before .before .before .before .before in let l = c .before .before .before .before .before .before .before .before .before .before .before .before .before .list-edges in let e = c .before .before .before .before .before .before .before .nearest-edges in let u = c .before .before .name-contours in
-    searched (t s) (s .pre .0) (l .last .1 .1 .0) (l .last .1 .1 .1 .0) (l .ensures) (right s) (s .args .mute .now) (h s) (s .args .m) (e .last .1 .1 .1 .1 .1 .1 .1 .1 .1 .1 .1 .1 .0) (e .ensures) (u .last .1 .1 .1 .1 .0) (u .ensures)
+    let s = c
+    .before .before .before .before .before .before .before .before .before .before .before .before .before .before .before .before .before
+    .before .before .before .before in let l =
+    c .before .before .before .before .before .before .before .before .before .before .before .before .before .list-edges in let e =
+    c .before .before .before .before .before .before .before .nearest-edges in let u = c .before .before .name-contours in
+    searched (t s) (s .pre .0) (l .last .1 .1 .0) (l .last .1 .1 .1 .0) (l .ensures) (right s) (s .args .mute .now) (h s) (s .args .m)
+    (e .last .1 .1 .1 .1 .1 .1 .1 .1 .1 .1 .1 .1 .0) (e .ensures) (u .last .1 .1 .1 .1 .0) (u .ensures)
 
 pub contours-under-spec : {M : Type 1} → statement M
 contours-under-spec =

@@ -40,7 +40,8 @@ loop-less c = omega arith
 loop-again : tie.Need-loop-again Inv-loop μ-loop
 loop-again c =
     let s = c .before .before .before .before in let l = c .before .before .before .loop in
-    bracket-up _ _ _ (l .low) (l .high) _ (s .pre .1) (l .inv) (omega arith) (omega arith) (seen-lt (getD (s .args .l .now) (l .low + (l .high - l .low) / 2) (pos 0)) _ (c .before .if12 .given) (c .if1 .taken))
+    bracket-up _ _ _ (l .low) (l .high) _ (s .pre .1) (l .inv) (omega arith) (omega arith)
+    (seen-lt (getD (s .args .l .now) (l .low + (l .high - l .low) / 2) (pos 0)) _ (c .before .if12 .given) (c .if1 .taken))
 
 loop-less-2 : tie.Need-loop-less-2 Inv-loop μ-loop
 loop-less-2 c = omega arith
@@ -48,7 +49,8 @@ loop-less-2 c = omega arith
 loop-again-2 : tie.Need-loop-again-2 Inv-loop μ-loop
 loop-again-2 c =
     let s = c .before .before .before .before in let l = c .before .before .before .loop in
-    bracket-down _ _ _ (l .low) (l .high) _ (s .pre .1) (l .inv) (omega arith) (omega arith) (seen-ge (getD (s .args .l .now) (l .low + (l .high - l .low) / 2) (pos 0)) _ (c .before .if12 .given) (c .if1 .left))
+    bracket-down _ _ _ (l .low) (l .high) _ (s .pre .1) (l .inv) (omega arith) (omega arith)
+    (seen-ge (getD (s .args .l .now) (l .low + (l .high - l .low) / 2) (pos 0)) _ (c .before .if12 .given) (c .if1 .left))
 
 returns : tie.Need-returns Inv-loop μ-loop
 returns c = rw (toZ-ofZ w32 _ (c .before .before .fits .x)) at (bracket-end _ _ _ _ _ (c .before .loop .inv) (c .loop-test .left))

@@ -16,7 +16,9 @@ abbrev μ-loop : tie.MeasureT-loop
 μ-loop of n best m under₀ j₀ under j = m - j
 
 loop-holds : tie.Need-loop-holds Inv-loop μ-loop
-loop-holds c = let s = c .before .before .before in (omega arith, refl, below-none (λ i. getD (s .args .under .now) i 0 ≡ named (s .args .of .now) (getD (s .args .best .now) i 0)))
+loop-holds c =
+    let s = c .before .before .before in
+    (omega arith, refl, below-none (λ i. getD (s .args .under .now) i 0 ≡ named (s .args .of .now) (getD (s .args .best .now) i 0)))
 
 mul-contour-of : tie.Need-mul-contour-of Inv-loop μ-loop
 mul-contour-of c = let s = c .before .before .before .before .before in omega (arith, s .good, s .pre .1)
@@ -25,7 +27,9 @@ shared-slice-read-contour-of : tie.Need-shared-slice-read-contour-of Inv-loop μ
 shared-slice-read-contour-of c = let s = c .before .before .before .before .before .before in omega (arith, s .pre .1)
 
 contour-of-requires : tie.Need-contour-of-requires Inv-loop μ-loop
-contour-of-requires c κs = let s = c .before .before .before .before .before .before in let l = c .before .before .loop in let b = s .pre .1 .2 (l .j) (c .before .loop-test .taken) in (omega (arith, s .pre .0 .0), λ k h. s .pre .0 .1 k (omega arith))
+contour-of-requires c κs =
+    let s = c .before .before .before .before .before .before in let l = c .before .before .loop in
+    let b = s .pre .1 .2 (l .j) (c .before .loop-test .taken) in (omega (arith, s .pre .0 .0), λ k h. s .pre .0 .1 k (omega arith))
 
 mul-under : tie.Need-mul-under Inv-loop μ-loop
 mul-under c = let s = c .before .before .before .before .before .before .before in omega (arith, s .good, s .pre .1)
@@ -41,8 +45,12 @@ loop-less c = omega arith
 
 loop-again : tie.Need-loop-again Inv-loop μ-loop
 loop-again c =
-    let s = c .before .before .before .before .before .before .before in let l = c .before .before .before .loop in
-    (omega arith, simp length-set (l .inv .1), put-below 0 (λ i. named (s .args .of .now) (getD (s .args .best .now) i 0)) (l .under) (l .j) _ (omega (arith, s .pre .1, l .inv .1)) (c .contour-of .ensures) (l .inv .2))
+    let s = c .before .before .before .before .before .before .before in let l = c .before .before .before .loop in (
+      omega arith,
+      simp length-set (l .inv .1),
+      put-below 0 (λ i. named (s .args .of .now) (getD (s .args .best .now) i 0)) (l .under) (l .j) _
+          (omega (arith, s .pre .1, l .inv .1)) (c .contour-of .ensures) (l .inv .2),
+    )
 
 same-length : tie.Need-same-length Inv-loop μ-loop
 same-length c = c .before .loop .inv .1

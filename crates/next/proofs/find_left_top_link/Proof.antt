@@ -10,7 +10,8 @@ use Rattle.next.specs.Known.{node-entries, linksOf, stretch}
 use Rattle.next.specs.Topmost.{first-at-bridge}
 use Rattle.next.specs.States.{unvisited-below}
 use Rattle.next.specs.declared.Next.the-variants.{Link}
-use Rattle.next.proofs.Answers.{Part, part-of, first-entry, second-entry, bridge-entries, below-first, below-second, cross-entries, first-answer, first-cross}
+use Rattle.next.proofs.Answers.{Part, part-of, first-entry, second-entry, bridge-entries, below-first, below-second, cross-entries}
+use Rattle.next.proofs.Answers.{first-answer, first-cross}
 use Rattle.next.proofs.find_left_top_link.Statement.{statement}
 use Rattle.next.proofs.find_left_top_link.Tie as tie
 
@@ -52,7 +53,8 @@ here d =
 
 -- the graph, with any ids of b's nodes and any tops
 abbrev graph : Known → List ℕ → List ℕ → Graph
-graph d bid top = let a = entry d .args in graphOf (lent (a .ax .now) (a .ay .now) (a .bx .now) (a .by .now) (a .aid .now) bid (a .start .now) (a .list .now)) top
+graph d bid top =
+    let a = entry d .args in graphOf (lent (a .ax .now) (a .ay .now) (a .bx .now) (a .by .now) (a .aid .now) bid (a .start .now) (a .list .now)) top
 
 -- the entries of k's a node, by the number that was read
 at-node : (d : Known) → graph d [] [] .entries (getD (entry d .args .aid .now) (entry d .args .k) 0) ≡ graph d [] [] .entries (node d)
@@ -62,7 +64,8 @@ number-requires : tie.Need-number-requires
 number-requires c κs = let s = c .before .before .before .before in rw (s .pre .1 .0 .a-long) (below s)
 
 number-requires-2 : tie.Need-number-requires-2
-number-requires-2 c κs = let s = c .before .before .before .before .before in let h = s .pre .1 .0 .a-node (s .args .k) (below s) in omega (arith, c .number .ensures)
+number-requires-2 c κs =
+    let s = c .before .before .before .before .before in let h = s .pre .1 .0 .a-node (s .args .k) (below s) in omega (arith, c .number .ensures)
 
 add-number : tie.Need-add-number
 add-number c = omega (arith, inside c)
@@ -89,9 +92,12 @@ find-left-top-link-on-bridge-requires c κs =
 
 returns : tie.Need-returns
 returns c =
-    let d = c .before .before .before .before in let s = entry d in let a = s .args in let x = c .before .before .number4 in let y = c .before .number5 in let r = c .find-left-top-link-on-bridge in
+    let d = c .before .before .before .before in let s = entry d in let a = s .args in let x = c .before .before .number4 in
+    let y = c .before .number5 in let r = c .find-left-top-link-on-bridge in
     first-answer (graph d) (a .state .now) (r .result) (a .k) (s .pre .1 .1)
-    (λ bid top. r .ensures ∙ sym (first-at-bridge (graph d bid top) (a .state .now) (a .k) (x .result) (y .result) (at-node d ∙ bridge-entries (here d) (c .before .before .before .if1 .taken) (x .ensures) (y .ensures))))
+    (λ bid top. r .ensures ∙ sym
+    (first-at-bridge (graph d bid top) (a .state .now) (a .k) (x .result) (y .result)
+    (at-node d ∙ bridge-entries (here d) (c .before .before .before .if1 .taken) (x .ensures) (y .ensures))))
 
 find-left-top-link-on-indices-requires : tie.Need-find-left-top-link-on-indices-requires
 find-left-top-link-on-indices-requires c κs =
@@ -103,7 +109,8 @@ returns-2 c =
     let d = c .before .before in let s = entry d in let a = s .args in let r = c .find-left-top-link-on-indices in
     let cross = cross-entries (here d) (c .before .if1 .left) in
     first-answer (graph d) (a .state .now) (Link (r .result)) (a .k) (s .pre .1 .1)
-    (λ bid top. first-cross (graph d bid top) (linksOf (a .ax .now) (a .ay .now) (a .bx .now) (a .by .now) []) (a .state .now) (a .k) (r .result) (stretch (list d) (from d) (to d)) (at-node d ∙ here d .is) (λ e. cross (ap length (sym (at-node d)) ∙ e)) (λ _ _. refl) (r .ensures))
+    (λ bid top. first-cross (graph d bid top) (linksOf (a .ax .now) (a .ay .now) (a .bx .now) (a .by .now) []) (a .state .now) (a .k) (r .result)
+    (stretch (list d) (from d) (to d)) (at-node d ∙ here d .is) (λ e. cross (ap length (sym (at-node d)) ∙ e)) (λ _ _. refl) (r .ensures))
 
 pub find-left-top-link-spec : {M : Type 1} → statement M
 find-left-top-link-spec =

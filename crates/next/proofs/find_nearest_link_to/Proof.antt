@@ -26,7 +26,9 @@ number-requires : tie.Need-number-requires
 number-requires c κs = let p = c .before .unvisited-from .ensures in omega (arith, p .high, c .before .before .before .before .before .pre .1 .1 .1)
 
 add-unvisited-from : tie.Need-add-unvisited-from
-add-unvisited-from c = let p = c .before .before .unvisited-from .ensures in omega (arith, p .high, c .before .if1 .left, c .before .before .before .before .before .before .fits .to)
+add-unvisited-from c =
+    let p = c .before .before .unvisited-from .ensures in
+    omega (arith, p .high, c .before .if1 .left, c .before .before .before .before .before .before .fits .to)
 
 unvisited-from-requires-2 : tie.Need-unvisited-from-requires-2
 unvisited-from-requires-2 c κs =
@@ -35,12 +37,14 @@ unvisited-from-requires-2 c κs =
 
 returns-2 : tie.Need-returns-2
 returns-2 c =
-    let s = c .before .before .before .before .before .before .before .before in let a = s .args in let p = c .before .before .before .before .unvisited-from in let q = c .before .unvisited-from2 in let k = c .before .before .number in
+    let s = c .before .before .before .before .before .before .before .before in let a = s .args in
+    let p = c .before .before .before .before .unvisited-from in let q = c .before .unvisited-from2 in let k = c .before .before .number in
     met-one (lt s) (s .pre .1 .1 .1) (p .ensures) (c .before .before .before .if1 .left) (q .ensures) (k .result) (k .ensures) (c .if2 .taken)
 
 nearest-requires : tie.Need-nearest-requires
 nearest-requires c κs =
-    let s = c .before .before .before .before .before .before .before .before in let h = s .pre .1 in let p = c .before .before .before .before .unvisited-from in let q = c .before .unvisited-from2 .ensures in let k = c .before .before .number in
+    let s = c .before .before .before .before .before .before .before .before in let h = s .pre .1 in
+    let p = c .before .before .before .before .unvisited-from in let q = c .before .unvisited-from2 .ensures in let k = c .before .before .number in
     let here : p .result < s .args .to = omega (arith, p .ensures .high, c .before .before .before .if1 .left) in (
       s .pre .0,
       (
@@ -51,8 +55,11 @@ nearest-requires c κs =
 
 returns-3 : tie.Need-returns-3
 returns-3 c =
-    let s = c .before .before .before .before .before .before .before .before .before in let a = s .args in let p = c .before .before .before .before .before .unvisited-from in let q = c .before .before .unvisited-from2 in let k = c .before .before .before .number in
-    met-more (lt s) (s .pre .1 .1 .1) (p .ensures) (c .before .before .before .before .if1 .left) (q .ensures) (k .result) (c .nearest .result) (k .ensures) (c .nearest .ensures)
+    let s = c .before .before .before .before .before .before .before .before .before in let a = s .args in
+    let p = c .before .before .before .before .before .unvisited-from in let q = c .before .before .unvisited-from2 in
+    let k = c .before .before .before .number in
+    met-more (lt s) (s .pre .1 .1 .1) (p .ensures) (c .before .before .before .before .if1 .left) (q .ensures) (k .result) (c .nearest .result)
+    (k .ensures) (c .nearest .ensures)
 
 pub find-nearest-link-to-spec : {M : Type 1} → statement M
 find-nearest-link-to-spec =

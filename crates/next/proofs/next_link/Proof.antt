@@ -20,7 +20,8 @@ abbrev at-start : tie.After-number2 → tie.Start
 at-start d = d .before .before .before .before .before .before .before .before .before
 
 -- the node's part of the list, after the two reads of its starts
-here : (d : tie.After-number2) → let a = at-start d .args in Part (a .start .now) (a .list .now) (a .node) (length (a .state .now)) (d .before .number .result) (d .number2 .result)
+here : (d : tie.After-number2) → let a =
+    at-start d .args in Part (a .start .now) (a .list .now) (a .node) (length (a .state .now)) (d .before .number .result) (d .number2 .result)
 here d = let p = at-start d .pre .1 in part-of (node-entries (p .0) (p .1 .0)) (d .before .number .ensures) (d .number2 .ensures)
 
 on-bridge-requires : tie.Need-on-bridge-requires
@@ -50,14 +51,17 @@ returns : tie.Need-returns
 returns c =
     let s = c .before .before .before .before .before .before .before .before in let a = s .args in let r = c .before .next .given in
     next-answer (graph s) (a .sense) (a .state .now) (a .node) (a .link) (r .0 .0)
-    (λ bid top. next-named (a .state .now) (a .link) (graph s bid top) (a .sense) (a .node) (r .0 .0) (sym (r .1) ∙ c .before .before .before .on-bridge .ensures))
+    (λ bid top. next-named (a .state .now) (a .link) (graph s bid top) (a .sense) (a .node) (r .0 .0)
+    (sym (r .1) ∙ c .before .before .before .on-bridge .ensures))
 
 returns-2 : tie.Need-returns-2
 returns-2 c =
     let d = c .before in let s = at-start d in let a = s .args in let r = c .find-nearest-link-to in
-    let cross = no-bridge (a .state .now) (a .link) (graph s [] [] .entries (a .node)) (sym (c .before .before .before .enum-told .given .1) ∙ c .before .before .before .before .before .on-bridge .ensures) in
+    let cross = no-bridge (a .state .now) (a .link) (graph s [] [] .entries (a .node)) (sym (c .before .before .before .enum-told .given .1)
+    ∙ c .before .before .before .before .before .on-bridge .ensures) in
     next-answer (graph s) (a .sense) (a .state .now) (a .node) (a .link) (r .result)
-    (λ bid top. r .ensures ∙ ap (λ (l : List ℕ). firstMet (metFirst (graph s bid top) (a .sense) (a .node) (a .link)) (unvisitedIn (a .state .now) l)) (sym (here d .is))
+    (λ bid top. r .ensures ∙ ap (λ (l : List ℕ). firstMet (metFirst (graph s bid top) (a .sense) (a .node) (a .link)) (unvisitedIn (a .state .now) l))
+    (sym (here d .is))
     ∙ sym (next-met (graph s bid top) (a .sense) (a .state .now) (a .node) (a .link) cross))
 
 pub next-link-spec : {M : Type 1} → statement M

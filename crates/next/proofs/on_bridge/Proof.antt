@@ -60,23 +60,31 @@ number-requires-4 : tie.Need-number-requires-4
 number-requires-4 c κs = let d = c .before .before in second-entry (here d) (c .before .if1 .taken)
 
 only-unvisited-requires : tie.Need-only-unvisited-requires
-only-unvisited-requires c κs = let d = c .before .before .before .before in below-second (here d) (c .before .before .before .if1 .taken) (c .before .number4 .ensures)
+only-unvisited-requires c κs =
+    let d = c .before .before .before .before in below-second (here d) (c .before .before .before .if1 .taken) (c .before .number4 .ensures)
 
 returns : tie.Need-returns
 returns c =
-    let d = c .before .before .before .before .before in let a = entry d .args in let x = c .before .before .before .number3 in let y = c .before .before .number4 in
-    named-at (a .state .now) (a .link) (bridge-entries (here d) (c .before .before .before .before .if1 .taken) (x .ensures) (y .ensures)) (c .only-unvisited .ensures ∙ across-first (a .state .now) (a .link) (x .result) (y .result) (sym (c .before .if2 .taken)))
+    let d = c .before .before .before .before .before in let a = entry d .args in let x = c .before .before .before .number3 in
+    let y = c .before .before .number4 in
+    named-at (a .state .now) (a .link) (bridge-entries (here d) (c .before .before .before .before .if1 .taken) (x .ensures) (y .ensures))
+    (c .only-unvisited .ensures ∙ across-first (a .state .now) (a .link) (x .result) (y .result) (sym (c .before .if2 .taken)))
 
 only-unvisited-requires-2 : tie.Need-only-unvisited-requires-2
-only-unvisited-requires-2 c κs = let d = c .before .before .before .before in below-first (here d) (c .before .before .before .if1 .taken) (c .before .before .number3 .ensures)
+only-unvisited-requires-2 c κs =
+    let d = c .before .before .before .before in below-first (here d) (c .before .before .before .if1 .taken) (c .before .before .number3 .ensures)
 
 returns-2 : tie.Need-returns-2
 returns-2 c =
-    let d = c .before .before .before .before .before in let a = entry d .args in let x = c .before .before .before .number3 in let y = c .before .before .number4 in
-    named-at (a .state .now) (a .link) (bridge-entries (here d) (c .before .before .before .before .if1 .taken) (x .ensures) (y .ensures)) (c .only-unvisited2 .ensures ∙ across-second (a .state .now) (a .link) (x .result) (y .result) (λ e. c .before .if2 .left (sym e)))
+    let d = c .before .before .before .before .before in let a = entry d .args in let x = c .before .before .before .number3 in
+    let y = c .before .before .number4 in
+    named-at (a .state .now) (a .link) (bridge-entries (here d) (c .before .before .before .before .if1 .taken) (x .ensures) (y .ensures))
+    (c .only-unvisited2 .ensures ∙ across-second (a .state .now) (a .link) (x .result) (y .result) (λ e. c .before .if2 .left (sym e)))
 
 returns-3 : tie.Need-returns-3
-returns-3 c = let d = c .before in let a = entry d .args in choice-at (a .state .now) (a .link) (part (starts d) (list d) (node d)) (cross-entries (here d) (c .if1 .left))
+returns-3 c =
+    let d = c .before in let a = entry d .args in
+    choice-at (a .state .now) (a .link) (part (starts d) (list d) (node d)) (cross-entries (here d) (c .if1 .left))
 
 pub on-bridge-spec : {M : Type 1} → statement M
 on-bridge-spec =

@@ -24,7 +24,9 @@ number-requires : tie.Need-number-requires Inv-loop μ-loop
 number-requires c κs = omega arith
 
 shared-slice-read-if1 : tie.Need-shared-slice-read-if1 Inv-loop μ-loop
-shared-slice-read-if1 c = let l = c .before .before .before in rw (c .before .number .ensures) (l .before .before .before .pre .2 (l .loop .i) (l .loop .inv .0) (c .before .before .loop-test .taken))
+shared-slice-read-if1 c =
+    let l = c .before .before .before in
+    rw (c .before .number .ensures) (l .before .before .before .pre .2 (l .loop .i) (l .loop .inv .0) (c .before .before .loop-test .taken))
 
 returns : tie.Need-returns Inv-loop μ-loop
 returns c =
@@ -33,7 +35,9 @@ returns c =
       low = l .loop .inv .0;
       high = l .loop .inv .1;
       rest = l .loop .inv .2;
-      here = λ _. read-unvisited (a .state .now) (getD (a .list .now) (l .loop .i) 0) (s .pre .2 (l .loop .i) (l .loop .inv .0) (c .before .before .before .loop-test .taken)) (rw (c .before .before .number .ensures) at (c .if1 .taken));
+      here = λ _. read-unvisited (a .state .now) (getD (a .list .now) (l .loop .i) 0)
+          (s .pre .2 (l .loop .i) (l .loop .inv .0) (c .before .before .before .loop-test .taken))
+          (rw (c .before .before .number .ensures) at (c .if1 .taken));
     }
 
 add-i : tie.Need-add-i Inv-loop μ-loop
@@ -45,8 +49,14 @@ loop-less c = omega arith
 loop-again : tie.Need-loop-again Inv-loop μ-loop
 loop-again c =
     let l = c .before .before .before .before in let s = l .before .before .before in let a = s .args in
-    let shut = read-shut (a .state .now) (getD (a .list .now) (l .loop .i) 0) (s .pre .2 (l .loop .i) (l .loop .inv .0) (c .before .before .before .loop-test .taken)) (rw (c .before .before .number .ensures) at (c .if1 .left)) in
-    (omega arith, omega arith, l .loop .inv .2 ∙ unvisited-in-miss (a .list .now) (a .state .now) (l .loop .i) (a .to) (c .before .before .before .loop-test .taken) (s .pre .1) shut)
+    let shut = read-shut (a .state .now) (getD (a .list .now) (l .loop .i) 0)
+    (s .pre .2 (l .loop .i) (l .loop .inv .0) (c .before .before .before .loop-test .taken))
+    (rw (c .before .before .number .ensures) at (c .if1 .left)) in (
+      omega arith,
+      omega arith,
+      l .loop .inv .2 ∙ unvisited-in-miss (a .list .now) (a .state .now) (l .loop .i) (a .to)
+          (c .before .before .before .loop-test .taken) (s .pre .1) shut,
+    )
 
 returns-2 : tie.Need-returns-2 Inv-loop μ-loop
 returns-2 c =

@@ -15,7 +15,10 @@ before-requires-2 : tie.Need-before-requires-2
 before-requires-2 c κs = search needs
 
 returns-2 : tie.Need-returns-2
-returns-2 c = let a = c .before .before .before .before .args in goes-last (a .a) (a .b) (a .c) (a .d) (sym (c .before .before .before .before2 .ensures) ∙ c .before .before .if1 .left) (sym (c .before .before3 .ensures) ∙ c .if2 .taken)
+returns-2 c =
+    let a = c .before .before .before .before .args in
+    goes-last (a .a) (a .b) (a .c) (a .d) (sym (c .before .before .before .before2 .ensures) ∙ c .before .before .if1 .left)
+    (sym (c .before .before3 .ensures) ∙ c .if2 .taken)
 
 between-requires : tie.Need-between-requires
 between-requires c κs = search needs
@@ -30,7 +33,9 @@ returns-3 : tie.Need-returns-3
 returns-3 c =
     let e = rw (c .before .before .between .ensures .0, c .before .between2 .ensures .0) at (c .cross-product .ensures .0) in
     let a = c .before .before .before .before .before .before .before .args in
-    goes-by-angle (a .a) (a .b) (a .c) (a .d) (sym (c .before .before .before .before .before .before .before2 .ensures) ∙ c .before .before .before .before .before .if1 .left) (sym (c .before .before .before .before .before3 .ensures) ∙ c .before .before .before .if2 .left) (c .cross-product .result) e (c .cross-product .ensures .1)
+    goes-by-angle (a .a) (a .b) (a .c) (a .d) (sym (c .before .before .before .before .before .before .before2 .ensures)
+    ∙ c .before .before .before .before .before .if1 .left) (sym (c .before .before .before .before .before3 .ensures)
+    ∙ c .before .before .before .if2 .left) (c .cross-product .result) e (c .cross-product .ensures .1)
 
 pub goes-before-spec : {M : Type 1} → statement M
 goes-before-spec =

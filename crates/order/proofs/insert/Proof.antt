@@ -26,7 +26,9 @@ h s = anchors (s .args .x .now) (s .args .y .now) (s .args .to-x .now) (s .args 
 
 -- the hole that stands before the gap is an earlier one
 earlier : (c : tie.At-loop Inv-loop μ-loop) → 0 < c .loop .p → getD (c .loop .ord) (c .loop .p - 1) 0 < c .before .before .before .before .before .args .j
-earlier c t = let i = c .loop .inv in rw (i .below (c .loop .p - 1) (omega arith)) (c .before .before .before .before .before .pre .1 .1 (c .loop .p - 1) (omega (arith, i .within)))
+earlier c t =
+    let i = c .loop .inv in
+    rw (i .below (c .loop .p - 1) (omega arith)) (c .before .before .before .before .before .pre .1 .1 (c .loop .p - 1) (omega (arith, i .within)))
 
 listed-anchor-requires : tie.Need-listed-anchor-requires Inv-loop μ-loop
 listed-anchor-requires c κs = let s = c .before .before in s .pre .0 .0 .on-grid .room
@@ -47,7 +49,9 @@ mul-d : tie.Need-mul-d Inv-loop μ-loop
 mul-d c = let s = c .before .before .before .before .before .before in omega (arith, s .pre .0 .1, c .before .loop .inv .within)
 
 slice-read-d : tie.Need-slice-read-d Inv-loop μ-loop
-slice-read-d c = let s = c .before .before .before .before .before .before .before in omega (arith, s .pre .1 .0, c .before .before .loop .inv .within, c .before .before .loop .inv .len)
+slice-read-d c =
+    let s = c .before .before .before .before .before .before .before in
+    omega (arith, s .pre .1 .0, c .before .before .loop .inv .within, c .before .before .loop .inv .len)
 
 cast-i : tie.Need-cast-i Inv-loop μ-loop
 cast-i c = omega (arith, c .slice-known2 .given (c .before .before .loop .p - 1))
@@ -58,21 +62,37 @@ listed-anchor-requires-2 c κs =
     less-room (h s) _ (s .pre .0 .0 .on-grid .room) (omega (arith, d))
 
 mul-goes-before : tie.Need-mul-goes-before Inv-loop μ-loop
-mul-goes-before c = let s = c .before .before .before .before .before .before .before .before in omega (arith, s .pre .0 .1, earlier (c .before .before .before) (c .before .before .loop-test .taken))
+mul-goes-before c =
+    let s = c .before .before .before .before .before .before .before .before in
+    omega (arith, s .pre .0 .1, earlier (c .before .before .before) (c .before .before .loop-test .taken))
 
 shared-slice-read-goes-before : tie.Need-shared-slice-read-goes-before Inv-loop μ-loop
-shared-slice-read-goes-before c = let s = c .before .before .before .before .before .before .before .before .before in omega (arith, s .pre .0 .0 .who-room, earlier (c .before .before .before .before) (c .before .before .before .loop-test .taken))
+shared-slice-read-goes-before c =
+    let s = c .before .before .before .before .before .before .before .before .before in
+    omega (arith, s .pre .0 .0 .who-room, earlier (c .before .before .before .before) (c .before .before .before .loop-test .taken))
 
 goes-before-requires : tie.Need-goes-before-requires Inv-loop μ-loop
 goes-before-requires c κs =
-    let s = c .before .before .before .before .before .before .before .before .before in let b = s .pre .0 .0 .on-grid in let i = getD (c .before .before .before .before .loop .ord) (c .before .before .before .before .loop .p - 1) 0 in let d = earlier (c .before .before .before .before) (c .before .before .before .loop-test .taken) in
-    rw (c .before .before .before .before .before .before .listed-anchor .ensures, c .before .listed-anchor2 .ensures) (b .at (s .args .j) (omega arith), b .to (s .args .j) (omega arith), b .at i (omega arith), b .to i (omega arith))
+    let s = c .before .before .before .before .before .before .before .before .before in let b = s .pre .0 .0 .on-grid in
+    let i = getD (c .before .before .before .before .loop .ord) (c .before .before .before .before .loop .p - 1) 0 in
+    let d = earlier (c .before .before .before .before) (c .before .before .before .loop-test .taken) in
+    rw (c .before .before .before .before .before .before .listed-anchor .ensures, c .before .listed-anchor2 .ensures)
+    (b .at (s .args .j) (omega arith), b .to (s .args .j) (omega arith), b .at i (omega arith), b .to i (omega arith))
 
 mul-ord : tie.Need-mul-ord Inv-loop μ-loop
-mul-ord c = let s = c .before .before .before .before .before .before .before .before .before .before .before in omega (arith, s .pre .0 .1, c .before .before .before .before .before .before .loop .inv .within)
+mul-ord c =
+    let s = c .before .before .before .before .before .before .before .before .before .before .before in
+    omega (arith, s .pre .0 .1, c .before .before .before .before .before .before .loop .inv .within)
 
 slice-write-ord : tie.Need-slice-write-ord Inv-loop μ-loop
-slice-write-ord c = let s = c .before .before .before .before .before .before .before .before .before .before .before in omega (arith, s .pre .1 .0, c .before .before .before .before .before .before .loop .inv .within, c .before .before .before .before .before .before .loop .inv .len)
+slice-write-ord c =
+    let s = c .before .before .before .before .before .before .before .before .before .before .before in
+    omega (
+      arith,
+      s .pre .1 .0,
+      c .before .before .before .before .before .before .loop .inv .within,
+      c .before .before .before .before .before .before .loop .inv .len,
+    )
 
 sub-p : tie.Need-sub-p Inv-loop μ-loop
 sub-p c = omega arith
@@ -82,25 +102,46 @@ loop-less c = omega arith
 
 loop-again : tie.Need-loop-again Inv-loop μ-loop
 loop-again c =
-    let s = c .before .before .before .before .before .before .before .before .before .before .before in let l = c .before .before .before .before .before .before .loop in
-    shift-more (test (s .args .who .now) (h s) (s .args .ord .now) (s .args .j)) _ (l .ord) _ (l .p) (l .inv) (s .pre .1 .0) (c .before .before .before .before .before .loop-test .taken) (went (h s) (s .args .who .now) (s .args .ord .now) (l .ord) (s .args .j) (l .p) (l .inv) (c .before .before .before .before .before .loop-test .taken) _ _ (c .before .before .before .before .before .before .before .before .listed-anchor .ensures) (c .before .before .before .listed-anchor2 .ensures) _ (c .before .goes-before .ensures) (c .if1 .taken)) _ refl
+    let s = c .before .before .before .before .before .before .before .before .before .before .before in
+    let l = c .before .before .before .before .before .before .loop in
+    shift-more (test (s .args .who .now) (h s) (s .args .ord .now) (s .args .j)) _ (l .ord) _ (l .p) (l .inv) (s .pre .1 .0)
+    (c .before .before .before .before .before .loop-test .taken)
+    (went (h s) (s .args .who .now) (s .args .ord .now) (l .ord) (s .args .j) (l .p) (l .inv)
+    (c .before .before .before .before .before .loop-test .taken) _ _
+    (c .before .before .before .before .before .before .before .before .listed-anchor .ensures)
+    (c .before .before .before .listed-anchor2 .ensures) _ (c .before .goes-before .ensures) (c .if1 .taken)) _ refl
 
 cast-ord : tie.Need-cast-ord Inv-loop μ-loop
 cast-ord c = let s = c .before .before .before .before .before .before .before .before .before .before .before in omega (arith, s .pre .0 .1)
 
 mul-ord-2 : tie.Need-mul-ord-2 Inv-loop μ-loop
-mul-ord-2 c = let s = c .before .before .before .before .before .before .before .before .before .before .before in omega (arith, s .pre .0 .1, c .before .before .before .before .before .before .loop .inv .within)
+mul-ord-2 c =
+    let s = c .before .before .before .before .before .before .before .before .before .before .before in
+    omega (arith, s .pre .0 .1, c .before .before .before .before .before .before .loop .inv .within)
 
 slice-write-ord-2 : tie.Need-slice-write-ord-2 Inv-loop μ-loop
-slice-write-ord-2 c = let s = c .before .before .before .before .before .before .before .before .before .before .before in omega (arith, s .pre .1 .0, c .before .before .before .before .before .before .loop .inv .within, c .before .before .before .before .before .before .loop .inv .len)
+slice-write-ord-2 c =
+    let s = c .before .before .before .before .before .before .before .before .before .before .before in
+    omega (
+      arith,
+      s .pre .1 .0,
+      c .before .before .before .before .before .before .loop .inv .within,
+      c .before .before .before .before .before .before .loop .inv .len,
+    )
 
 same-length : tie.Need-same-length Inv-loop μ-loop
 same-length c = simp length-set (c .before .before .before .before .before .before .loop .inv .len)
 
 returns : tie.Need-returns Inv-loop μ-loop
 returns c =
-    let s = c .before .before .before .before .before .before .before .before .before .before .before in let l = c .before .before .before .before .before .before .loop in
-    shift-stop (test (s .args .who .now) (h s) (s .args .ord .now) (s .args .j)) _ (l .ord) _ (l .p) (l .inv) (s .pre .1 .0) _ (c .before .before .before .before .before .loop-test .taken) (went (h s) (s .args .who .now) (s .args .ord .now) (l .ord) (s .args .j) (l .p) (l .inv) (c .before .before .before .before .before .loop-test .taken) _ _ (c .before .before .before .before .before .before .before .before .listed-anchor .ensures) (c .before .before .before .listed-anchor2 .ensures) _ (c .before .goes-before .ensures) (c .if1 .left))
+    let s = c .before .before .before .before .before .before .before .before .before .before .before in
+    let l = c .before .before .before .before .before .before .loop in
+    shift-stop (test (s .args .who .now) (h s) (s .args .ord .now) (s .args .j)) _ (l .ord) _ (l .p) (l .inv) (s .pre .1 .0) _
+    (c .before .before .before .before .before .loop-test .taken)
+    (went (h s) (s .args .who .now) (s .args .ord .now) (l .ord) (s .args .j) (l .p) (l .inv)
+    (c .before .before .before .before .before .loop-test .taken) _ _
+    (c .before .before .before .before .before .before .before .before .listed-anchor .ensures)
+    (c .before .before .before .listed-anchor2 .ensures) _ (c .before .goes-before .ensures) (c .if1 .left))
 
 cast-ord-2 : tie.Need-cast-ord-2 Inv-loop μ-loop
 cast-ord-2 c = let s = c .before .before .before .before .before .before in omega (arith, s .pre .0 .1)
@@ -109,7 +150,8 @@ mul-ord-3 : tie.Need-mul-ord-3 Inv-loop μ-loop
 mul-ord-3 c = let s = c .before .before .before .before .before .before in omega (arith, s .pre .0 .1, c .before .loop .inv .within)
 
 slice-write-ord-3 : tie.Need-slice-write-ord-3 Inv-loop μ-loop
-slice-write-ord-3 c = let s = c .before .before .before .before .before .before in omega (arith, s .pre .1 .0, c .before .loop .inv .within, c .before .loop .inv .len)
+slice-write-ord-3 c =
+    let s = c .before .before .before .before .before .before in omega (arith, s .pre .1 .0, c .before .loop .inv .within, c .before .loop .inv .len)
 
 same-length-2 : tie.Need-same-length-2 Inv-loop μ-loop
 same-length-2 c = simp length-set (c .before .loop .inv .len)

@@ -8,7 +8,7 @@ use Rattle.outline.proofs.answer_input.Reads as reads
 use Rattle.outline.proofs.answer_input.Lts as lts
 use Rattle.io.proofs.write_all.Reads as write-all-reads
 use Rattle.outline.proofs.read_input.Reads as read-input-reads
-use Rattle.outline.proofs.write_answer.Reads as write-answer-reads
+use Rattle.outline.proofs.print_answer.Reads as print-answer-reads
 
 -- src/main.rt:62:11
 read-input-requires : tie.Need-read-input-requires
@@ -31,16 +31,26 @@ enum-known-n : tie.Need-enum-known-n
 enum-known-n c = search needs
 
 -- src/main.rt:67:26
-slice-reshare-prefix-write-answer : tie.Need-slice-reshare-prefix-write-answer
-slice-reshare-prefix-write-answer c = omega (arith, read-within (c .before .n .given .1) (c .before .before .before .before .before .read-input .ensures), c .before .before .before .before .input .given)
+slice-reshare-prefix-print-answer : tie.Need-slice-reshare-prefix-print-answer
+slice-reshare-prefix-print-answer c =
+    omega (
+      arith,
+      read-within (c .before .n .given .1) (c .before .before .before .before .before .read-input .ensures),
+      c .before .before .before .before .input .given,
+    )
 
 -- src/main.rt:67:26
-slice-aggregate-write-answer : tie.Need-slice-aggregate-write-answer
-slice-aggregate-write-answer c = part-long _ (omega (arith, read-within (c .before .before .n .given .1) (c .before .before .before .before .before .before .read-input .ensures), c .before .before .before .before .before .input .given))
+slice-aggregate-print-answer : tie.Need-slice-aggregate-print-answer
+slice-aggregate-print-answer c =
+    part-long _ (omega (
+      arith,
+      read-within (c .before .before .n .given .1) (c .before .before .before .before .before .before .read-input .ensures),
+      c .before .before .before .before .before .input .given,
+    ))
 
 -- src/main.rt:67:13
-write-answer-requires : tie.Need-write-answer-requires
-write-answer-requires c κs = search needs
+print-answer-requires : tie.Need-print-answer-requires
+print-answer-requires c κs = search needs
 
 -- src/main.rt:59:1
 same-length : tie.Need-same-length
@@ -71,9 +81,9 @@ answer-input-spec =
     slice-aggregate-write-all
     write-all-requires
     enum-known-n
-    slice-reshare-prefix-write-answer
-    slice-aggregate-write-answer
-    write-answer-requires
+    slice-reshare-prefix-print-answer
+    slice-aggregate-print-answer
+    print-answer-requires
     same-length
     returns
     same-length-2

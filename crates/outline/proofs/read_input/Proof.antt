@@ -63,15 +63,33 @@ returns-2 c = let l = c .before .before .before .before .before .before .before 
 
 -- src/main.rt:43:17
 add-done : tie.Need-add-done Inv-loop μ-loop
-add-done c = let l = c .before .before .before .before .before .before .before .before .before .loop in let h = rest-within (l .done) (c .before .before .n .given .0 .0) (l .buf) (l .inv .0) (read-within (c .before .before .n .given .1) (c .before .before .before .before .before .before .read-some .ensures)) in omega (arith, h, l .inv .1, c .before .before .before .before .before .before .before .before .before .before .before .good)
+add-done c =
+    let l = c .before .before .before .before .before .before .before .before .before .loop in
+    let h = rest-within (l .done) (c .before .before .n .given .0 .0) (l .buf) (l .inv .0)
+    (read-within (c .before .before .n .given .1) (c .before .before .before .before .before .before .read-some .ensures)) in
+    omega (arith, h, l .inv .1, c .before .before .before .before .before .before .before .before .before .before .before .good)
 
 -- src/main.rt:34:5
 loop-less : tie.Need-loop-less Inv-loop μ-loop
-loop-less c = let l = c .before .before .before .before .before .before .before .before .before .loop in let h = rest-within (l .done) (c .before .before .n .given .0 .0) (l .buf) (l .inv .0) (read-within (c .before .before .n .given .1) (c .before .before .before .before .before .before .read-some .ensures)) in omega (arith, h, c .before .before .before .before .before .buf .given .1, c .if1, c .before .before .before .before .before .before .before .before .loop-test)
+loop-less c =
+    let l = c .before .before .before .before .before .before .before .before .before .loop in
+    let h = rest-within (l .done) (c .before .before .n .given .0 .0) (l .buf) (l .inv .0)
+    (read-within (c .before .before .n .given .1) (c .before .before .before .before .before .before .read-some .ensures)) in
+    omega (
+      arith,
+      h,
+      c .before .before .before .before .before .buf .given .1,
+      c .if1,
+      c .before .before .before .before .before .before .before .before .loop-test,
+    )
 
 -- src/main.rt:34:5
 loop-again : tie.Need-loop-again Inv-loop μ-loop
-loop-again c = let l = c .before .before .before .before .before .before .before .before .before .loop in let h = rest-within (l .done) (c .before .before .n .given .0 .0) (l .buf) (l .inv .0) (read-within (c .before .before .n .given .1) (c .before .before .before .before .before .before .read-some .ensures)) in (omega (arith, h, c .before .before .before .before .before .buf .given .1), c .before .before .before .before .before .buf .given .1 ∙ l .inv .1)
+loop-again c =
+    let l = c .before .before .before .before .before .before .before .before .before .loop in
+    let h = rest-within (l .done) (c .before .before .n .given .0 .0) (l .buf) (l .inv .0)
+    (read-within (c .before .before .n .given .1) (c .before .before .before .before .before .before .read-some .ensures)) in
+    (omega (arith, h, c .before .before .before .before .before .buf .given .1), c .before .before .before .before .before .buf .given .1 ∙ l .inv .1)
 
 -- src/main.rt:30:1
 same-length-3 : tie.Need-same-length-3 Inv-loop μ-loop

@@ -30,33 +30,79 @@ mul-c : tie.Need-mul-c Inv-loop μ-loop
 mul-c c = omega (arith, c .shared-slice-known4 .given (c .before .before .loop .i))
 
 shared-slice-read-c : tie.Need-shared-slice-read-c Inv-loop μ-loop
-shared-slice-read-c c = let s = c .before .before .before .before .before .before .before .before in omega (arith, (c .before .before .before .before .before .before .before .before .pre .ord-below (c .before .before .before .loop .i) (c .before .before .loop-test .taken)), s .pre .who-room)
+shared-slice-read-c c =
+    let s = c .before .before .before .before .before .before .before .before in
+    omega (
+      arith,
+      (c .before .before .before .before .before .before .before .before .pre .ord-below (c .before .before .before .loop .i)
+          (c .before .before .loop-test .taken)),
+      s .pre .who-room,
+    )
 
 mul-parent : tie.Need-mul-parent Inv-loop μ-loop
 mul-parent c = omega (arith, c .before .shared-slice-known4 .given (c .before .before .before .loop .i))
 
 shared-slice-read-parent : tie.Need-shared-slice-read-parent Inv-loop μ-loop
-shared-slice-read-parent c = let s = c .before .before .before .before .before .before .before .before .before in omega (arith, (c .before .before .before .before .before .before .before .before .before .pre .ord-below (c .before .before .before .before .loop .i) (c .before .before .before .loop-test .taken)), s .pre .under-room)
+shared-slice-read-parent c =
+    let s = c .before .before .before .before .before .before .before .before .before in
+    omega (
+      arith,
+      (c .before .before .before .before .before .before .before .before .before .pre .ord-below (c .before .before .before .before .loop .i)
+          (c .before .before .before .loop-test .taken)),
+      s .pre .under-room,
+    )
 
 parent-requires : tie.Need-parent-requires Inv-loop μ-loop
-parent-requires c κs = let s = c .before .before .before .before .before .before .before .before .before .before in omega (arith, s .pre .under-below (getD (c .before .before .before .before .before .before .before .before .before .before .args .ord .now) (c .before .before .before .before .before .loop .i) 0) (c .before .before .before .before .before .before .before .before .before .before .pre .ord-below (c .before .before .before .before .before .loop .i) (c .before .before .before .before .loop-test .taken)), c .before .before .before .before .before .loop .inv .0)
+parent-requires c κs =
+    let s = c .before .before .before .before .before .before .before .before .before .before in
+    omega (
+      arith,
+      s .pre .under-below (getD (c .before .before .before .before .before .before .before .before .before .before .args .ord .now)
+          (c .before .before .before .before .before .loop .i) 0)
+          (c .before .before .before .before .before .before .before .before .before .before .pre .ord-below
+          (c .before .before .before .before .before .loop .i) (c .before .before .before .before .loop-test .taken)),
+      c .before .before .before .before .before .loop .inv .0,
+    )
 
 same-length : tie.Need-same-length Inv-loop μ-loop
 same-length c = c .before .before .before .before .before .before .before .loop .inv .0
 
 returns : tie.Need-returns Inv-loop μ-loop
 returns c =
-    let s = c .before .before .before .before .before .before .before .before .before .before .before .before in let l = c .before .before .before .before .before .before .before .loop in
-    give-stuck (s .args .who .now) (s .args .under .now) (s .args .ord .now) (l .own) (s .args .m) (l .i) (s .pre .ord-room) (c .before .before .before .before .before .before .loop-test .taken) _ _ refl (c .before .parent .ensures) (c .if1 .taken) ∙ l .inv .1
+    let s = c .before .before .before .before .before .before .before .before .before .before .before .before in
+    let l = c .before .before .before .before .before .before .before .loop in
+    give-stuck (s .args .who .now) (s .args .under .now) (s .args .ord .now) (l .own) (s .args .m) (l .i) (s .pre .ord-room)
+    (c .before .before .before .before .before .before .loop-test .taken) _ _ refl (c .before .parent .ensures) (c .if1 .taken) ∙ l .inv .1
 
 cast-own : tie.Need-cast-own Inv-loop μ-loop
-cast-own c = omega (arith, c .before .before .before .before .shared-slice-known5 .given (getD (c .before .before .before .before .before .before .before .before .before .before .before .before .args .ord .now) (c .before .before .before .before .before .before .before .loop .i) 0))
+cast-own c =
+    omega (
+      arith,
+      c .before .before .before .before .shared-slice-known5 .given (getD
+          (c .before .before .before .before .before .before .before .before .before .before .before .before .args .ord .now)
+          (c .before .before .before .before .before .before .before .loop .i) 0),
+    )
 
 mul-own : tie.Need-mul-own Inv-loop μ-loop
-mul-own c = omega (arith, c .before .before .before .before .shared-slice-known5 .given (getD (c .before .before .before .before .before .before .before .before .before .before .before .before .args .ord .now) (c .before .before .before .before .before .before .before .loop .i) 0))
+mul-own c =
+    omega (
+      arith,
+      c .before .before .before .before .shared-slice-known5 .given (getD
+          (c .before .before .before .before .before .before .before .before .before .before .before .before .args .ord .now)
+          (c .before .before .before .before .before .before .before .loop .i) 0),
+    )
 
 slice-write-own : tie.Need-slice-write-own Inv-loop μ-loop
-slice-write-own c = let s = c .before .before .before .before .before .before .before .before .before .before .before .before in omega (arith, s .pre .who-below (getD (c .before .before .before .before .before .before .before .before .before .before .before .before .args .ord .now) (c .before .before .before .before .before .before .before .loop .i) 0) (c .before .before .before .before .before .before .before .before .before .before .before .before .pre .ord-below (c .before .before .before .before .before .before .before .loop .i) (c .before .before .before .before .before .before .loop-test .taken)), c .before .before .before .before .before .before .before .loop .inv .0)
+slice-write-own c =
+    let s = c .before .before .before .before .before .before .before .before .before .before .before .before in
+    omega (
+      arith,
+      s .pre .who-below (getD (c .before .before .before .before .before .before .before .before .before .before .before .before .args .ord .now)
+          (c .before .before .before .before .before .before .before .loop .i) 0)
+          (c .before .before .before .before .before .before .before .before .before .before .before .before .pre .ord-below
+          (c .before .before .before .before .before .before .before .loop .i) (c .before .before .before .before .before .before .loop-test .taken)),
+      c .before .before .before .before .before .before .before .loop .inv .0,
+    )
 
 add-i : tie.Need-add-i Inv-loop μ-loop
 add-i c = let s = c .before .before .before .before .before .before .before .before .before .before .before .before in omega (arith, s .good, s .pre .ord-room)
@@ -66,9 +112,11 @@ loop-less c = omega arith
 
 loop-again : tie.Need-loop-again Inv-loop μ-loop
 loop-again c =
-    let s = c .before .before .before .before .before .before .before .before .before .before .before .before in let l = c .before .before .before .before .before .before .before .loop in (
+    let s = c .before .before .before .before .before .before .before .before .before .before .before .before in
+    let l = c .before .before .before .before .before .before .before .loop in (
       simp length-set (l .inv .0),
-      give-more (s .args .who .now) (s .args .under .now) (s .args .ord .now) (l .own) (s .args .m) (l .i) (s .pre .ord-room) (c .before .before .before .before .before .before .loop-test .taken) _ _ refl (c .before .parent .ensures) (c .if1 .left) ∙ l .inv .1,
+      give-more (s .args .who .now) (s .args .under .now) (s .args .ord .now) (l .own) (s .args .m) (l .i) (s .pre .ord-room)
+          (c .before .before .before .before .before .before .loop-test .taken) _ _ refl (c .before .parent .ensures) (c .if1 .left) ∙ l .inv .1,
     )
 
 same-length-2 : tie.Need-same-length-2 Inv-loop μ-loop

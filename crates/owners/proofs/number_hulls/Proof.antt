@@ -34,7 +34,9 @@ loop-less : tie.Need-loop-less Inv-loop μ-loop
 loop-less c = omega arith
 
 loop-again : tie.Need-loop-again Inv-loop μ-loop
-loop-again c = let s = c .before .before .before .before in let l = c .before .before .before .loop in numbering-hull _ _ (l .own) (l .shape) (l .c) (l .inv) (c .before .before .loop-test .taken) (omega (arith, s .pre)) (c .if1 .taken)
+loop-again c =
+    let s = c .before .before .before .before in let l = c .before .before .before .loop in
+    numbering-hull _ _ (l .own) (l .shape) (l .c) (l .inv) (c .before .before .loop-test .taken) (omega (arith, s .pre)) (c .if1 .taken)
 
 mul-own-2 : tie.Need-mul-own-2 Inv-loop μ-loop
 mul-own-2 c = let s = c .before .before .before .before in omega (arith, s .pre)
@@ -49,7 +51,9 @@ loop-less-2 : tie.Need-loop-less-2 Inv-loop μ-loop
 loop-less-2 c = omega arith
 
 loop-again-2 : tie.Need-loop-again-2 Inv-loop μ-loop
-loop-again-2 c = let s = c .before .before .before .before in let l = c .before .before .before .loop in numbering-hole _ _ (l .own) (l .shape) (l .c) (l .inv) (c .before .before .loop-test .taken) (omega (arith, s .pre)) (c .if1 .left)
+loop-again-2 c =
+    let s = c .before .before .before .before in let l = c .before .before .before .loop in
+    numbering-hole _ _ (l .own) (l .shape) (l .c) (l .inv) (c .before .before .loop-test .taken) (omega (arith, s .pre)) (c .if1 .left)
 
 same-length : tie.Need-same-length Inv-loop μ-loop
 same-length c = c .before .loop .inv .len

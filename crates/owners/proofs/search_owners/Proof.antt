@@ -21,12 +21,22 @@ abbrev who : tie.After-gather-holes → List ℕ
 who c = c .gather-holes .last .1 .1 .1 .1 .1 .0
 
 abbrev h : tie.After-gather-holes → Anchors
-h c = anchors (c .gather-holes .last .1 .1 .1 .1 .1 .1 .0) (c .gather-holes .last .1 .1 .1 .1 .1 .1 .1 .0) (c .gather-holes .last .1 .1 .1 .1 .1 .1 .1 .1 .0) (c .gather-holes .last .1 .1 .1 .1 .1 .1 .1 .1 .1 .0)
+h c = anchors (c .gather-holes .last .1 .1 .1 .1 .1 .1 .0) (c .gather-holes .last .1 .1 .1 .1 .1 .1 .1 .0)
+    (c .gather-holes .last .1 .1 .1 .1 .1 .1 .1 .1 .0) (c .gather-holes .last .1 .1 .1 .1 .1 .1 .1 .1 .1 .0)
 
 room : (c : tie.After-gather-holes) → Room (who c) (h c) maxLinks
 room c =
     let k = c .gather-holes .kept in
-    record { who-room = omega (arith, k .1 .1 .1 .1 .1 .0); anchor-room = record { x-room = omega (arith, k .1 .1 .1 .1 .1 .1 .0); y-room = omega (arith, k .1 .1 .1 .1 .1 .1 .1 .0); to-x-room = omega (arith, k .1 .1 .1 .1 .1 .1 .1 .1 .0); to-y-room = omega (arith, k .1 .1 .1 .1 .1 .1 .1 .1 .1 .0) } }
+    record {
+      who-room = omega (arith, k .1 .1 .1 .1 .1 .0);
+      anchor-room = record {
+        x-room = omega (arith, k .1 .1 .1 .1 .1 .1 .0);
+        y-room = omega (arith, k .1 .1 .1 .1 .1 .1 .1 .0);
+        to-x-room = omega
+            (arith, k .1 .1 .1 .1 .1 .1 .1 .1 .0);
+        to-y-room = omega (arith, k .1 .1 .1 .1 .1 .1 .1 .1 .1 .0);
+      };
+    }
 
 slice-aggregate-gather-holes : tie.Need-slice-aggregate-gather-holes
 slice-aggregate-gather-holes c = search needs
@@ -44,7 +54,15 @@ slice-aggregate-gather-holes-5 : tie.Need-slice-aggregate-gather-holes-5
 slice-aggregate-gather-holes-5 c = search needs
 
 gather-holes-requires : tie.Need-gather-holes-requires
-gather-holes-requires c κs = let s = c .before .before .before .before .before .before .before .before .before in (s .pre .0, record { who-room = omega arith; anchor-room = record { x-room = omega arith; y-room = omega arith; to-x-room = omega arith; to-y-room = omega arith } })
+gather-holes-requires c κs =
+    let s = c .before .before .before .before .before .before .before .before .before in (
+      s .pre .0,
+      record {
+        who-room = omega arith;
+        anchor-room = record
+            { x-room = omega arith; y-room = omega arith; to-x-room = omega arith; to-y-room = omega arith };
+      },
+    )
 
 slice-aggregate-contours-under : tie.Need-slice-aggregate-contours-under
 slice-aggregate-contours-under c = search needs
@@ -66,8 +84,18 @@ slice-aggregate-contours-under-6 c = search needs
 
 contours-under-requires : tie.Need-contours-under-requires
 contours-under-requires c κs =
-    let s = c .before .before .before .before .before .before .before .before .before .before .before .before .before .before .before .before .before .before .before .before .before in let g = c .before .before .before .before .before .before .before .before .before .before .before in let few = few-holes (t s) (s .pre .0) (s .args .clockwise) (s .pre .1) (g .gather-holes .result) (who g) (h g) (g .gather-holes .ensures) in
-    (s .pre .0, ((omega (arith, contours-few (t s) (s .pre .0)), few, few), sorted-anchors (t s) (s .pre .0) (s .args .clockwise) (s .pre .1) (g .gather-holes .result) (who g) (h g) (g .gather-holes .ensures) (room g)))
+    let s = c
+    .before .before .before .before .before .before .before .before .before .before .before .before .before .before .before .before .before
+    .before .before .before .before in let g =
+    c .before .before .before .before .before .before .before .before .before .before .before in let few =
+    few-holes (t s) (s .pre .0) (s .args .clockwise) (s .pre .1) (g .gather-holes .result) (who g) (h g) (g .gather-holes .ensures) in (
+      s .pre .0,
+      (
+        (omega (arith, contours-few (t s) (s .pre .0)), few, few),
+        sorted-anchors (t s) (s .pre .0) (s .args .clockwise) (s .pre .1)
+            (g .gather-holes .result) (who g) (h g) (g .gather-holes .ensures) (room g),
+      ),
+    )
 
 slice-aggregate-order-holes : tie.Need-slice-aggregate-order-holes
 slice-aggregate-order-holes c = search needs
@@ -89,7 +117,12 @@ slice-aggregate-order-holes-6 c = search needs
 
 order-holes-requires : tie.Need-order-holes-requires
 order-holes-requires c κs =
-    let s = c .before .before .before .before .before .before .before .before .before .before .before .before .before .before .before .before .before .before .before .before .before .before .before .before .before .before .before .before .before in let g = c .before .before .before .before .before .before .before .before .before .before .before .before .before .before .before .before .before .before .before in let few = few-holes (t s) (s .pre .0) (s .args .clockwise) (s .pre .1) (g .gather-holes .result) (who g) (h g) (g .gather-holes .ensures) in
+    let s = c
+    .before .before .before .before .before .before .before .before .before .before .before .before .before .before .before .before .before
+    .before .before .before .before .before .before .before .before .before .before .before .before in let g =
+    c .before .before .before .before .before .before .before .before .before .before .before .before .before .before .before .before .before
+    .before .before in let few =
+    few-holes (t s) (s .pre .0) (s .args .clockwise) (s .pre .1) (g .gather-holes .result) (who g) (h g) (g .gather-holes .ensures) in
     (bounded (t s) (s .pre .0) (s .args .clockwise) (s .pre .1) (g .gather-holes .result) (who g) (h g) (g .gather-holes .ensures) (room g), few, few)
 
 slice-aggregate-give-owners : tie.Need-slice-aggregate-give-owners
@@ -103,8 +136,16 @@ slice-aggregate-give-owners-3 c = search needs
 
 give-owners-requires : tie.Need-give-owners-requires
 give-owners-requires c κs =
-    let s = c .before .before .before .before .before .before .before .before .before .before .before .before .before .before .before .before .before .before .before .before .before .before .before .before .before .before .before .before .before .before .before .before .before .before .before in let g = c .before .before .before .before .before .before .before .before .before .before .before .before .before .before .before .before .before .before .before .before .before .before .before .before .before in let u = c .before .before .before .before .before .before .before .before .before .before .before .before .before .contours-under in let o = c .before .before .before .before .before .order-holes in
-    listed (t s) (s .pre .0) (s .args .clockwise) (s .pre .1) (g .gather-holes .result) (who g) (h g) (g .gather-holes .ensures) (u .last .1 .1 .1 .1 .1 .1 .1 .1 .1 .1 .1 .1 .0) (o .last .1 .1 .1 .1 .1 .1 .0) (s .args .own .now) (u .ensures) (o .ensures)
+    let s = c
+    .before .before .before .before .before .before .before .before .before .before .before .before .before .before .before .before .before
+    .before .before .before .before .before .before .before .before .before .before .before .before .before .before .before .before .before
+    .before in let g =
+    c .before .before .before .before .before .before .before .before .before .before .before .before .before .before .before .before .before
+    .before .before .before .before .before .before .before .before in let u =
+    c .before .before .before .before .before .before .before .before .before .before .before .before .before .contours-under in let o =
+    c .before .before .before .before .before .order-holes in
+    listed (t s) (s .pre .0) (s .args .clockwise) (s .pre .1) (g .gather-holes .result) (who g) (h g) (g .gather-holes .ensures)
+    (u .last .1 .1 .1 .1 .1 .1 .1 .1 .1 .1 .1 .1 .0) (o .last .1 .1 .1 .1 .1 .1 .0) (s .args .own .now) (u .ensures) (o .ensures)
     (omega (arith, o .kept .1 .1 .1 .1 .1 .1 .0)) (room g .who-room) (omega (arith, u .kept .1 .1 .1 .1 .1 .1 .1 .1 .1 .1 .1 .1 .0)) (s .pre .2)
 
 same-length : tie.Need-same-length
@@ -112,9 +153,18 @@ same-length c = search needs
 
 returns : tie.Need-returns
 returns c =
-    let s = c .before .before .before .before .before .before .before .before .before .before .before .before .before .before .before .before .before .before .before .before .before .before .before .before .before .before .before .before .before .before .before .before .before .before .before .before .before .before in let g = c .before .before .before .before .before .before .before .before .before .before .before .before .before .before .before .before .before .before .before .before .before .before .before .before .before .before .before .before in let u = c .before .before .before .before .before .before .before .before .before .before .before .before .before .before .before .before .contours-under in let o = c .before .before .before .before .before .before .before .before .order-holes in
+    let s = c
+    .before .before .before .before .before .before .before .before .before .before .before .before .before .before .before .before .before
+    .before .before .before .before .before .before .before .before .before .before .before .before .before .before .before .before .before
+    .before .before .before .before in let g =
+    c .before .before .before .before .before .before .before .before .before .before .before .before .before .before .before .before .before
+    .before .before .before .before .before .before .before .before .before .before .before in let u =
+    c .before .before .before .before .before .before .before .before .before .before .before .before .before .before .before .before
+    .contours-under in let o = c .before .before .before .before .before .before .before .before .order-holes in
     c .before .before .give-owners .ensures
-    ∙ gave (t s) (s .pre .0) (s .args .clockwise) (s .pre .1) (g .gather-holes .result) (who g) (h g) (g .gather-holes .ensures) (u .last .1 .1 .1 .1 .1 .1 .1 .1 .1 .1 .1 .1 .0) (o .last .1 .1 .1 .1 .1 .1 .0) (s .args .own .now) (u .ensures) (o .ensures) (omega (arith, o .kept .1 .1 .1 .1 .1 .1 .0))
+    ∙ gave (t s) (s .pre .0) (s .args .clockwise) (s .pre .1) (g .gather-holes .result) (who g) (h g) (g .gather-holes .ensures)
+    (u .last .1 .1 .1 .1 .1 .1 .1 .1 .1 .1 .1 .1 .0) (o .last .1 .1 .1 .1 .1 .1 .0) (s .args .own .now) (u .ensures) (o .ensures)
+    (omega (arith, o .kept .1 .1 .1 .1 .1 .1 .0))
 
 pub search-owners-spec : {M : Type 1} → statement M
 search-owners-spec =

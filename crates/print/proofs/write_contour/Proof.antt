@@ -1,8 +1,9 @@
 -- `print::write_contour` meets its contract.
 use native.Mathlib.Omega.{arith}
 use lib.ListN.{getD}
-use Rattle.print.specs.Answer.{table, contourLine, pointLines, contourLines}
-use Rattle.print.specs.Write.{left-all, left-after, left-last, piece-fits, last-fits}
+use Rattle.print.specs.Answer.{ownedTable, pointLines, contourLines}
+use Rattle.print_lines.specs.Lines.{contourLine}
+use Rattle.writing.specs.Write.{left-all, left-after, left-last, piece-fits, last-fits}
 use borrow.Author.Needs.{needs}
 use Rattle.print.proofs.write_contour.Statement.{statement}
 use Rattle.print.proofs.write_contour.Tie as tie
@@ -28,7 +29,8 @@ write-contour-line-requires c κs =
     let a = s .args in
     let p = contourLine (a .i) (getD (a .kind .now) (a .i) 0) (getD (a .owner .now) (a .i) 0) (getD (a .len .now) (a .i) 0) in
     let q = pointLines (a .points .now) (getD (a .first .now) (a .i) 0) (getD (a .len .now) (a .i) 0) in
-    let l0 = left-all (a .out .now) (a .at) (contourLines (table (a .points .now) (a .first .now) (a .len .now) (a .kind .now) (a .owner .now)) (a .i)) (s .pre .1) in
+    let l0 = left-all (a .out .now) (a .at) (contourLines (ownedTable (a .points .now) (a .first .now) (a .len .now) (a .kind .now) (a .owner .now))
+    (a .i)) (s .pre .1) in
     piece-fits p q l0
 
 mul-write-points : tie.Need-mul-write-points
@@ -38,10 +40,19 @@ shared-slice-read-write-points : tie.Need-shared-slice-read-write-points
 shared-slice-read-write-points c = search needs
 
 cast-write-points : tie.Need-cast-write-points
-cast-write-points c = omega (arith, c .shared-slice-known8 .given (c .before .before .before .before .before .before .before .before .before .before .before .before .before .args .i))
+cast-write-points c =
+    omega (
+      arith,
+      c .shared-slice-known8 .given (c .before .before .before .before .before .before .before .before .before .before .before .before .before .args .i),
+    )
 
 cast-write-points-2 : tie.Need-cast-write-points-2
-cast-write-points-2 c = omega (arith, c .before .before .before .before .before .before .before .shared-slice-known5 .given (c .before .before .before .before .before .before .before .before .before .before .before .before .before .args .i))
+cast-write-points-2 c =
+    omega (
+      arith,
+      c .before .before .before .before .before .before .before .shared-slice-known5 .given
+          (c .before .before .before .before .before .before .before .before .before .before .before .before .before .args .i),
+    )
 
 write-points-requires : tie.Need-write-points-requires
 write-points-requires c κs =
@@ -49,7 +60,8 @@ write-points-requires c κs =
     let a = s .args in
     let p = contourLine (a .i) (getD (a .kind .now) (a .i) 0) (getD (a .owner .now) (a .i) 0) (getD (a .len .now) (a .i) 0) in
     let q = pointLines (a .points .now) (getD (a .first .now) (a .i) 0) (getD (a .len .now) (a .i) 0) in
-    let l0 = left-all (a .out .now) (a .at) (contourLines (table (a .points .now) (a .first .now) (a .len .now) (a .kind .now) (a .owner .now)) (a .i)) (s .pre .1) in
+    let l0 = left-all (a .out .now) (a .at) (contourLines (ownedTable (a .points .now) (a .first .now) (a .len .now) (a .kind .now) (a .owner .now))
+    (a .i)) (s .pre .1) in
     (s .pre .0 .points (a .i) (omega arith), last-fits q (left-after p q l0 (c .before .before .before .before .write-contour-line .ensures)))
 
 same-length : tie.Need-same-length
@@ -61,8 +73,10 @@ returns c =
     let a = s .args in
     let p = contourLine (a .i) (getD (a .kind .now) (a .i) 0) (getD (a .owner .now) (a .i) 0) (getD (a .len .now) (a .i) 0) in
     let q = pointLines (a .points .now) (getD (a .first .now) (a .i) 0) (getD (a .len .now) (a .i) 0) in
-    let l0 = left-all (a .out .now) (a .at) (contourLines (table (a .points .now) (a .first .now) (a .len .now) (a .kind .now) (a .owner .now)) (a .i)) (s .pre .1) in
-    left-last q (left-after p q l0 (c .before .before .before .before .before .before .before .write-contour-line .ensures)) (c .before .before .write-points .ensures)
+    let l0 = left-all (a .out .now) (a .at) (contourLines (ownedTable (a .points .now) (a .first .now) (a .len .now) (a .kind .now) (a .owner .now))
+    (a .i)) (s .pre .1) in
+    left-last q (left-after p q l0 (c .before .before .before .before .before .before .before .write-contour-line .ensures))
+    (c .before .before .write-points .ensures)
 
 pub write-contour-spec : {M : Type 1} → statement M
 write-contour-spec =

@@ -2,9 +2,10 @@
 use mathlib.Core.List.{_++_}
 use native.Mathlib.Nat.{le-trans}
 use Rattle.print.proofs.Lengths.{refusal-short}
-use Rattle.print.specs.Text.{text}
-use Rattle.print.specs.Answer.{said, printedRefusal}
-use Rattle.print.specs.Write.{left-from-0, left-after, left-last, piece-fits, last-fits, counted}
+use Rattle.print_text.specs.Text.{text}
+use Rattle.print_text.specs.Decimal.{said}
+use Rattle.print.specs.Answer.{printedRefusal}
+use Rattle.writing.specs.Write.{left-from-0, left-after, left-last, piece-fits, last-fits, is-front}
 use borrow.Author.Needs.{needs}
 use Rattle.print.proofs.write_refusal.Statement.{statement}
 use Rattle.print.proofs.write_refusal.Tie as tie
@@ -19,7 +20,8 @@ write-said-requires c κs =
     let a = s .args in
     let p = said (text "refused ") (a .number) in
     let q = said (text " at ") (a .place) in
-    let l = left-from-0 (a .out .now) (printedRefusal (a .number) (a .place)) (le-trans (refusal-short (a .number) (a .place) (s .fits .number .fits) (s .fits .place .fits)) (s .pre)) in
+    let l = left-from-0 (a .out .now) (printedRefusal (a .number) (a .place))
+    (le-trans (refusal-short (a .number) (a .place) (s .fits .number .fits) (s .fits .place .fits)) (s .pre)) in
     piece-fits p (q ++ text "\n") l
 
 slice-aggregate-write-said-2 : tie.Need-slice-aggregate-write-said-2
@@ -32,7 +34,8 @@ write-said-requires-2 c κs =
     let a = s .args in
     let p = said (text "refused ") (a .number) in
     let q = said (text " at ") (a .place) in
-    let l = left-from-0 (a .out .now) (printedRefusal (a .number) (a .place)) (le-trans (refusal-short (a .number) (a .place) (s .fits .number .fits) (s .fits .place .fits)) (s .pre)) in
+    let l = left-from-0 (a .out .now) (printedRefusal (a .number) (a .place))
+    (le-trans (refusal-short (a .number) (a .place) (s .fits .number .fits) (s .fits .place .fits)) (s .pre)) in
     piece-fits q (text "\n") (left-after p (q ++ text "\n") l (c .before .before .before .before .write-said .ensures))
 
 slice-aggregate-write-text : tie.Need-slice-aggregate-write-text
@@ -45,8 +48,12 @@ write-text-requires c κs =
     let a = s .args in
     let p = said (text "refused ") (a .number) in
     let q = said (text " at ") (a .place) in
-    let l = left-from-0 (a .out .now) (printedRefusal (a .number) (a .place)) (le-trans (refusal-short (a .number) (a .place) (s .fits .number .fits) (s .fits .place .fits)) (s .pre)) in
-    last-fits (text "\n") (left-after q (text "\n") (left-after p (q ++ text "\n") l (c .before .before .before .before .before .before .before .before .before .write-said .ensures)) (c .before .before .before .before .write-said2 .ensures))
+    let l = left-from-0 (a .out .now) (printedRefusal (a .number) (a .place))
+    (le-trans (refusal-short (a .number) (a .place) (s .fits .number .fits) (s .fits .place .fits)) (s .pre)) in
+    last-fits (text "\n")
+    (left-after q (text "\n")
+    (left-after p (q ++ text "\n") l (c .before .before .before .before .before .before .before .before .before .write-said .ensures))
+    (c .before .before .before .before .write-said2 .ensures))
 
 same-length : tie.Need-same-length
 same-length c = search needs
@@ -58,9 +65,14 @@ returns c =
     let a = s .args in
     let p = said (text "refused ") (a .number) in
     let q = said (text " at ") (a .place) in
-    let l = left-from-0 (a .out .now) (printedRefusal (a .number) (a .place)) (le-trans (refusal-short (a .number) (a .place) (s .fits .number .fits) (s .fits .place .fits)) (s .pre)) in
-    let w = left-last (text "\n") (left-after q (text "\n") (left-after p (q ++ text "\n") l (c .before .before .before .before .before .before .before .before .before .before .before .before .write-said .ensures)) (c .before .before .before .before .before .before .before .write-said2 .ensures)) (c .before .before .write-text .ensures) in
-    (w, counted (le-trans (refusal-short (a .number) (a .place) (s .fits .number .fits) (s .fits .place .fits)) (s .pre)) w)
+    let l = left-from-0 (a .out .now) (printedRefusal (a .number) (a .place))
+    (le-trans (refusal-short (a .number) (a .place) (s .fits .number .fits) (s .fits .place .fits)) (s .pre)) in
+    let w = left-last (text "\n")
+    (left-after q (text "\n")
+    (left-after p (q ++ text "\n") l
+    (c .before .before .before .before .before .before .before .before .before .before .before .before .write-said .ensures))
+    (c .before .before .before .before .before .before .before .write-said2 .ensures)) (c .before .before .write-text .ensures) in
+    (w, is-front (le-trans (refusal-short (a .number) (a .place) (s .fits .number .fits) (s .fits .place .fits)) (s .pre)) w)
 
 pub write-refusal-spec : {M : Type 1} → statement M
 write-refusal-spec =

@@ -23,7 +23,8 @@ use Rattle.keep.specs.Tables.{Tables, tables}
 use borrow.Author.Needs.{needs}
 
 abbrev g : tie.Start → Lent
-g s = lent (s .args .ax .now) (s .args .ay .now) (s .args .bx .now) (s .args .by .now) (s .args .aid .now) (s .args .bid .now) (s .args .start .now) (s .args .list .now)
+g s = lent (s .args .ax .now) (s .args .ay .now) (s .args .bx .now) (s .args .by .now) (s .args .aid .now) (s .args .bid .now) (s .args .start .now)
+    (s .args .list .now)
 
 abbrev st : tie.Start → List ℕ
 st s = s .args .state .now
@@ -33,7 +34,8 @@ t s = tables (s .args .points .now) (s .args .first .now) (s .args .len .now) (s
 
 -- the walk that rules 2 to 4 give
 abbrev rule : tie.Start → Walked
-rule s = walkFrom (plain (g s)) (not (Bool·beq (s .args .hole) (s .args .settings .clockwise))) (Bool·beq (s .args .hole) (s .args .settings .clockwise)) (markOf (s .args .hole)) (st s) (s .args .s)
+rule s = walkFrom (plain (g s)) (not (Bool·beq (s .args .hole) (s .args .settings .clockwise)))
+    (Bool·beq (s .args .hole) (s .args .settings .clockwise)) (markOf (s .args .hole)) (st s) (s .args .s)
 
 abbrev at-start : tie.After-find-contour → tie.Start
 at-start o = o .before .before .before .before .before .before .before .before .before .before .before .before .before
@@ -44,17 +46,29 @@ states o = o .find-contour .last .1 .1 .1 .1 .1 .1 .1 .1 .1 .0
 abbrev coords : tie.After-find-contour → List ℤ
 coords o = o .find-contour .last .1 .1 .1 .1 .1 .1 .1 .1 .1 .1 .0
 
-left-by : (o : tie.After-find-contour) → WalkLeaves (plain (g (at-start o))) (at-start o .args .points .now) (at-start o .args .c .points) (rule (at-start o)) (o .find-contour .result) (states o) (coords o)
+left-by : (o : tie.After-find-contour) → WalkLeaves (plain (g (at-start o))) (at-start o .args .points .now) (at-start o .args .c .points)
+    (rule (at-start o)) (o .find-contour .result) (states o) (coords o)
 left-by o = rw (o .before .before .before .before .same .ensures, o .before .before .before .mark-of .ensures) at (o .find-contour .ensures .0)
 
 abbrev end : tie.After-to → ℕ
 end c = c .to .given .0 .0
 
-done : (c : tie.After-to) → Finish (plain (g (at-start (c .before .before .before .before .before)))) (at-start (c .before .before .before .before .before) .args .points .now) (at-start (c .before .before .before .before .before) .args .c .points) (rule (at-start (c .before .before .before .before .before))) (end c) (states (c .before .before .before .before .before)) (coords (c .before .before .before .before .before))
-done c = let o = c .before .before .before .before .before in finish (plain (g (at-start o))) (at-start o .args .points .now) (at-start o .args .c .points) (o .find-contour .result) (states o) (coords o) (rule (at-start o)) (end c) (left-by o) (c .to .given .1)
+done : (c : tie.After-to) → Finish (plain (g (at-start (c .before .before .before .before .before))))
+    (at-start (c .before .before .before .before .before) .args .points .now) (at-start (c .before .before .before .before .before) .args .c .points)
+    (rule (at-start (c .before .before .before .before .before))) (end c) (states (c .before .before .before .before .before))
+    (coords (c .before .before .before .before .before))
+done c = let o =
+    c .before .before .before .before .before in
+    finish (plain (g (at-start o))) (at-start o .args .points .now) (at-start o .args .c .points) (o .find-contour .result) (states o) (coords o)
+    (rule (at-start o)) (end c) (left-by o) (c .to .given .1)
 
-counted : (c : tie.After-to) → (at-start (c .before .before .before .before .before) .args .c .points + 1 ≤ end c) × (end c + unvisited (states (c .before .before .before .before .before)) ≡ at-start (c .before .before .before .before .before) .args .c .points + unvisited (st (at-start (c .before .before .before .before .before))))
-counted c = let o = c .before .before .before .before .before in subst (Counted (at-start o .args .c .points + 1) (at-start o .args .c .points) (st (at-start o)) (states o)) (c .to .given .1) (o .find-contour .ensures .1 .0)
+counted : (c : tie.After-to) → (at-start (c .before .before .before .before .before) .args .c .points + 1 ≤ end c)
+    × (end c + unvisited (states (c .before .before .before .before .before))
+    ≡ at-start (c .before .before .before .before .before) .args .c .points + unvisited (st (at-start (c .before .before .before .before .before))))
+counted c =
+    let o = c .before .before .before .before .before in
+    subst (Counted (at-start o .args .c .points + 1) (at-start o .args .c .points) (st (at-start o)) (states o)) (c .to .given .1)
+    (o .find-contour .ensures .1 .0)
 
 fits : (c : tie.After-to) → end c ≤ length (st (at-start (c .before .before .before .before .before)))
 fits c = let s = at-start (c .before .before .before .before .before) in let w = s .pre .1 .1 .2 in omega (arith, counted c .1, w .points, w .links)
@@ -68,8 +82,13 @@ mark-of-requires c κs = search needs
 find-contour-requires : tie.Need-find-contour-requires
 find-contour-requires c κs =
     let s = c .before .before .before .before .before .before .before .before .before .before .before .before in
-    let w = s .pre .1 .1 .2 in
-    (s .pre .0, ((s .pre .1 .1 .0, s .pre .1 .1 .1, rw (c .before .before .mark-of .ensures) (marks-of (s .args .hole))), omega (arith, w .points, w .links, s .pre .1 .0 .points-room)))
+    let w = s .pre .1 .1 .2 in (
+      s .pre .0,
+      (
+        (s .pre .1 .1 .0, s .pre .1 .1 .1, rw (c .before .before .mark-of .ensures) (marks-of (s .args .hole))),
+        omega (arith, w .points, w .links, s .pre .1 .0 .points-room),
+      ),
+    )
 
 enum-known-number : tie.Need-enum-known-number
 enum-known-number c = search needs
@@ -102,7 +121,8 @@ returns : tie.Need-returns
 returns c =
     let o = c .before .before .before .before .before .before in
     let s = at-start o in (
-      stuck-noted (plain (g s)) (s .args .settings .minimum) (t s) (s .args .hole) (rule s) _ _ _ _ _ _ _ (stuck-at (plain (g s)) _ _ _ _ _ (rule s) _ (left-by o) (c .before .number .given .1)) refl,
+      stuck-noted (plain (g s)) (s .args .settings .minimum) (t s) (s .args .hole) (rule s) _ _ _ _ _ _ _
+          (stuck-at (plain (g s)) _ _ _ _ _ (rule s) _ (left-by o) (c .before .number .given .1)) refl,
       (tt, o .find-contour .ensures .1 .1),
     )
 
@@ -128,8 +148,13 @@ returns-2 c =
     let s = at-start o in
     let n = c .before .before .before .before .before .before in
     let r : end k * 2 ≤ length (s .args .points .now) = omega (arith, fits k, s .pre .1 .0 .points-room) in (
-      walk-noted (g s) _ (s .pre .0) (s .args .settings .minimum) (s .args .hole) (t s) (end k) (st s) (states o) (coords o) (rule s) (done k) r _ _ _ _ (n .note-walk .ensures),
-      (walk-fewer (g s) _ (s .pre .0) (s .args .settings .minimum) (s .args .hole) (t s) (end k) (st s) (states o) (coords o) (rule s) (done k) r _ _ _ _ (n .note-walk .ensures) _ (s .pre .1 .1 .2) (counted k), o .find-contour .ensures .1 .1),
+      walk-noted (g s) _ (s .pre .0) (s .args .settings .minimum) (s .args .hole) (t s) (end k) (st s) (states o) (coords o) (rule s)
+          (done k) r _ _ _ _ (n .note-walk .ensures),
+      (
+        walk-fewer (g s) _ (s .pre .0) (s .args .settings .minimum) (s .args .hole) (t s) (end k) (st s) (states o) (coords o) (rule s)
+            (done k) r _ _ _ _ (n .note-walk .ensures) _ (s .pre .1 .1 .2) (counted k),
+        o .find-contour .ensures .1 .1,
+      ),
     )
 
 pub note-contour-spec : {M : Type 1} → statement M

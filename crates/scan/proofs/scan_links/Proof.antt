@@ -1,4 +1,5 @@
--- `scan::scan_links` meets its contract. The invariant: what the scan leaves from here it leaves from the loop's start, and no link below k is unvisited (`Scanning`).
+-- `scan::scan_links` meets its contract. The invariant: what the scan leaves from here it leaves from the loop's start,
+-- and no link below k is unvisited (`Scanning`).
 -- The measure falls where link k is passed and where a walk marks links: the links left and the unvisited ones together.
 use Prim.Native.Nat.{_+_, _-_, _<_}
 use mathlib.Core.Path.{refl, sym, _∙_}
@@ -20,14 +21,16 @@ use Rattle.walk.specs.Marks.{kept-then}
 
 abbrev Inv-loop : tie.InvT-loop
 Inv-loop ax ay bx by aid bid start list top settings state₀ points₀ first₀ len₀ kind₀ n k₀ c₀ state points first len kind k c =
-    Scanning (graphOf (lent ax ay bx by aid bid start list) top) (settings .clockwise) (settings .minimum) n state₀ points₀ first₀ len₀ kind₀ k c state points first len kind
+    Scanning (graphOf (lent ax ay bx by aid bid start list) top) (settings .clockwise)
+    (settings .minimum) n state₀ points₀ first₀ len₀ kind₀ k c state points first len kind
 
 abbrev μ-loop : tie.MeasureT-loop
 μ-loop ax ay bx by aid bid start list top settings state₀ points₀ first₀ len₀ kind₀ n k₀ c₀ state points first len kind k c =
     n - k + unvisited state
 
 abbrev g : tie.Start Inv-loop μ-loop → Graph
-g s = graphOf (lent (s .args .ax .now) (s .args .ay .now) (s .args .bx .now) (s .args .by .now) (s .args .aid .now) (s .args .bid .now) (s .args .start .now) (s .args .list .now)) (s .args .top .now)
+g s = graphOf (lent (s .args .ax .now) (s .args .ay .now) (s .args .bx .now) (s .args .by .now) (s .args .aid .now) (s .args .bid .now)
+    (s .args .start .now) (s .args .list .now)) (s .args .top .now)
 
 abbrev at-start : tie.At-loop Inv-loop μ-loop → tie.Start Inv-loop μ-loop
 at-start l = l .before .before .before .before .before .before .before .before .before .before
@@ -36,13 +39,17 @@ at-start l = l .before .before .before .before .before .before .before .before .
 in-states : (l : tie.At-loop Inv-loop μ-loop) → l .loop .k < length (at-start l .args .state .now) → l .loop .k < length (l .loop .state)
 in-states l h = rw (l .loop .inv .kept .len) h
 
-roomy : (l : tie.At-loop Inv-loop μ-loop) → Roomy (length (l .loop .state)) (length (l .loop .points)) (length (l .loop .first)) (length (l .loop .len)) (length (l .loop .kind))
+roomy : (l : tie.At-loop Inv-loop μ-loop) → Roomy (length (l .loop .state)) (length (l .loop .points)) (length (l .loop .first))
+    (length (l .loop .len)) (length (l .loop .kind))
 roomy l =
     let i = l .loop .inv in
     rw (i .kept .len, i .points-length, i .first-length, i .len-length, i .kind-length) (at-start l .pre .1)
 
 loop-holds : tie.Need-loop-holds Inv-loop μ-loop
-loop-holds c = let s = c .before .before .before .before .before .before .before .before .before in none-yet (g s) (s .args .settings .clockwise) (s .args .settings .minimum) (s .args .state .now) (s .args .points .now) (s .args .first .now) (s .args .len .now) (s .args .kind .now)
+loop-holds c =
+    let s = c .before .before .before .before .before .before .before .before .before in
+    none-yet (g s) (s .args .settings .clockwise) (s .args .settings .minimum) (s .args .state .now) (s .args .points .now) (s .args .first .now)
+    (s .args .len .now) (s .args .kind .now)
 
 slice-read-if1 : tie.Need-slice-read-if1 Inv-loop μ-loop
 slice-read-if1 c = in-states (c .before .before) (c .before .loop-test .taken)
@@ -58,7 +65,9 @@ loop-again c =
     let l = c .before .before .before in
     let s = at-start l in
     let t = c .before .before .loop-test .taken in
-    scan-moves (g s) (s .args .settings .clockwise) (s .args .settings .minimum) _ _ _ _ _ _ (l .loop .k) (l .loop .c) (l .loop .state) (l .loop .points) (l .loop .first) (l .loop .len) (l .loop .kind) (l .loop .inv) t (read-shut (l .loop .state) (l .loop .k) (in-states l t) (c .if1 .taken))
+    scan-moves (g s) (s .args .settings .clockwise) (s .args .settings .minimum) _ _ _ _ _ _ (l .loop .k) (l .loop .c) (l .loop .state)
+    (l .loop .points) (l .loop .first) (l .loop .len) (l .loop .kind) (l .loop .inv) t
+    (read-shut (l .loop .state) (l .loop .k) (in-states l t) (c .if1 .taken))
 
 scan-walk-requires : tie.Need-scan-walk-requires Inv-loop μ-loop
 scan-walk-requires c κs =
@@ -66,26 +75,47 @@ scan-walk-requires c κs =
     let s = at-start l in
     let i = l .loop .inv in (
       (rw (i .kept .len) (s .pre .0 .0), s .pre .0 .1 ∙ sym (i .kept .len)),
-      (roomy l, (read-unvisited (l .loop .state) (l .loop .k) (in-states l (c .before .before .before .before .before .before .before .loop-test .taken)) (c .before .before .before .before .before .if1 .left), rw (i .kept .len) (i .within))),
+      (
+        roomy l,
+        (
+          read-unvisited (l .loop .state) (l .loop .k) (in-states l (c .before .before .before .before .before .before .before .loop-test .taken))
+              (c .before .before .before .before .before .if1 .left),
+          rw (i .kept .len) (i .within),
+        ),
+      ),
     )
 
 enum-known-number : tie.Need-enum-known-number Inv-loop μ-loop
 enum-known-number c = search needs
 
 same-length : tie.Need-same-length Inv-loop μ-loop
-same-length c = let o = c .before .before .before .before .before .before .before .before .before .before .before .before in o .scan-walk .ensures .1 .1 .len ∙ o .before .before .before .before .before .before .before .before .before .loop .inv .kept .len
+same-length c =
+    let o = c .before .before .before .before .before .before .before .before .before .before .before .before in
+    o .scan-walk .ensures .1 .1 .len ∙ o .before .before .before .before .before .before .before .before .before .loop .inv .kept .len
 
 same-length-2 : tie.Need-same-length-2 Inv-loop μ-loop
-same-length-2 c = let o = c .before .before .before .before .before .before .before .before .before .before .before .before in o .scan-walk .kept .1 .1 .1 .1 .1 .1 .1 .1 .1 .1 .1 .0 ∙ o .before .before .before .before .before .before .before .before .before .loop .inv .points-length
+same-length-2 c =
+    let o = c .before .before .before .before .before .before .before .before .before .before .before .before in
+    o .scan-walk .kept .1 .1 .1 .1 .1 .1 .1 .1 .1 .1 .1 .0
+    ∙ o .before .before .before .before .before .before .before .before .before .loop .inv .points-length
 
 same-length-3 : tie.Need-same-length-3 Inv-loop μ-loop
-same-length-3 c = let o = c .before .before .before .before .before .before .before .before .before .before .before .before in o .scan-walk .kept .1 .1 .1 .1 .1 .1 .1 .1 .1 .1 .1 .1 .0 ∙ o .before .before .before .before .before .before .before .before .before .loop .inv .first-length
+same-length-3 c =
+    let o = c .before .before .before .before .before .before .before .before .before .before .before .before in
+    o .scan-walk .kept .1 .1 .1 .1 .1 .1 .1 .1 .1 .1 .1 .1 .0
+    ∙ o .before .before .before .before .before .before .before .before .before .loop .inv .first-length
 
 same-length-4 : tie.Need-same-length-4 Inv-loop μ-loop
-same-length-4 c = let o = c .before .before .before .before .before .before .before .before .before .before .before .before in o .scan-walk .kept .1 .1 .1 .1 .1 .1 .1 .1 .1 .1 .1 .1 .1 .0 ∙ o .before .before .before .before .before .before .before .before .before .loop .inv .len-length
+same-length-4 c =
+    let o = c .before .before .before .before .before .before .before .before .before .before .before .before in
+    o .scan-walk .kept .1 .1 .1 .1 .1 .1 .1 .1 .1 .1 .1 .1 .1 .0
+    ∙ o .before .before .before .before .before .before .before .before .before .loop .inv .len-length
 
 same-length-5 : tie.Need-same-length-5 Inv-loop μ-loop
-same-length-5 c = let o = c .before .before .before .before .before .before .before .before .before .before .before .before in o .scan-walk .kept .1 .1 .1 .1 .1 .1 .1 .1 .1 .1 .1 .1 .1 .1 .0 ∙ o .before .before .before .before .before .before .before .before .before .loop .inv .kind-length
+same-length-5 c =
+    let o = c .before .before .before .before .before .before .before .before .before .before .before .before in
+    o .scan-walk .kept .1 .1 .1 .1 .1 .1 .1 .1 .1 .1 .1 .1 .1 .1 .0
+    ∙ o .before .before .before .before .before .before .before .before .before .loop .inv .kind-length
 
 returns : tie.Need-returns Inv-loop μ-loop
 returns c =
@@ -94,8 +124,10 @@ returns c =
     let s = at-start l in
     let t = o .before .before .before .before .before .before .before .before .loop-test .taken in
     let i = l .loop .inv in (
-      scan-refused (g s) (s .args .settings .clockwise) (s .args .settings .minimum) _ _ _ _ _ _ (l .loop .k) (l .loop .c) (l .loop .state) (l .loop .points) (l .loop .first) (l .loop .len) (l .loop .kind) i t
-          (read-unvisited (l .loop .state) (l .loop .k) (in-states l t) (o .before .before .before .before .before .before .if1 .left)) _ _ _ _ _ _ _ (c .before .number .given .1) (o .scan-walk .ensures .0) _ _ _ _ _ _ refl,
+      scan-refused (g s) (s .args .settings .clockwise) (s .args .settings .minimum) _ _ _ _ _ _ (l .loop .k) (l .loop .c) (l .loop .state)
+          (l .loop .points) (l .loop .first) (l .loop .len) (l .loop .kind) i t
+          (read-unvisited (l .loop .state) (l .loop .k) (in-states l t) (o .before .before .before .before .before .before .if1 .left)) _ _ _ _ _ _ _
+          (c .before .number .given .1) (o .scan-walk .ensures .0) _ _ _ _ _ _ refl,
       (tt, kept-then (i .kept) (o .scan-walk .ensures .1 .1)),
     )
 
@@ -116,9 +148,13 @@ loop-again-2 c =
     let s = at-start l in
     let t = o .before .before .before .before .before .before .before .before .loop-test .taken in
     let i = l .loop .inv in
-    scan-again (g s) (s .args .settings .clockwise) (s .args .settings .minimum) _ _ _ _ _ _ (l .loop .k) (l .loop .c) (l .loop .state) (l .loop .points) (l .loop .first) (l .loop .len) (l .loop .kind) i t
-    (read-unvisited (l .loop .state) (l .loop .k) (in-states l t) (o .before .before .before .before .before .before .if1 .left)) _ _ _ _ _ _ _ (c .before .d .given .1) (o .scan-walk .ensures .0)
-    (rw (i .kept .len) at (o .scan-walk .ensures .1 .0)) (o .scan-walk .ensures .1 .1) (o .scan-walk .kept .1 .1 .1 .1 .1 .1 .1 .1 .1 .1 .1 .0) (o .scan-walk .kept .1 .1 .1 .1 .1 .1 .1 .1 .1 .1 .1 .1 .0) (o .scan-walk .kept .1 .1 .1 .1 .1 .1 .1 .1 .1 .1 .1 .1 .1 .0) (o .scan-walk .kept .1 .1 .1 .1 .1 .1 .1 .1 .1 .1 .1 .1 .1 .1 .0)
+    scan-again (g s) (s .args .settings .clockwise) (s .args .settings .minimum) _ _ _ _ _ _ (l .loop .k) (l .loop .c) (l .loop .state)
+    (l .loop .points) (l .loop .first) (l .loop .len) (l .loop .kind) i t
+    (read-unvisited (l .loop .state) (l .loop .k) (in-states l t) (o .before .before .before .before .before .before .if1 .left)) _ _ _ _ _ _ _
+    (c .before .d .given .1) (o .scan-walk .ensures .0)
+    (rw (i .kept .len) at (o .scan-walk .ensures .1 .0)) (o .scan-walk .ensures .1 .1) (o .scan-walk .kept .1 .1 .1 .1 .1 .1 .1 .1 .1 .1 .1 .0)
+    (o .scan-walk .kept .1 .1 .1 .1 .1 .1 .1 .1 .1 .1 .1 .1 .0) (o .scan-walk .kept .1 .1 .1 .1 .1 .1 .1 .1 .1 .1 .1 .1 .1 .0)
+    (o .scan-walk .kept .1 .1 .1 .1 .1 .1 .1 .1 .1 .1 .1 .1 .1 .1 .0)
 
 same-length-6 : tie.Need-same-length-6 Inv-loop μ-loop
 same-length-6 c = c .before .loop .inv .kept .len
@@ -140,7 +176,8 @@ returns-2 c =
     let l = c .before in
     let s = at-start l in
     let i = l .loop .inv in (
-      scan-over (g s) (s .args .settings .clockwise) (s .args .settings .minimum) _ _ _ _ _ _ (l .loop .k) (l .loop .c) (l .loop .state) (l .loop .points) (l .loop .first) (l .loop .len) (l .loop .kind) i (c .loop-test .left),
+      scan-over (g s) (s .args .settings .clockwise) (s .args .settings .minimum) _ _ _ _ _ _ (l .loop .k) (l .loop .c) (l .loop .state)
+          (l .loop .points) (l .loop .first) (l .loop .len) (l .loop .kind) i (c .loop-test .left),
       (within-less _ _ (unvisited (l .loop .state)) 0 (l .loop .c) (i .within) (omega arith) (omega arith), i .kept),
     )
 

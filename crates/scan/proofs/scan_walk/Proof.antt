@@ -15,7 +15,8 @@ use borrow.Author.Needs.{needs}
 use Rattle.next.proofs.find_left_top_link.Reads as find-left-top-link-reads
 
 abbrev g : tie.Start → Lent
-g s = lent (s .args .ax .now) (s .args .ay .now) (s .args .bx .now) (s .args .by .now) (s .args .aid .now) (s .args .bid .now) (s .args .start .now) (s .args .list .now)
+g s = lent (s .args .ax .now) (s .args .ay .now) (s .args .bx .now) (s .args .by .now) (s .args .aid .now) (s .args .bid .now) (s .args .start .now)
+    (s .args .list .now)
 
 abbrev t : tie.Start → Tables
 t s = tables (s .args .points .now) (s .args .first .now) (s .args .len .now) (s .args .kind .now) (s .args .c)
@@ -39,15 +40,20 @@ shared-slice-read-hole : tie.Need-shared-slice-read-hole
 shared-slice-read-hole c = let a = c .before .before in rw (at-start a .pre .0 .1) (ok a .0)
 
 note-contour-requires : tie.Need-note-contour-requires
-note-contour-requires c κs = let a = c .before .before .before .before .before .before .before in let s = at-start a in (s .pre .0 .0, (s .pre .1 .0, (ok a .0, ok a .1, s .pre .1 .1 .1)))
+note-contour-requires c κs =
+    let a = c .before .before .before .before .before .before .before in let s = at-start a in
+    (s .pre .0 .0, (s .pre .1 .0, (ok a .0, ok a .1, s .pre .1 .1 .1)))
 
 same-length : tie.Need-same-length
 same-length c = search needs
 
 returns : tie.Need-returns
 returns c =
-    let s = c .before .before .before .before .before .before .before .before .before .before .before .before .before in
-    (first-nothing (g s) (s .args .top .now) (s .args .settings .clockwise) (s .args .settings .minimum) (t s) (s .args .state .now) _ _ _ _ _ _ _ (sym (c .enum-told .given .1) ∙ c .before .before .find-left-top-link .ensures .0 (s .args .bid .now) (s .args .top .now)) refl, (tt, kept-none _))
+    let s = c .before .before .before .before .before .before .before .before .before .before .before .before .before in (
+      first-nothing (g s) (s .args .top .now) (s .args .settings .clockwise) (s .args .settings .minimum) (t s) (s .args .state .now) _ _ _ _ _ _ _
+          (sym (c .enum-told .given .1) ∙ c .before .before .find-left-top-link .ensures .0 (s .args .bid .now) (s .args .top .now)) refl,
+      (tt, kept-none _),
+    )
 
 same-length-2 : tie.Need-same-length-2
 same-length-2 c = search needs
@@ -68,8 +74,12 @@ returns-2 : tie.Need-returns-2
 returns-2 c =
     let a = c .before .before .before .before .before .before .before .before .before .before .before .before .before .before .before .before .before in
     let s = at-start a in
-    let o = c .before .before .before .before .before .before .before .before .before in
-    (first-link (g s) (s .args .top .now) (s .args .settings .clockwise) (s .args .settings .minimum) (t s) (s .args .state .now) _ _ _ _ _ _ _ _ (sym (a .s .given .1) ∙ a .before .before .find-left-top-link .ensures .0 (s .args .bid .now) (s .args .top .now)) (o .note-contour .ensures .0), o .note-contour .ensures .1)
+    let o = c .before .before .before .before .before .before .before .before .before in (
+      first-link (g s) (s .args .top .now) (s .args .settings .clockwise) (s .args .settings .minimum) (t s) (s .args .state .now) _ _ _ _ _ _ _ _
+          (sym (a .s .given .1) ∙ a .before .before .find-left-top-link .ensures .0 (s .args .bid .now) (s .args .top .now))
+          (o .note-contour .ensures .0),
+      o .note-contour .ensures .1,
+    )
 
 pub scan-walk-spec : {M : Type 1} → statement M
 scan-walk-spec =

@@ -42,11 +42,13 @@ contour-fault-requires c κs = search needs
 here :
     (c : tie.After-contour-fault Inv-loop μ-loop) →
     let s = c .before .before .before .before .before .before .before .before .before .args in
-    c .contour-fault .result ≡ badContour (table (s .points .now) (s .first .now) (s .len .now) (s .kind .now)) (c .before .before .before .before .before .loop .c)
+    c .contour-fault .result ≡ badContour (table (s .points .now) (s .first .now) (s .len .now) (s .kind .now))
+    (c .before .before .before .before .before .loop .c)
 here c =
     let s = c .before .before .before .before .before .before .before .before .before .args in
     let l = c .before .before .before .before .before .loop in
-    c .contour-fault .ensures ∙ ap (λ x. contourFault (s .points .now) x (getD (s .first .now) (l .c) 0) (getD (s .len .now) (l .c) 0) (getD (s .kind .now) (l .c) 0)) (l .inv .1)
+    c .contour-fault .ensures ∙ ap (λ x. contourFault (s .points .now) x (getD (s .first .now) (l .c) 0) (getD (s .len .now) (l .c) 0)
+    (getD (s .kind .now) (l .c) 0)) (l .inv .1)
 
 returns : tie.Need-returns Inv-loop μ-loop
 returns c = sym (found _ _ _ (omega arith) (c .before .before .before .before .before .before .loop .inv .2) (sym (here (c .before)) ∙ c .if1 .taken))
@@ -58,16 +60,22 @@ shared-slice-read-range-end : tie.Need-shared-slice-read-range-end Inv-loop μ-l
 shared-slice-read-range-end c = omega (arith, c .before .before .before .before .before .before .loop-test .taken)
 
 mul-range-end-2 : tie.Need-mul-range-end-2 Inv-loop μ-loop
-mul-range-end-2 c = let s = c .before .before .before .before .before .before .before .before .before .before .before in omega (arith, s .good, c .before .before .before .before .before .before .loop-test .taken)
+mul-range-end-2 c =
+    let s = c .before .before .before .before .before .before .before .before .before .before .before in
+    omega (arith, s .good, c .before .before .before .before .before .before .loop-test .taken)
 
 shared-slice-read-range-end-2 : tie.Need-shared-slice-read-range-end-2 Inv-loop μ-loop
-shared-slice-read-range-end-2 c = let s = c .before .before .before .before .before .before .before .before .before .before .before .before in omega (arith, s .pre, c .before .before .before .before .before .before .before .loop-test .taken)
+shared-slice-read-range-end-2 c =
+    let s = c .before .before .before .before .before .before .before .before .before .before .before .before in
+    omega (arith, s .pre, c .before .before .before .before .before .before .before .loop-test .taken)
 
 range-end-requires : tie.Need-range-end-requires Inv-loop μ-loop
 range-end-requires c κs = search needs
 
 add-c : tie.Need-add-c Inv-loop μ-loop
-add-c c = let s = c .before .before .before .before .before .before .before .before .before .before .before .before .before in omega (arith, s .good, c .before .before .before .before .before .before .before .before .loop-test .taken)
+add-c c =
+    let s = c .before .before .before .before .before .before .before .before .before .before .before .before .before in
+    omega (arith, s .good, c .before .before .before .before .before .before .before .before .loop-test .taken)
 
 loop-less : tie.Need-loop-less Inv-loop μ-loop
 loop-less c = omega (arith, c .before .before .before .before .before .before .before .before .loop-test .taken)
@@ -76,8 +84,11 @@ loop-again : tie.Need-loop-again Inv-loop μ-loop
 loop-again c =
     let s = c .before .before .before .before .before .before .before .before .before .before .before .before .before .args in
     let l = c .before .before .before .before .before .before .before .before .before .loop in
-    let d = c .before .before .before in
-    (omega (arith, c .before .before .before .before .before .before .before .before .loop-test .taken), c .range-end .ensures ∙ sym (start-next (s .first .now) (s .len .now) (l .c)), below-more _ _ (l .inv .2) (sym (here (d .before)) ∙ d .if1 .left))
+    let d = c .before .before .before in (
+      omega (arith, c .before .before .before .before .before .before .before .before .loop-test .taken),
+      c .range-end .ensures ∙ sym (start-next (s .first .now) (s .len .now) (l .c)),
+      below-more _ _ (l .inv .2) (sym (here (d .before)) ∙ d .if1 .left),
+    )
 
 returns-2 : tie.Need-returns-2 Inv-loop μ-loop
 returns-2 c =

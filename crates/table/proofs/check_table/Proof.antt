@@ -34,16 +34,24 @@ ranges-end-requires : tie.Need-ranges-end-requires
 ranges-end-requires c κs = lengths c .0
 
 returns-2 : tie.Need-returns-2
-returns-2 c = table-unended _ (c .before .before .before .before .before .before .before .args .owners) _ (fitted (c .before .before)) (c .before .ranges-end .ensures) (c .if2 .taken)
+returns-2 c =
+    table-unended _ (c .before .before .before .before .before .before .before .args .owners) _ (fitted (c .before .before))
+    (c .before .ranges-end .ensures) (c .if2 .taken)
 
 bad-contour-requires : tie.Need-bad-contour-requires
 bad-contour-requires c κs = (lengths (c .before .before) .0, lengths (c .before .before) .1)
 
 returns-3 : tie.Need-returns-3
-returns-3 c = table-bad _ (c .before .before .before .before .before .before .before .before .before .args .owners) _ _ (fitted (c .before .before .before .before)) (c .before .before .before .ranges-end .ensures) (c .before .before .if2 .left) (c .before .bad-contour .ensures) (c .if3 .taken)
+returns-3 c =
+    table-bad _ (c .before .before .before .before .before .before .before .before .before .args .owners) _ _
+    (fitted (c .before .before .before .before)) (c .before .before .before .ranges-end .ensures) (c .before .before .if2 .left)
+    (c .before .bad-contour .ensures) (c .if3 .taken)
 
 returns-4 : tie.Need-returns-4
-returns-4 c = table-fine _ (c .before .before .before .before .before .before .before .before .before .args .owners) _ _ (fitted (c .before .before .before .before)) (c .before .before .before .ranges-end .ensures) (c .before .before .if2 .left) (c .before .bad-contour .ensures) (c .if3 .left)
+returns-4 c =
+    table-fine _ (c .before .before .before .before .before .before .before .before .before .args .owners) _ _
+    (fitted (c .before .before .before .before)) (c .before .before .before .ranges-end .ensures) (c .before .before .if2 .left)
+    (c .before .bad-contour .ensures) (c .if3 .left)
 
 pub check-table-spec : {M : Type 1} → statement M
 check-table-spec =

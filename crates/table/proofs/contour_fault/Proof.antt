@@ -20,7 +20,9 @@ right :
     (c : tie.Else1) →
     let a = c .before .before .args in
     Ranged (length (now (a .points)) / 2) (a .start) (a .first) (a .len) (a .kind)
-right c = let a = c .before .before .args in ranged (length (now (a .points)) / 2) (a .start) (a .first) (a .len) (a .kind) .to (sym (c .before .range-fault .ensures) ∙ c .if1 .left)
+right c =
+    let a = c .before .before .args in
+    ranged (length (now (a .points)) / 2) (a .start) (a .first) (a .len) (a .kind) .to (sym (c .before .range-fault .ensures) ∙ c .if1 .left)
 
 some-point-fault-requires : tie.Need-some-point-fault-requires
 some-point-fault-requires c κs = let r = right c in (omega arith, omega arith)

@@ -36,8 +36,12 @@ loop-again : tie.Need-loop-again Inv-loop μ-loop
 loop-again c =
     let l = c .before .before .before .loop in
     let s = c .before .before .before .before .before .args in
-    let e = c .one-more-if-hull .ensures in
-    (omega arith, omega (arith, bit-small (eqb (getD (s .kind .now) (l .c) 0) 0)), e ∙ ap (λ x. x + pick (eqb (getD (s .kind .now) (l .c) 0) 0) 1 0) (l .inv .2) ∙ sym (count-more 0 (s .kind .now) (l .c) (omega arith)))
+    let e = c .one-more-if-hull .ensures in (
+      omega arith,
+      omega (arith, bit-small (eqb (getD (s .kind .now) (l .c) 0) 0)),
+      e ∙ ap (λ x. x + pick (eqb (getD (s .kind .now) (l .c) 0) 0) 1 0)
+          (l .inv .2) ∙ sym (count-more 0 (s .kind .now) (l .c) (omega arith)),
+    )
 
 returns : tie.Need-returns Inv-loop μ-loop
 returns c =

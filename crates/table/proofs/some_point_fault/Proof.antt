@@ -14,7 +14,8 @@ use Rattle.table.proofs.some_point_fault.Statement.{statement}
 use Rattle.table.proofs.some_point_fault.Tie as tie
 
 abbrev Inv-loop : tie.InvT-loop
-Inv-loop points from len last₀ k₀ last k = (k ≤ len) × (last ≡ pointIn points (previousIn from (from + len) (from + k))) × None (λ i. pointFault points from (from + len) (from + i)) k
+Inv-loop points from len last₀ k₀ last k =
+    (k ≤ len) × (last ≡ pointIn points (previousIn from (from + len) (from + k))) × None (λ i. pointFault points from (from + len) (from + i)) k
 
 abbrev μ-loop : tie.MeasureT-loop
 μ-loop points from len last₀ k₀ last k = len - k
@@ -49,18 +50,21 @@ differ-requires c κs = search needs
 here :
     (c : tie.After-differ Inv-loop μ-loop) →
     let a = c .before .before .before .before .before .before .args in
-    c .before .off-grid .result || not (c .differ .result) ≡ pointFault (now (a .points)) (a .from) (a .from + a .len) (a .from + c .before .before .before .before .loop .k)
+    c .before .off-grid .result || not (c .differ .result) ≡ pointFault (now (a .points)) (a .from) (a .from + a .len)
+    (a .from + c .before .before .before .before .loop .k)
 here c =
     let a = c .before .before .before .before .before .before .args in
     let l = c .before .before .before .before .loop in
     let p = c .before .before .point-in2 in
-    fault-at (now (a .points)) (a .from) (a .from + a .len) (l .k) (l .last) (p .result) (l .inv .1) (p .ensures) _ _ (c .before .off-grid .ensures) (c .differ .ensures)
+    fault-at (now (a .points)) (a .from) (a .from + a .len) (l .k) (l .last) (p .result) (l .inv .1) (p .ensures) _ _ (c .before .off-grid .ensures)
+    (c .differ .ensures)
 
 returns : tie.Need-returns Inv-loop μ-loop
 returns c =
     let a = c .before .before .before .before .before .before .before .args in
     let l = c .before .before .before .before .before .loop in
-    sym (some-yes (λ i. pointFault (now (a .points)) (a .from) (a .from + a .len) (a .from + i)) (a .len) (l .k) (omega arith) (l .inv .2) (sym (here (c .before)) ∙ c .if1 .taken))
+    sym (some-yes (λ i. pointFault (now (a .points)) (a .from) (a .from + a .len) (a .from + i)) (a .len) (l .k) (omega arith) (l .inv .2)
+    (sym (here (c .before)) ∙ c .if1 .taken))
 
 add-k : tie.Need-add-k Inv-loop μ-loop
 add-k c = omega arith
@@ -72,8 +76,11 @@ loop-again : tie.Need-loop-again Inv-loop μ-loop
 loop-again c =
     let a = c .before .before .before .before .before .before .before .args in
     let l = c .before .before .before .before .before .loop in
-    let p = c .before .before .before .point-in2 in
-    (omega arith, p .ensures ∙ ap (pointIn (now (a .points))) (sym (previous-later (a .from) (a .from + a .len) (l .k))), below-more _ _ (l .inv .2) (sym (here (c .before)) ∙ c .if1 .left))
+    let p = c .before .before .before .point-in2 in (
+      omega arith,
+      p .ensures ∙ ap (pointIn (now (a .points))) (sym (previous-later (a .from) (a .from + a .len) (l .k))),
+      below-more _ _ (l .inv .2) (sym (here (c .before)) ∙ c .if1 .left),
+    )
 
 returns-2 : tie.Need-returns-2 Inv-loop μ-loop
 returns-2 c =

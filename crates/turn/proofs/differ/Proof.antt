@@ -47,7 +47,8 @@ returns c =
     let a = c .before .before .before .before .before .before .before .before .args in
     let p = c .before .before .before .before .before .before .struct-told .given in
     let q = c .before .before .before .before .struct-told2 .given in
-    by-bits (a .p) (a .q) (record { sfits = omega (arith, p) }) (record { sfits = omega (arith, q) }) (record { sfits = omega (arith, p) }) (record { sfits = omega (arith, q) })
+    by-bits (a .p) (a .q) (record { sfits = omega (arith, p) }) (record { sfits = omega (arith, q) }) (record { sfits = omega (arith, p) })
+    (record { sfits = omega (arith, q) })
 
 pub differ-spec : {M : Type 1} → statement M
 differ-spec = tie.close (tie.spec returns)

@@ -48,12 +48,19 @@ shared-slice-copy-out-t20 : tie.Need-shared-slice-copy-out-t20 Inv-loop μ-loop
 shared-slice-copy-out-t20 c = c .before .loop-test .taken
 
 wedge-requires : tie.Need-wedge-requires Inv-loop μ-loop
-wedge-requires c κs = (c .before .before .before .loop .inv .on, read-on (c .before .before .before .before .before .before .before .args .points .now) (c .before .before .before .loop .i) (c .before .before .before .before .before .before .before .pre .1) (c .before .before .loop-test .taken))
+wedge-requires c κs = (
+  c .before .before .before .loop .inv .on,
+  read-on (c .before .before .before .before .before .before .before .args .points .now)
+      (c .before .before .before .loop .i) (c .before .before .before .before .before .before .before .pre .1) (c .before .before .loop-test .taken),
+)
 
 add-sum : tie.Need-add-sum Inv-loop μ-loop
 add-sum c =
     let w = c .wedge in
-    rw (same64 (w .result) (omega arith)) (fits64 (toZ w64 (c .before .before .before .before .loop .sum) +ℤ w .result) (fits (c .before .before .before .before .loop .inv) (w .result) (w .ensures .1) (c .before .before .before .before .before .before .before .before .pre .0)))
+    rw (same64 (w .result) (omega arith))
+    (fits64 (toZ w64 (c .before .before .before .before .loop .sum) +ℤ w .result)
+    (fits (c .before .before .before .before .loop .inv) (w .result) (w .ensures .1)
+    (c .before .before .before .before .before .before .before .before .pre .0)))
 
 add-i : tie.Need-add-i Inv-loop μ-loop
 add-i c = omega (arith, c .before .before .before .before .loop .inv .within, c .before .before .before .before .before .before .before .before .pre .0)
@@ -68,12 +75,18 @@ loop-again c =
     (adds (l .inv) (w .result) (w .ensures .0) (w .ensures .1) (s .pre .1) (c .before .before .before .loop-test .taken))
 
 wedge-requires-2 : tie.Need-wedge-requires-2 Inv-loop μ-loop
-wedge-requires-2 c κs = (c .before .loop .inv .on, read-on (c .before .before .before .before .before .args .points .now) 0 (c .before .before .before .before .before .pre .1) (omega (arith, c .before .before .before .before .if1 .left)))
+wedge-requires-2 c κs = (
+  c .before .loop .inv .on,
+  read-on (c .before .before .before .before .before .args .points .now) 0
+      (c .before .before .before .before .before .pre .1) (omega (arith, c .before .before .before .before .if1 .left)),
+)
 
 add-result : tie.Need-add-result Inv-loop μ-loop
 add-result c =
     let w = c .wedge2 in
-    rw (same64 (w .result) (omega arith)) (fits64 (toZ w64 (c .before .before .loop .sum) +ℤ w .result) (fits (c .before .before .loop .inv) (w .result) (w .ensures .1) (c .before .before .before .before .before .before .pre .0)))
+    rw (same64 (w .result) (omega arith))
+    (fits64 (toZ w64 (c .before .before .loop .sum) +ℤ w .result)
+    (fits (c .before .before .loop .inv) (w .result) (w .ensures .1) (c .before .before .before .before .before .before .pre .0)))
 
 returns-2 : tie.Need-returns-2 Inv-loop μ-loop
 returns-2 c =

@@ -33,7 +33,8 @@ product c = same64 (c .cross-product .result) (omega arith) ∙ c .cross-product
 returns : tie.Need-returns
 returns c =
     let a = c .before .before .before .args in
-    sym (in-early (a .sense) (sgn (cross (a .e) (a .f))) (sgn (dot (a .e) (a .f))) (told (a .sense) _ _ _ _ (product (c .before .before)) (c .before .turns .ensures) (c .if1 .taken)))
+    sym (in-early (a .sense) (sgn (cross (a .e) (a .f))) (sgn (dot (a .e) (a .f)))
+    (told (a .sense) _ _ _ _ (product (c .before .before)) (c .before .turns .ensures) (c .if1 .taken)))
 
 turns-requires-2 : tie.Need-turns-requires-2
 turns-requires-2 c κs = search needs
@@ -41,17 +42,20 @@ turns-requires-2 c κs = search needs
 returns-2 : tie.Need-returns-2
 returns-2 c =
     let a = c .before .before .before .before .before .args in
-    sym (in-late (a .sense) (sgn (cross (a .e) (a .f))) (sgn (dot (a .e) (a .f))) (told (not (a .sense)) _ _ _ _ (product (c .before .before .before .before)) (c .before .turns2 .ensures) (c .if2 .taken)))
+    sym (in-late (a .sense) (sgn (cross (a .e) (a .f))) (sgn (dot (a .e) (a .f)))
+    (told (not (a .sense)) _ _ _ _ (product (c .before .before .before .before)) (c .before .turns2 .ensures) (c .if2 .taken)))
 
 dot-product-requires : tie.Need-dot-product-requires
 dot-product-requires c κs = search needs
 
 -- past both tests the dot product decides
-by-dot : (c : tie.After-dot-product) → let a = c .before .before .before .before .before .before .args in rank (halfOf (a .sense) (a .e) (a .f)) ≡ pick (ltZ (Z (c .dot-product .result)) (pos 0)) 1 3
+by-dot : (c : tie.After-dot-product) → let a =
+    c .before .before .before .before .before .before .args in rank (halfOf (a .sense) (a .e) (a .f)) ≡ pick (ltZ (Z (c .dot-product .result)) (pos 0)) 1 3
 by-dot c =
     let a = c .before .before .before .before .before .before .args in let s = a .sense in let r = c .dot-product in
     in-flat s (sgn (cross (a .e) (a .f))) (dot (a .e) (a .f))
-    (told s _ _ _ _ (product (c .before .before .before .before .before)) (c .before .before .before .before .turns .ensures) (c .before .before .before .if1 .left))
+    (told s _ _ _ _ (product (c .before .before .before .before .before)) (c .before .before .before .before .turns .ensures)
+    (c .before .before .before .if1 .left))
     (told (not s) _ _ _ _ (product (c .before .before .before .before .before)) (c .before .before .turns2 .ensures) (c .before .if2 .left))
     ∙ ap (λ z. pick (ltZ z (pos 0)) 1 3) (sym (same64 (r .result) (omega arith) ∙ r .ensures .0))
 

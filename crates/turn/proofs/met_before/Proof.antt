@@ -29,7 +29,8 @@ returns-4 : tie.Need-returns-4
 returns-4 c =
     let r = c .before .cross-product in
     rw (le-ltb _ _ (c .before .before .before .before .if1 .left), le-ltb _ _ (c .before .before .before .if2 .left), c .before .before .if3 .left)
-    (c .turns .ensures ∙ ap (λ z. is-mns (turned (c .before .before .before .before .before .args .sense) (sgn z))) (same64 (r .result) (omega arith) ∙ r .ensures .0))
+    (c .turns .ensures ∙ ap (λ z. is-mns (turned (c .before .before .before .before .before .args .sense) (sgn z)))
+    (same64 (r .result) (omega arith) ∙ r .ensures .0))
 
 pub met-before-spec : {M : Type 1} → statement M
 met-before-spec = tie.close (tie.spec returns returns-2 returns-3 cross-product-requires turns-requires returns-4)

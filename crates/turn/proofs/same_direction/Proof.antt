@@ -22,7 +22,8 @@ returns : tie.Need-returns
 returns c =
     let p = c .before .cross-product in let q = c .dot-product in
     rw (same64 (q .result) (omega arith))
-    (ap₂ _&&_ (eq0-sgn (p .result) (fits64 (p .result) (omega arith)) ∙ ap (λ z. eqS (sgn z) zer) (p .ensures .0)) (gtZ-sgn (q .result) ∙ ap (λ z. eqS (sgn z) pls) (q .ensures .0)))
+    (ap₂ _&&_ (eq0-sgn (p .result) (fits64 (p .result) (omega arith)) ∙ ap (λ z. eqS (sgn z) zer) (p .ensures .0))
+    (gtZ-sgn (q .result) ∙ ap (λ z. eqS (sgn z) pls) (q .ensures .0)))
 
 pub same-direction-spec : {M : Type 1} → statement M
 same-direction-spec = tie.close (tie.spec cross-product-requires dot-product-requires returns)

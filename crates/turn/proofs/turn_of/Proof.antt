@@ -20,7 +20,8 @@ cross-product-requires c κs = search needs
 
 returns : tie.Need-returns
 returns c =
-    rw (same64 (c .cross-product .result) (omega arith)) (rw (c .before .before .between .ensures .0, c .before .between2 .ensures .0) at (c .cross-product .ensures))
+    rw (same64 (c .cross-product .result) (omega arith))
+    (rw (c .before .before .between .ensures .0, c .before .between2 .ensures .0) at (c .cross-product .ensures))
 
 pub turn-of-spec : {M : Type 1} → statement M
 turn-of-spec = tie.close (tie.spec between-requires between-requires-2 cross-product-requires returns)

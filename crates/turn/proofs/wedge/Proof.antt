@@ -13,7 +13,9 @@ cast-result-2 : tie.Need-cast-result-2
 cast-result-2 c = let z = c .before .before .before .before .args .q .y in cast-fits z (fits32 z (omega arith))
 
 mul-result : tie.Need-mul-result
-mul-result c = let a = c .before .before .before .before .args in mul-fits maxCoordinate coordinate-room (of-point (a .p .x) (omega arith)) (of-point (a .q .y) (omega arith))
+mul-result c =
+    let a = c .before .before .before .before .args in
+    mul-fits maxCoordinate coordinate-room (of-point (a .p .x) (omega arith)) (of-point (a .q .y) (omega arith))
 
 cast-result-3 : tie.Need-cast-result-3
 cast-result-3 c = let z = c .before .before .before .before .before .before .args .p .y in cast-fits z (fits32 z (omega arith))
@@ -22,7 +24,9 @@ cast-result-4 : tie.Need-cast-result-4
 cast-result-4 c = let z = c .before .before .before .before .before .before .before .before .args .q .x in cast-fits z (fits32 z (omega arith))
 
 mul-result-2 : tie.Need-mul-result-2
-mul-result-2 c = let a = c .before .before .before .before .before .before .before .before .args in mul-fits maxCoordinate coordinate-room (of-point (a .p .y) (omega arith)) (of-point (a .q .x) (omega arith))
+mul-result-2 c =
+    let a = c .before .before .before .before .before .before .before .before .args in
+    mul-fits maxCoordinate coordinate-room (of-point (a .p .y) (omega arith)) (of-point (a .q .x) (omega arith))
 
 sub-result : tie.Need-sub-result
 sub-result c =

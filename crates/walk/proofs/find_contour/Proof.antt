@@ -21,7 +21,8 @@ use Rattle.walk.specs.Marks.{kept-mark, kept-then, fewer}
 use borrow.Author.Needs.{needs}
 
 abbrev g : tie.Start → Lent
-g s = lent (s .args .ax .now) (s .args .ay .now) (s .args .bx .now) (s .args .by .now) (s .args .aid .now) (s .args .bid .now) (s .args .start .now) (s .args .list .now)
+g s = lent (s .args .ax .now) (s .args .ay .now) (s .args .bx .now) (s .args .by .now) (s .args .aid .now) (s .args .bid .now) (s .args .start .now)
+    (s .args .list .now)
 
 abbrev st : tie.Start → List ℕ
 st s = s .args .state .now
@@ -53,8 +54,17 @@ put-point-requires c κs = let s = c .before .before .before .before .before .be
 last-link-requires : tie.Need-last-link-requires
 last-link-requires c κs =
     let s = c .before .before .before .before .before .before .before .before .before .before .before .before in
-    let e = length-set (st s) (s .args .s) (s .args .course .mark) in
-    (rw e (s .pre .0 .links), (rw e (s .pre .0 .nodes), (rw (c .before .before .before .before .before .before .end-node .ensures) (end-there (g s) _ (s .args .s) (s .args .course .forward) (s .pre .0) (s .pre .1 .0 .0) .0), rw e (s .pre .1 .0 .0))))
+    let e = length-set (st s) (s .args .s) (s .args .course .mark) in (
+      rw e (s .pre .0 .links),
+      (
+        rw e (s .pre .0 .nodes),
+        (
+          rw (c .before .before .before .before .before .before .end-node .ensures)
+              (end-there (g s) _ (s .args .s) (s .args .course .forward) (s .pre .0) (s .pre .1 .0 .0) .0),
+          rw e (s .pre .1 .0 .0),
+        ),
+      ),
+    )
 
 enum-told : tie.Need-enum-told
 enum-told c = search needs
@@ -63,7 +73,9 @@ enum-known-last : tie.Need-enum-known-last
 enum-known-last c = search needs
 
 add-written : tie.Need-add-written
-add-written c = let s = c .before .before .before .before .before .before .before .before .before .before .before .before .before .before .before .before in omega (arith, s .pre .1 .1, less s, s .good .1 .1 .1 .1 .1 .1 .1 .1 .1 .1 .0)
+add-written c =
+    let s = c .before .before .before .before .before .before .before .before .before .before .before .before .before .before .before .before in
+    omega (arith, s .pre .1 .1, less s, s .good .1 .1 .1 .1 .1 .1 .1 .1 .1 .1 .0)
 
 walk-on-requires : tie.Need-walk-on-requires
 walk-on-requires c κs =
@@ -71,7 +83,12 @@ walk-on-requires c κs =
     let e = length-set (st s) (s .args .s) (s .args .course .mark) in (
       rw e (s .pre .0),
       (
-        (rw (c .before .before .before .before .before .before .before .before .before .before .before .end-node2 .ensures) (end-there (g s) _ (s .args .s) (s .args .course .forward) (s .pre .0) (s .pre .1 .0 .0) .1), rw e (s .pre .1 .0 .0), s .pre .1 .0 .2),
+        (
+          rw (c .before .before .before .before .before .before .before .before .before .before .before .end-node2 .ensures)
+              (end-there (g s) _ (s .args .s) (s .args .course .forward) (s .pre .0) (s .pre .1 .0 .0) .1),
+          rw e (s .pre .1 .0 .0),
+          s .pre .1 .0 .2,
+        ),
         omega (arith, s .pre .1 .1, less s, c .before .before .before .before .before .before .before .before .put-point .kept .0),
       ),
     )
@@ -85,13 +102,18 @@ same-length-2 c = search needs
 returns : tie.Need-returns
 returns c =
     let s = c .before .before .before .before .before .before .before .before .before .before .before .before .before .before .before in (
-      starts-nowhere (plain (g s)) (s .args .course .forward) (s .args .course .sense) (s .args .course .mark) (st s) (s .args .s) (s .args .points .now) (s .args .at) _ _ _ _ (c .before .before .before .before .before .before .before .before .before .end-node .ensures)
+      starts-nowhere (plain (g s)) (s .args .course .forward) (s .args .course .sense) (s .args .course .mark) (st s) (s .args .s)
+          (s .args .points .now) (s .args .at) _ _ _ _ (c .before .before .before .before .before .before .before .before .before .end-node .ensures)
           (sym (c .enum-told .given .1) ∙ c .before .before .last-link .ensures .0 (s .args .bid .now) []) refl,
       (tt, mark-kept s),
     )
 
 same-length-3 : tie.Need-same-length-3
-same-length-3 c = let o = c .before .before .before in o .walk-on .ensures .1 .1 .len ∙ mark-kept (o .before .before .before .before .before .before .before .before .before .before .before .before .before .before .before .before .before .before .before) .len
+same-length-3 c =
+    let o = c .before .before .before in
+    o .walk-on .ensures .1 .1 .len ∙ mark-kept
+    (o .before .before .before .before .before .before .before .before .before .before .before .before .before .before .before .before .before .before
+    .before) .len
 
 same-length-4 : tie.Need-same-length-4
 same-length-4 c = search needs
@@ -99,10 +121,22 @@ same-length-4 c = search needs
 returns-2 : tie.Need-returns-2
 returns-2 c =
     let o = c .before .before .before in
-    let s = o .before .before .before .before .before .before .before .before .before .before .before .before .before .before .before .before .before .before .before in (
-      starts-on (plain (g s)) (s .args .course .forward) (s .args .course .sense) (s .args .course .mark) (st s) (s .args .s) (s .args .points .now) (s .args .at) _ _ _ _ (o .before .before .before .before .before .before .before .before .before .before .before .before .before .end-node .ensures) _ _ _ _
-          (sym (o .before .before .before .before .last .given .1) ∙ o .before .before .before .before .before .before .last-link .ensures .0 (s .args .bid .now) []) (o .before .before .before .before .before .before .before .before .before .before .before .before .end-node2 .ensures) (o .before .before .before .before .before .before .before .before .before .before .before .end-point .ensures) (o .before .before .before .before .before .before .before .before .before .put-point .ensures) (o .walk-on .ensures .0),
-      (counted-on (s .args .at) (st s) (marked s) (o .walk-on .last .1 .1 .1 .1 .1 .1 .1 .1 .1 .1 .1 .0) (o .walk-on .result) (less s) (o .walk-on .ensures .1 .0), kept-then (mark-kept s) (o .walk-on .ensures .1 .1)),
+    let s = o
+    .before .before .before .before .before .before .before .before .before .before .before .before .before .before .before .before .before
+    .before .before in (
+      starts-on (plain (g s)) (s .args .course .forward) (s .args .course .sense) (s .args .course .mark) (st s) (s .args .s) (s .args .points .now)
+          (s .args .at) _ _ _ _
+          (o .before .before .before .before .before .before .before .before .before .before .before .before .before .end-node .ensures) _ _ _ _
+          (sym (o .before .before .before .before .last .given .1)
+          ∙ o .before .before .before .before .before .before .last-link .ensures .0 (s .args .bid .now) [])
+          (o .before .before .before .before .before .before .before .before .before .before .before .before .end-node2 .ensures)
+          (o .before .before .before .before .before .before .before .before .before .before .before .end-point .ensures)
+          (o .before .before .before .before .before .before .before .before .before .put-point .ensures) (o .walk-on .ensures .0),
+      (
+        counted-on (s .args .at) (st s) (marked s) (o .walk-on .last .1 .1 .1 .1 .1 .1 .1 .1 .1 .1 .1 .0) (o .walk-on .result) (less s)
+            (o .walk-on .ensures .1 .0),
+        kept-then (mark-kept s) (o .walk-on .ensures .1 .1),
+      ),
     )
 
 pub find-contour-spec : {M : Type 1} → statement M

@@ -29,7 +29,8 @@ returns : tie.Need-returns
 returns c =
     let s = c .before .before .before .before .before .before .before .before in let a = s .args in let r = c .before .next .given in
     next-answer (graph s) (a .sense) (a .state .now) (a .node) (a .link) (r .0 .0)
-    (λ bid top. next-named (a .state .now) (a .link) (graph s bid top) (a .sense) (a .node) (r .0 .0) (sym (r .1) ∙ c .before .before .before .on-bridge .ensures))
+    (λ bid top. next-named (a .state .now) (a .link) (graph s bid top) (a .sense) (a .node) (r .0 .0)
+    (sym (r .1) ∙ c .before .before .before .on-bridge .ensures))
 
 returns-2 : tie.Need-returns-2
 returns-2 c = c .next-link .ensures

@@ -20,7 +20,8 @@ use Rattle.walk.specs.Marks.{kept-mark, kept-none, fewer}
 use borrow.Author.Needs.{needs}
 
 abbrev g : tie.Start → Lent
-g s = lent (s .args .ax .now) (s .args .ay .now) (s .args .bx .now) (s .args .by .now) (s .args .aid .now) (s .args .bid .now) (s .args .start .now) (s .args .list .now)
+g s = lent (s .args .ax .now) (s .args .ay .now) (s .args .bx .now) (s .args .by .now) (s .args .aid .now) (s .args .bid .now) (s .args .start .now)
+    (s .args .list .now)
 
 abbrev st : tie.Start → List ℕ
 st s = s .args .state .now
@@ -39,7 +40,8 @@ less : (c : tie.After-k) → unvisited (st (at-start c)) ≡ suc (unvisited (set
 less c = fewer (st (at-start c)) (link c) (at-start c .args .course .mark) (at-start c .pre .1 .0 .2) (ok c .1)
 
 next-from-requires : tie.Need-next-from-requires
-next-from-requires c κs = let s = c .before .before .before .before .before .before in (s .pre .0 .links, (s .pre .0 .nodes, (s .pre .1 .0 .0, s .pre .1 .0 .1)))
+next-from-requires c κs =
+    let s = c .before .before .before .before .before .before in (s .pre .0 .links, (s .pre .0 .nodes, (s .pre .1 .0 .0, s .pre .1 .0 .1)))
 
 enum-told : tie.Need-enum-told
 enum-told c = search needs
@@ -51,10 +53,13 @@ node-at-requires : tie.Need-node-at-requires
 node-at-requires c κs = let a = c .before in let s = at-start a in rw (s .pre .0 .nodes .a-long) (ok a .0)
 
 end-point-requires : tie.Need-end-point-requires
-end-point-requires c κs = let a = c .before .before in let s = at-start a in let l = s .pre .0 .links in let h = ok a .0 in (rw (l .ax-long) h, rw (l .ay-long) h, rw (l .bx-long) h, rw (l .by-long) h)
+end-point-requires c κs =
+    let a = c .before .before in let s = at-start a in let l = s .pre .0 .links in let h = ok a .0 in
+    (rw (l .ax-long) h, rw (l .ay-long) h, rw (l .bx-long) h, rw (l .by-long) h)
 
 other-node-requires : tie.Need-other-node-requires
-other-node-requires c κs = let a = c .before .before .before in let s = at-start a in let h = ok a .0 in (rw (s .pre .0 .nodes .a-long) h, rw (s .pre .0 .b-long) h)
+other-node-requires c κs =
+    let a = c .before .before .before in let s = at-start a in let h = ok a .0 in (rw (s .pre .0 .nodes .a-long) h, rw (s .pre .0 .b-long) h)
 
 slice-write-state : tie.Need-slice-write-state
 slice-write-state c = ok (c .before .before .before .before) .0
@@ -63,15 +68,20 @@ put-point-requires : tie.Need-put-point-requires
 put-point-requires c κs = let a = c .before .before .before .before .before in let s = at-start a in omega (arith, s .pre .1 .1, less a)
 
 add-t24 : tie.Need-add-t24
-add-t24 c = let a = c .before .before .before .before .before .before .before in let s = at-start a in omega (arith, s .pre .1 .1, less a, s .good .1 .1 .1 .1 .1 .1 .1 .1 .1 .1 .0)
+add-t24 c =
+    let a = c .before .before .before .before .before .before .before in let s = at-start a in
+    omega (arith, s .pre .1 .1, less a, s .good .1 .1 .1 .1 .1 .1 .1 .1 .1 .1 .0)
 
 same-length : tie.Need-same-length
 same-length c = search needs
 
 returns : tie.Need-returns
 returns c =
-    let s = c .before .before .before .before .before .before .before .before .before in
-    (step-nowhere (g s) (s .args .course .sense) (s .args .course .mark) (st s) (s .args .points .now) (s .args .w) (sym (c .enum-told .given .1) ∙ c .before .before .next-from .ensures .0 (s .args .bid .now) []), (tt, kept-none (st s)))
+    let s = c .before .before .before .before .before .before .before .before .before in (
+      step-nowhere (g s) (s .args .course .sense) (s .args .course .mark) (st s) (s .args .points .now) (s .args .w)
+          (sym (c .enum-told .given .1) ∙ c .before .before .next-from .ensures .0 (s .args .bid .now) []),
+      (tt, kept-none (st s)),
+    )
 
 same-length-2 : tie.Need-same-length-2
 same-length-2 c = search needs
@@ -84,9 +94,18 @@ returns-2 c =
     let a = c .before .before .before .before .before .before .before in
     let s = at-start a in (
       step-went (g s) (s .args .course .sense) (s .args .course .mark) (st s) (s .args .points .now) (s .args .w) (link a) _ _ _ _
-          (sym (a .k .given .1) ∙ a .before .before .next-from .ensures .0 (s .args .bid .now) []) (ap (λ x. eqb x (s .args .w .node)) (c .before .before .before .before .before .node-at .ensures))
+          (sym (a .k .given .1) ∙ a .before .before .next-from .ensures .0 (s .args .bid .now) [])
+          (ap (λ x. eqb x (s .args .w .node)) (c .before .before .before .before .before .node-at .ensures))
           (c .before .before .before .before .end-point .ensures) (c .before .before .before .other-node .ensures) (c .before .put-point .ensures),
-      ((rw (c .before .before .before .other-node .ensures) (other-there (g s) _ (s .args .w .node) (link a) (s .pre .0) (ok a .0)), ok a .0, refl, less a), kept-mark (st s) (link a) _ (s .pre .1 .0 .2) (ok a .1)),
+      (
+        (
+          rw (c .before .before .before .other-node .ensures) (other-there (g s) _ (s .args .w .node) (link a) (s .pre .0) (ok a .0)),
+          ok a .0,
+          refl,
+          less a,
+        ),
+        kept-mark (st s) (link a) _ (s .pre .1 .0 .2) (ok a .1),
+      ),
     )
 
 pub one-step-spec : {M : Type 1} → statement M

@@ -1,4 +1,5 @@
--- `walk::walk_on` meets its contract. The invariant: what the walk leaves from here it leaves from the loop's start (`Walking`). The measure is the number of unvisited links.
+-- `walk::walk_on` meets its contract. The invariant: what the walk leaves from here it leaves from the loop's start
+-- (`Walking`). The measure is the number of unvisited links.
 use mathlib.Core.Path.{refl, _∙_}
 use native.Mathlib.Omega.{arith}
 use borrow.Author.Needs.{needs}
@@ -15,13 +16,15 @@ use Rattle.walk.specs.Code.{plain}
 use Rattle.walk.specs.Marks.{kept-none, kept-then}
 
 abbrev Inv-loop : tie.InvT-loop
-Inv-loop ax ay bx by aid bid start list course home last state₀ points₀ w₀ state points w = Walking (plain (lent ax ay bx by aid bid start list)) (course .sense) home last (course .mark) (length start) state₀ points₀ w₀ state points w
+Inv-loop ax ay bx by aid bid start list course home last state₀ points₀ w₀ state points w =
+    Walking (plain (lent ax ay bx by aid bid start list)) (course .sense) home last (course .mark) (length start) state₀ points₀ w₀ state points w
 
 abbrev μ-loop : tie.MeasureT-loop
 μ-loop ax ay bx by aid bid start list course home last state₀ points₀ w₀ state points w = unvisited state
 
 abbrev g : tie.Start Inv-loop μ-loop → Lent
-g s = lent (s .args .ax .now) (s .args .ay .now) (s .args .bx .now) (s .args .by .now) (s .args .aid .now) (s .args .bid .now) (s .args .start .now) (s .args .list .now)
+g s = lent (s .args .ax .now) (s .args .ay .now) (s .args .bx .now) (s .args .by .now) (s .args .aid .now) (s .args .bid .now) (s .args .start .now)
+    (s .args .list .now)
 
 abbrev at-start : tie.At-loop Inv-loop μ-loop → tie.Start Inv-loop μ-loop
 at-start l = l .before .before .before .before .before .before
@@ -50,10 +53,14 @@ enum-told : tie.Need-enum-told Inv-loop μ-loop
 enum-told c = search needs
 
 same-length : tie.Need-same-length Inv-loop μ-loop
-same-length c = let o = c .before .before .before .before .before in let l = o .before .before .before .before .before in o .one-step .ensures .1 .1 .len ∙ l .loop .inv .kept .len
+same-length c =
+    let o = c .before .before .before .before .before in let l = o .before .before .before .before .before in
+    o .one-step .ensures .1 .1 .len ∙ l .loop .inv .kept .len
 
 same-length-2 : tie.Need-same-length-2 Inv-loop μ-loop
-same-length-2 c = let o = c .before .before .before .before .before in let l = o .before .before .before .before .before in o .one-step .kept .1 .1 .1 .1 .1 .1 .1 .1 .1 .1 .0 ∙ l .loop .inv .room
+same-length-2 c =
+    let o = c .before .before .before .before .before in let l = o .before .before .before .before .before in
+    o .one-step .kept .1 .1 .1 .1 .1 .1 .1 .1 .1 .1 .0 ∙ l .loop .inv .room
 
 returns : tie.Need-returns Inv-loop μ-loop
 returns c =
@@ -61,7 +68,8 @@ returns c =
     let l = o .before .before .before .before .before in
     let s = at-start l in
     let i = l .loop .inv in (
-      i .goes _ _ _ (ends-nowhere (plain (g s)) (s .args .course .sense) (s .args .home) (s .args .last) (s .args .course .mark) (l .loop .state) (l .loop .points) (l .loop .w) _ _ _ (o .before .before .before .if1 .taken) _ _ (rw (c .enum-told .given .1) at (o .one-step .ensures .0)) refl),
+      i .goes _ _ _ (ends-nowhere (plain (g s)) (s .args .course .sense) (s .args .home) (s .args .last) (s .args .course .mark) (l .loop .state)
+          (l .loop .points) (l .loop .w) _ _ _ (o .before .before .before .if1 .taken) _ _ (rw (c .enum-told .given .1) at (o .one-step .ensures .0)) refl),
       (tt, kept-then (i .kept) (o .one-step .ensures .1 .1)),
     )
 
@@ -78,8 +86,10 @@ loop-again c =
     let o = c .before .before .before .before .before .before in
     let l = o .before .before .before .before .before in
     let s = at-start l in
-    walking-again (plain (g s)) (s .args .course .sense) (s .args .home) (s .args .last) (s .args .course .mark) (length (g s .start)) _ _ (s .args .from) (l .loop .state) (l .loop .points) (l .loop .w) _ _ _ _ (c .before .v .given .1) (o .one-step .ensures .1 .0)
-    (l .loop .inv) (o .before .before .before .if1 .taken) (o .one-step .ensures .0) (o .one-step .ensures .1 .1) (o .one-step .kept .1 .1 .1 .1 .1 .1 .1 .1 .1 .1 .0)
+    walking-again (plain (g s)) (s .args .course .sense) (s .args .home) (s .args .last) (s .args .course .mark) (length (g s .start)) _ _
+    (s .args .from) (l .loop .state) (l .loop .points) (l .loop .w) _ _ _ _ (c .before .v .given .1) (o .one-step .ensures .1 .0)
+    (l .loop .inv) (o .before .before .before .if1 .taken) (o .one-step .ensures .0) (o .one-step .ensures .1 .1)
+    (o .one-step .kept .1 .1 .1 .1 .1 .1 .1 .1 .1 .1 .0)
 
 same-length-3 : tie.Need-same-length-3 Inv-loop μ-loop
 same-length-3 c = c .before .before .before .before .loop .inv .kept .len
@@ -92,7 +102,8 @@ returns-2 c =
     let l = c .before .before .before .before in
     let s = at-start l in
     let i = l .loop .inv in (
-      i .goes _ _ _ (ends-home (plain (g s)) (s .args .course .sense) (s .args .home) (s .args .last) (s .args .course .mark) (l .loop .state) (l .loop .points) (l .loop .w) _ _ _ (c .before .before .if1 .left) (c .if2 .taken) refl refl refl),
+      i .goes _ _ _ (ends-home (plain (g s)) (s .args .course .sense) (s .args .home) (s .args .last) (s .args .course .mark) (l .loop .state)
+          (l .loop .points) (l .loop .w) _ _ _ (c .before .before .if1 .left) (c .if2 .taken) refl refl refl),
       ((i .grows, i .count), i .kept),
     )
 
@@ -107,7 +118,8 @@ returns-3 c =
     let l = c .before .before .before .before in
     let s = at-start l in
     let i = l .loop .inv in (
-      i .goes _ _ _ (ends-away (plain (g s)) (s .args .course .sense) (s .args .home) (s .args .last) (s .args .course .mark) (l .loop .state) (l .loop .points) (l .loop .w) _ _ _ (c .before .before .if1 .left) (c .if2 .left) refl),
+      i .goes _ _ _ (ends-away (plain (g s)) (s .args .course .sense) (s .args .home) (s .args .last) (s .args .course .mark) (l .loop .state)
+          (l .loop .points) (l .loop .w) _ _ _ (c .before .before .if1 .left) (c .if2 .left) refl),
       (tt, i .kept),
     )
 

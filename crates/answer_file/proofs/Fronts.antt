@@ -1,0 +1,104 @@
+-- After reading, a graph's lists stand at the fronts of the buffers: they fit, and cut off they are the file's.
+use Prim.Native.Nat.{ℕ, _+_, _-_, _≤_}
+use native.Mathlib.Omega.{arith}
+use mathlib.Core.Path.{_≡_, refl, sym, ap, _∙_, subst}
+use mathlib.Core.List.{List, [], _∷_, map}
+use lib.ListN.{length, take, drop, length-append, length-map}
+use lib.Seq.{take-at}
+use Rattle.format.specs.declared.FileRead.{FileRead}
+use Rattle.writing.specs.Put.{put, atFront}
+use Rattle.format_records.specs.Records.{Form, form, refused, formOf}
+use Rattle.format.specs.File.{Contents, holding, contentsOf, fileOf, fileFrom, startsOf, FileLists, Reading, reading, readInto}
+use Rattle.answer_table.specs.Cuts.{cut}
+use Rattle.answer_read.specs.ReadText.{ReadFits, readText}
+use Rattle.answer_file.specs.FileText.{fileText}
+
+-- ---- a list at the front of another
+module _ {A : Type 0} where
+  over-long : (t l : List A) → length t ≤ length (atFront t l)
+  unfolding put
+  over-long t l = omega (arith, length-append t (drop (0 + length t) l))
+
+  over-front : (n : ℕ) (t l : List A) → length t ≡ n → take n (atFront t l) ≡ t
+  unfolding put
+  over-front n t l e = take-at t (drop (0 + length t) l) n e
+
+starts-some : (nodes : List (List ℕ)) → 1 ≤ length (startsOf 0 nodes)
+unfolding startsOf
+starts-some [] = omega arith
+starts-some (b ∷ bs) = omega arith
+
+-- a graph whose columns have one length, and some start
+pub record OneLength (g : Contents) : Type 0 where
+  pub ax : length (g .ax) ≡ length (g .aId)
+  pub ay : length (g .ay) ≡ length (g .aId)
+  pub bx : length (g .bx) ≡ length (g .aId)
+  pub by : length (g .by) ≡ length (g .aId)
+  pub bId : length (g .bId) ≡ length (g .aId)
+  pub top : length (g .top) ≡ length (g .aId)
+  pub state : length (g .state) ≡ length (g .aId)
+  pub start : 1 ≤ length (g .start)
+
+columns-even : {A B : Type 0} (f : List ℕ → A) (h : List ℕ → B) (links : List (List ℕ)) → length (map f links) ≡ length (map h links)
+columns-even f h links = length-map links f ∙ sym (length-map links h)
+
+file-even : (s : List ℕ) (links nodes : List (List ℕ)) → OneLength (contentsOf s links nodes)
+file-even s links nodes = record {
+  ax = columns-even _ _ links;
+  ay = columns-even _ _ links;
+  bx = columns-even _ _ links;
+  by = columns-even _ _ links;
+  bId = columns-even _ _ links;
+  top = columns-even _ _ links;
+  state = columns-even _ _ links;
+  start = starts-some nodes;
+}
+
+module _ (g : Contents) (b : FileLists) (h : OneLength g) where
+  graph-fronts : ReadFits (readInto (holding g) b .answer) (readInto (holding g) b .lent)
+  graph-fronts = record {
+    ax = cut _ _ (omega (arith, over-long (g .ax) (b .ax), h .ax));
+    ay = cut _ _ (omega (arith, over-long (g .ay) (b .ay), h .ay));
+    bx = cut _ _ (omega (arith, over-long (g .bx) (b .bx), h .bx));
+    by = cut _ _ (omega (arith, over-long (g .by) (b .by), h .by));
+    aId = cut _ _ (omega (arith, over-long (g .aId) (b .aId)));
+    bId = cut _ _ (omega (arith, over-long (g .bId) (b .bId), h .bId));
+    top = cut _ _ (omega (arith, over-long (g .top) (b .top), h .top));
+    state = cut _ _ (omega (arith, over-long (g .state) (b .state), h .state));
+    start = cut _ _ (omega (arith, over-long (g .start) (b .start), h .start));
+    list = cut _ _ (omega (arith, over-long (g .list) (b .list)));
+  }
+
+  graph-text : readText (readInto (holding g) b .answer) (readInto (holding g) b .lent) ≡ fileText (holding g)
+  unfolding fileText
+  graph-text =
+      rw (
+        over-front (length (g .aId)) (g .ax) (b .ax) (h .ax),
+        over-front (length (g .aId)) (g .ay) (b .ay) (h .ay),
+        over-front (length (g .aId)) (g .bx) (b .bx) (h .bx),
+        over-front (length (g .aId)) (g .by) (b .by) (h .by),
+        over-front (length (g .aId)) (g .aId) (b .aId) refl,
+        over-front (length (g .aId)) (g .bId) (b .bId) (h .bId),
+        over-front (length (g .aId)) (g .top) (b .top) (h .top),
+        over-front (length (g .aId)) (g .state) (b .state) (h .state),
+        over-front (length (g .start) - 1 + 1) (g .start) (b .start) (omega (arith, h .start)),
+        over-front (length (g .list)) (g .list) (b .list) refl,
+      )
+
+-- ---- what answering is asked, and what it then prints
+form-fits : (s : List ℕ) (b : FileLists) (f : Form) → ReadFits (readInto (fileFrom s f) b .answer) (readInto (fileFrom s f) b .lent)
+form-fits s b (form links nodes) = graph-fronts (contentsOf s links nodes) b (file-even s links nodes)
+form-fits s b (refused why) = tt
+
+form-text : (s : List ℕ) (b : FileLists) (f : Form)
+    → readText (readInto (fileFrom s f) b .answer) (readInto (fileFrom s f) b .lent) ≡ fileText (fileFrom s f)
+unfolding fileText
+form-text s b (form links nodes) = graph-text (contentsOf s links nodes) b (file-even s links nodes)
+form-text s b (refused why) = refl
+
+module _ (s : List ℕ) (b : FileLists) {a : FileRead} {b′ : FileLists} (e : reading a b′ ≡ readInto (fileOf s) b) where
+  pub read-fits : ReadFits a b′
+  read-fits = subst (λ (x : Reading). ReadFits (x .answer) (x .lent)) (sym e) (form-fits s b (formOf s))
+
+  pub read-text : readText a b′ ≡ fileText (fileOf s)
+  read-text = ap (λ (x : Reading). readText (x .answer) (x .lent)) e ∙ form-text s b (formOf s)

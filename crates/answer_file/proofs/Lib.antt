@@ -1,0 +1,2 @@
+-- What the promise of reading comes to for the answer.
+pub mod Fronts

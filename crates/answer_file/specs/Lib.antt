@@ -1,0 +1,2 @@
+-- What the program answers to what a file says, by the definitions of the crates below.
+pub mod FileText

@@ -1,0 +1,2 @@
+-- What the promise of extraction comes to for binding.
+pub mod Extracts

@@ -1,0 +1,2 @@
+-- What the program answers to a graph, by the definitions of the crates below.
+pub mod GraphText

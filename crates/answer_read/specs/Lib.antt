@@ -1,0 +1,2 @@
+-- What the program answers to what reading gave, by the definitions of the crates below.
+pub mod ReadText

@@ -1,0 +1,2 @@
+-- What the promise of binding comes to for printing.
+pub mod Prints

@@ -1,0 +1,3 @@
+-- The loops that fill the lists.
+pub mod Fill
+pub mod Nodes

@@ -1,0 +1,3 @@
+-- The lists that are read where the records of a file stand.
+pub mod Columns
+pub mod NodeLists

@@ -1,0 +1,2 @@
+-- Numbers in a list of bytes.
+pub mod Bytes

@@ -1,0 +1,3 @@
+-- The lines of the answer as bytes.
+pub mod Lines
+pub mod Again

@@ -1,0 +1,3 @@
+-- What the proofs cite.
+pub mod Copy
+pub mod Numbers

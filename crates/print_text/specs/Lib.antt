@@ -1,0 +1,3 @@
+-- Texts and decimal numbers as bytes.
+pub mod Text
+pub mod Decimal
