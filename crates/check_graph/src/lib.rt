@@ -99,7 +99,7 @@ fn clashes(
         | alike_before(ax, ay, bx, by, aid, state, here, v, j, f)
 }
 
-// Whether some entry of node v does.
+// Whether some entry of node v stands there twice, has another point than the first, or is alike an earlier one.
 fn any_clash(
     ax: &[i32],
     ay: &[i32],
@@ -159,7 +159,7 @@ fn bridge_wrong(
         | alike(ax, ay, bx, by, aid, state, v, e, f)
 }
 
-// The same of any node, with these entries. Most nodes are `Bridge`s.
+// Whether checks 5 to 7 find something wrong with node v, which has these entries. Most nodes are `Bridge`s.
 fn node_wrong(
     ax: &[i32],
     ay: &[i32],
@@ -199,7 +199,7 @@ fn node_wrong(
     any_clash(ax, ay, bx, by, aid, state, here, v)
 }
 
-// Whether they find something wrong with some node.
+// Whether checks 5 to 7 find something wrong with some node.
 fn any_node_wrong(
     ax: &[i32],
     ay: &[i32],

@@ -51,7 +51,7 @@ module _ (kind : ℕ) (s : List ℕ) (r : Run) where
   step-next h k n b =
       rw (le-leb (r .at + 6) (length s) h, eq-eqb (kindAt s (r .at)) kind k, n, le-leb (recordEnd s (r .at)) (length s) b)
 
--- the same with the length and the number as they were read
+-- one record, with the length and the number as they were read
 module _ (kind : ℕ) (s : List ℕ) (r : Run) (len n : ℕ) (h : r .at + 6 ≤ length s) (k : kindAt s (r .at) ≡ kind) (l : len ≡ lengthAt s (r .at))
     (e : n ≡ headNumber kind (r .count) (r .size) len) where
   number-is : n ≡ headNumber kind (r .count) (r .size) (lengthAt s (r .at))

@@ -110,7 +110,7 @@ both-ways true false f g = absurd (f (yes! tt) .is)
 both-ways false true f g = absurd (g (yes! tt) .is)
 both-ways false false f g = refl
 
--- the same, by equations: what a code's tests give
+-- what a test joined of two says of each, by equations, as a code's tests give them
 pub or-false : (a b : Bool) → a || b ≡ false → (a ≡ false) × (b ≡ false)
 or-false true b e = absurd (true≢false refl e)
 or-false false b e = (refl, e)

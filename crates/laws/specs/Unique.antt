@@ -9,6 +9,6 @@ Determines {A} promise = (r s : A) → promise r → promise s → r ≡ s
 pub by-equation : {A : Type 0} (defined : A) → Determines (λ r. r ≡ defined)
 by-equation defined r s p q = p ∙ sym q
 
--- the same, where the promise tells more of the outcome beside
+-- two outcomes are equal also where the promise tells more of them beside the equation
 pub by-equation-with : {A : Type 0} (defined : A) (more : A → Type 0) → Determines (λ r. (r ≡ defined) × more r)
 by-equation-with defined more r s p q = p .0 ∙ sym (q .0)

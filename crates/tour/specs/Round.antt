@@ -255,7 +255,7 @@ module _ (g : Graph) (st : List ℕ) (ok : Sound g st) (v : ℕ) where
   at-unvisited-in : (u : ℕ) → M u → Mem u (unvisitedIn st (g .entries v))
   at-unvisited-in u m = unvisited-in-in st (g .entries v) u (m .0) (m .1)
 
-  -- the same of any list that has them, each as often
+  -- of any list that has these ends, each as often
   abbrev These : List ℕ → Type 0
   These l = (k : ℕ) → count k l ≡ count k (unvisitedIn st (g .entries v))
 

@@ -12,7 +12,7 @@ use lib.Seq.{set-split, take-at, drop-at, drop-drop}
 unfoldable pub put : {A : Type 0} → List A → ℕ → List A → List A
 put l i t = take i l ++ (t ++ drop (i + length t) l)
 
--- the same from index 0
+-- what is written from index 0 on
 abbrev pub atFront : {A : Type 0} → List A → List A → List A
 atFront t l = put l 0 t
 
