@@ -1,20 +1,19 @@
 -- After extraction, what it kept of the points and the table fits the buffers.
-use Prim.Native.Nat.{ℕ, zero, suc, _+_, _-_, _*_, _≤_}
+use Prim.Native.Nat.{ℕ, suc, _+_, _-_, _≤_}
 use native.Mathlib.Omega.{arith}
-use mathlib.Core.Path.{_≡_, refl, sym, ap, _∙_, subst}
+use mathlib.Core.Path.{_≡_, refl, sym, ap, subst}
 use mathlib.Core.Bool.{Bool}
-use mathlib.Core.List.{List, [], _∷_, _++_, map}
-use lib.IntN.{ℤ, pos}
+use mathlib.Core.List.{List, [], _∷_}
+use lib.IntN.{pos}
 use lib.ListN.{length, replicate, length-append, length-map}
 use Rattle.graph.specs.Graph.{Lent, graphOf, Graph}
 use Rattle.graph.specs.Checks.{checked, room}
 use Rattle.turn.specs.declared.Checked.{Checked}
 use Rattle.turn.specs.declared.Checked.the-variants as check
-use Rattle.walk.specs.declared.Counts.{Counts}
 use Rattle.walk.specs.declared.Extraction.{Extraction}
-use Rattle.walk.specs.declared.Extraction.the-variants.{Done, Refused}
+use Rattle.walk.specs.declared.Extraction.the-variants.{Refused}
 use Rattle.walk.specs.Walk.{Walk, Scanned, stopped, walks, scan}
-use Rattle.walk.specs.Outcome.{kept, lens, firsts, kinds, allPoints, coordinates, sum, countsOf}
+use Rattle.walk.specs.Outcome.{kept, lens, firsts, kinds, allPoints, coordinates}
 use Rattle.walk.specs.Extract.{Buffers, Extracted, extractedAs, filled, afterScan, afterChecks, extracted}
 use Rattle.walk.specs.Ledger.{coordinates-length, all-points-length}
 use Rattle.answer_table.specs.Cuts.{cut}

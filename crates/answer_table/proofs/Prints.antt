@@ -1,15 +1,15 @@
 -- What binding has bound may be printed: its table passed check 10.
-use Prim.Native.Nat.{ℕ, zero, suc, _+_, _-_, _*_, _≤_, _<_}
+use Prim.Native.Nat.{ℕ, suc, _+_, _-_, _≤_}
 use native.Mathlib.Omega.{arith}
 use mathlib.Core.Path.{_≡_, refl, sym, ap, _∙_, subst}
-use mathlib.Core.Bool.{Bool, true, false}
-use mathlib.Core.List.{List, [], _∷_, _++_}
+use mathlib.Core.Bool.{Bool}
+use mathlib.Core.List.{List, [], _∷_}
 use lib.Dec.{eqb}
-use lib.ListN.{length, drop, replicate, length-append, length-drop, length-replicate}
-use Rattle.laws.specs.Test.{pick, pick-ind}
+use lib.ListN.{length, drop, replicate, length-append, length-drop}
+use Rattle.laws.specs.Test.{pick-ind}
 use Rattle.turn.specs.declared.Checked.{Checked}
 use Rattle.turn.specs.declared.Checked.the-variants.{Fine, Refused as AtFault}
-use Rattle.table.specs.Table.{Table, contourCount, pointCount, hulls, hullCount}
+use Rattle.table.specs.Table.{Table, contourCount, hulls, hullCount}
 use Rattle.table.specs.TableChecks.{tableChecked, anchorsChecked, bothChecked}
 use Rattle.turn.specs.Refusals.{first-fine}
 use Rattle.table.specs.Sound.{Sound}
@@ -18,8 +18,8 @@ use Rattle.bind.specs.declared.Binding.{Binding}
 use Rattle.bind.specs.declared.Binding.the-variants.{Bound, Refused}
 use Rattle.bind.specs.declared.Given.{Given}
 use Rattle.bind.specs.declared.Given.the-variants.{All, Stuck}
-use Rattle.bind.specs.Owners.{Owned, Outcome, outcome, written, droppedOf, handedBy, handed, ownersOf, boundAfter, bound}
-use Rattle.print.specs.Room.{maxContours, RangesInside, Printable}
+use Rattle.bind.specs.Owners.{Outcome, outcome, written, droppedOf, handedBy, ownersOf, boundAfter, bound}
+use Rattle.print.specs.Room.{maxContours, Printable}
 use Rattle.print.specs.Answer as print
 use Rattle.answer_table.specs.BoundText.{totalsOf, bindingText, outcomeText, boundText}
 

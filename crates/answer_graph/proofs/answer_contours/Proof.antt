@@ -6,18 +6,17 @@ use Rattle.answer_graph.proofs.Extracts.{extraction-fits, extracted-tex
 use borrow.Author.Needs.{needs}
 use Rattle.answer_graph.proofs.answer_contours.Statement.{statement}
 use Rattle.answer_graph.proofs.answer_contours.Tie as tie
-use Rattle.answer_graph.proofs.answer_contours.Reads as reads
-use Rattle.answer_graph.proofs.answer_contours.Lts as lts
-use Rattle.answer_table.proofs.answer_extraction.Reads as answer-extraction-reads
-use Rattle.walk.proofs.extract.Reads as extract-reads
 
 abbrev g : tie.Start → Lent
 g s =
-    lent (s .args .ax .now) (s .args .ay .now) (s .args .bx .now) (s .args .by .now) (s .args .a-id .now) (s .args .b-id .now)
+    lent (s .args .ax .now) (s .args .ay .now) (s .args .bx .now) (s .args .by .now) (s .args .a-id .now) (s
+    .args .b-id .now)
     (s .args .start .now) (s .args .list .now)
 
 abbrev b : tie.Start → Buffers
-b s = buffers (s .args .state .now) (s .args .points .now) (s .args .first .now) (s .args .len .now) (s .args .kind .now)
+b s =
+    buffers (s .args .state .now) (s .args .points .now) (s .args .first .now) (s .args .len .now) (s .args
+    .kind .now)
 
 -- the start, from where the table is lent on, and from the return
 abbrev lent-start : tie.After-answer-extraction-arg5 → tie.Start
