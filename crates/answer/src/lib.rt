@@ -2,8 +2,7 @@
 use format_records::MAX_ENTRIES;
 use format_records::MAX_NODES;
 use turn::MAX_LINKS;
-ghost use mathlib.Core.Path.{_≡_};
-ghost use Prim.Native.Nat.{ℕ, _≤_};
+ghost use Prim.Native.Nat.{_≤_};
 ghost use lib.ListN.{length};
 ghost use Rattle.print.specs.Room.{answerBytes};
 ghost use Rattle.writing.specs.Write.{Wrote};

@@ -1,6 +1,5 @@
 // What the program answers to a file, read into lent lists that have room for every graph.
-ghost use mathlib.Core.Path.{_≡_};
-ghost use Prim.Native.Nat.{ℕ, _≤_};
+ghost use Prim.Native.Nat.{_≤_};
 ghost use lib.ListN.{length};
 ghost use Rattle.format.specs.File.{fileOf, FileLists, fileLists, FileRoom};
 ghost use Rattle.print.specs.Room.{answerBytes};

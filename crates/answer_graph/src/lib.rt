@@ -3,8 +3,7 @@
 // Each function has the arrays of its stage and makes one call with them; the stages below see slices only.
 use print::MAX_CONTOURS;
 use turn::MAX_LINKS;
-ghost use mathlib.Core.Path.{_≡_};
-ghost use Prim.Native.Nat.{ℕ, _≤_};
+ghost use Prim.Native.Nat.{_≤_};
 ghost use lib.ListN.{length};
 ghost use Rattle.graph.specs.Graph.{Lent, lent};
 ghost use Rattle.print.specs.Room.{answerBytes};

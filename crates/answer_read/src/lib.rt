@@ -1,8 +1,7 @@
 // What the program answers to what reading gave: its refusal, or the answer to the graph that it left in the lent lists.
 use format::FileCounts;
 use format::FileRead;
-ghost use mathlib.Core.Path.{_≡_};
-ghost use Prim.Native.Nat.{ℕ, _≤_};
+ghost use Prim.Native.Nat.{_≤_};
 ghost use lib.ListN.{length};
 ghost use Rattle.format.specs.File.{FileLists, fileLists};
 ghost use Rattle.print.specs.Room.{answerBytes};

@@ -1,22 +1,20 @@
 -- Only such files are accepted: a file whose form is right is its settings, its links and its nodes, record after record, and nothing else.
-use Prim.Native.Nat.{ℕ, zero, suc, _+_, _-_, _*_, _/_, _%_, _^_, _≤_, _<_}
-use mathlib.Core.Path.{_≡_, refl, sym, ap, ap₂, _∙_, subst}
-use mathlib.Core.Bool.{Bool, true, false}
+use Prim.Native.Nat.{ℕ, _+_, _-_, _*_, _/_, _%_, _≤_, _<_}
+use mathlib.Core.Path.{_≡_, refl, sym, ap, ap₂, _∙_}
+use mathlib.Core.Bool.{true}
 use mathlib.Core.List.{List, [], _∷_, _++_, append-assoc, append-nil}
-use native.Mathlib.Nat.{add-assoc}
 use native.Mathlib.Numerals.{add-one}
 use native.Mathlib.Omega.{arith}
 use borrow.Author.Tests.{eqb-true, leb-true}
 use lib.Dec.{eqb, leb}
-use lib.ListN.{length, getD, take, drop, take-append-drop, length-take, length-drop, drop-of-length-le}
+use lib.ListN.{length, getD, drop, take-append-drop, length-take, length-drop, drop-of-length-le}
 use lib.Seq.{drop-cons, drop-drop}
 use Rattle.laws.specs.Test.{and-true}
 use Rattle.format_numbers.specs.Bytes.{u16At, u32At}
-use Rattle.format_records.specs.Records.{lengthAt, kindAt, bodyAt, recordEnd, runTo, past, settingsRight, Form, form, formOf}
+use Rattle.format_records.specs.Records.{lengthAt, kindAt, bodyAt, recordEnd, runTo, past, settingsRight, form, formOf}
 use Rattle.format.specs.Encoded.{little, recordBytes, recordsBytes}
-use Rattle.format_records.specs.Steps.{Told}
 use Rattle.format_records.specs.Runs.{RecordsStand}
-use Rattle.format_records.specs.Forms.{FormPlaced, form-placed}
+use Rattle.format_records.specs.Forms.{form-placed}
 use Rattle.format_records.specs.declared.Run.{Run}
 
 -- a list of bytes

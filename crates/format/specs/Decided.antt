@@ -1,25 +1,24 @@
 -- The first `fileBytes` bytes decide every input: a reader need not look further.
-use Prim.Native.Nat.{ℕ, zero, suc, _+_, _-_, _*_, _/_, _%_, _^_, _≤_, _<_}
+use Prim.Native.Nat.{ℕ, zero, suc, _+_, _-_, _*_, _≤_, _<_}
 use mathlib.Core.Path.{_≡_, refl, sym, ap, ap₂, _∙_, subst}
-use mathlib.Core.Bool.{Bool, true, false, _&&_}
-use mathlib.Core.List.{List, [], _∷_, _++_}
-use native.Mathlib.Nat.{add-assoc}
+use mathlib.Core.Bool.{Bool, true, false}
+use mathlib.Core.List.{List, [], _∷_}
 use native.Mathlib.Omega.{arith}
 use borrow.Author.Tests.{le-leb, ne-eqb, eqb-true, ltb-true, ltb-false}
 use lib.Dec.{eqb, ltb, leb}
-use lib.ListN.{length, getD, take, drop, length-take, length-drop}
+use lib.ListN.{length, take, drop, length-take, length-drop}
 use lib.Seq.{getD-take, getD-drop, length-take-le, take-all, ext-getD}
 use Rattle.laws.specs.Test.{pick}
 use Rattle.format_numbers.specs.Bytes.{u16At, u32At}
 use Rattle.turn.specs.Limits.{maxLinks}
-use Rattle.format_records.specs.Limits.{maxNodes, maxEntries, fileBytes, maxRecords}
-use Rattle.format_records.specs.Records.{lengthAt, kindAt, bodyAt, recordEnd, headed, headNumber, bodyNumber, firstNumber, recordNumber, refusal}
-use Rattle.format_records.specs.Records.{runTo, past, stepAt, Ran, ran, fault, with, onStep, runFrom, runAt, looks, settingsRight, Form, form}
-use Rattle.format_records.specs.Records.{refused, onRan, nodesAfter, formOf}
-use Rattle.format.specs.File.{File, fileFrom, fileOf}
+use Rattle.format_records.specs.Limits.{maxEntries, fileBytes, maxRecords}
+use Rattle.format_records.specs.Records.{lengthAt, bodyAt, recordEnd, headNumber, bodyNumber, firstNumber, recordNumber, refusal, runTo, past, stepAt}
+use Rattle.format_records.specs.Records.{Ran, ran, fault, with, onStep, runFrom, runAt, looks, settingsRight, Form, form, refused, onRan, nodesAfter}
+use Rattle.format_records.specs.Records.{formOf}
+use Rattle.format.specs.File.{fileFrom, fileOf}
 use Rattle.format_records.specs.Steps.{Told, next-tells, link-zero, node-zero}
 use Rattle.format_records.specs.Runs.{RecordsStand, stands}
-use Rattle.format_records.specs.Forms.{stands-links, stands-count, stands-few, FormPlaced, form-placed}
+use Rattle.format_records.specs.Forms.{form-placed}
 use Rattle.format_records.specs.declared.Run.{Run}
 use Rattle.format_records.specs.declared.RunStep.{RunStep}
 use Rattle.format_records.specs.declared.RunStep.the-variants.{Next, Other, Fault}

@@ -1,28 +1,25 @@
 -- The lists that are read where the records of a file of right form stand are the definition's.
 use Prim.Native.Nat.{ℕ, zero, suc, _+_, _-_, _*_, _/_, _≤_, _<_}
-use mathlib.Core.Path.{_≡_, refl, sym, ap, ap₂, _∙_, subst}
-use mathlib.Core.Bool.{Bool, true}
+use mathlib.Core.Path.{_≡_, refl, sym, ap, ap₂, _∙_}
+use mathlib.Core.Bool.{Bool}
 use mathlib.Core.List.{List, [], _∷_, _++_, map}
 use native.Mathlib.Nat.{add-assoc, add-zero}
 use native.Mathlib.Omega.{arith}
-use borrow.Author.Tests.{eqb-true}
 use lib.Dec.{eqb}
 use lib.IntN.{ℤ}
 use lib.ListN.{length, getD, drop, length-map}
 use lib.Seq.{getD-take, getD-drop}
-use Rattle.laws.specs.Test.{pick, pick-ind}
 use Rattle.writing.specs.Put.{atFront}
 use Rattle.format_numbers.specs.Bytes.{u16At, u32At, u64At, i32At, signed, every}
 use Rattle.turn.specs.Limits.{maxLinks}
 use Rattle.format_records.specs.Limits.{maxNodes, maxEntries}
-use Rattle.format_records.specs.Records.{lengthAt, bodyAt, recordEnd, refusal, runTo, past, Ran, ran, fault, runAt, looks, Form, form, refused, onRan}
-use Rattle.format_records.specs.Records.{nodesAfter, formOf, settingsRight, flatList}
-use Rattle.format.specs.File.{startsOf, fileOf, FileLists, fileLists, contentsInto, reading, readInto}
+use Rattle.format_records.specs.Records.{lengthAt, bodyAt, recordEnd, runTo, past, formOf, flatList}
+use Rattle.format.specs.File.{startsOf, fileOf, FileLists, fileLists, reading, readInto}
 use Rattle.format_records.specs.Shape.{fileShapeOf}
 use Rattle.format_lists.specs.Columns.{Columns, columns, column, linksInto}
 use Rattle.format_lists.specs.NodeLists.{entriesFrom, startsFrom, NodesStand}
 use Rattle.format_records.specs.Steps.{link-zero, node-zero}
-use Rattle.format_records.specs.Runs.{RecordsStand, stands}
+use Rattle.format_records.specs.Runs.{RecordsStand}
 use Rattle.format_records.specs.Forms.{length-body, stands-count, stands-few, stands-inside, stands-links, settings-long, Formed, wronged, FormPlaced}
 use Rattle.format_records.specs.Forms.{form-placed}
 use Rattle.format_records.specs.declared.Run.{Run}

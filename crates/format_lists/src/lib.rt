@@ -1,7 +1,6 @@
 // The lists of a graph, each filled in one loop from where its bytes stand in a file of right form.
 ghost use mathlib.Core.Path.{_≡_};
 ghost use Prim.Native.Nat.{ℕ, _+_, _*_, _<_, _≤_};
-ghost use mathlib.Core.List.{List};
 ghost use lib.ListN.{length, getD};
 ghost use Rattle.writing.specs.Put.{put, atFront};
 ghost use Rattle.format_numbers.specs.Bytes.{u16At, i32At, every};

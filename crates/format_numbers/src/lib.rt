@@ -1,6 +1,6 @@
 // Numbers of the file, "all little-endian", read from a slice of bytes.
 ghost use mathlib.Core.Path.{_≡_};
-ghost use Prim.Native.Nat.{ℕ, _+_, _<_, _≤_};
+ghost use Prim.Native.Nat.{_+_, _<_, _≤_};
 ghost use lib.ListN.{length};
 ghost use Rattle.format_numbers.specs.Bytes.{u16At, u32At, u64At, signed};
 

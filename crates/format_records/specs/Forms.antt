@@ -1,5 +1,5 @@
 -- What a file of right form holds: where its links and nodes stand, how many they are, and that the lists read there are those of the definition.
-use Prim.Native.Nat.{ℕ, zero, suc, _+_, _-_, _*_, _/_, _≤_}
+use Prim.Native.Nat.{ℕ, _+_, _-_, _*_, _/_, _≤_}
 use mathlib.Core.Path.{_≡_, refl, sym, ap, ap₂, _∙_, subst}
 use mathlib.Core.Bool.{true, false}
 use mathlib.Core.List.{List, [], _∷_}
@@ -8,7 +8,7 @@ use borrow.Author.Tests.{eq-eqb, ne-eqb, leb-true, eqb-true}
 use lib.Dec.{leb, eqb}
 use lib.ListN.{length, length-take, length-drop, length-append}
 use Rattle.laws.specs.Test.{and-true, pick-ind, pick}
-use Rattle.format_numbers.specs.Bytes.{u16At, every, length-every}
+use Rattle.format_numbers.specs.Bytes.{u16At, length-every}
 use Rattle.format_records.specs.Limits.{maxRecords}
 use Rattle.format_records.specs.Records.{lengthAt, bodyAt, refusal, runTo, past, Ran, ran, fault, runAt, looks, form, nodesAfter, formOf}
 use Rattle.format_records.specs.Records.{settingsRight, nodeEntries, flatList, onRan, Form, refused}

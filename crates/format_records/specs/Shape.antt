@@ -1,5 +1,4 @@
 -- What the functions promise each other: a run and a form without the bodies.
-use mathlib.Core.List.{List}
 use lib.ListN.{length}
 use Rattle.format_records.specs.Records.{Ran, ran, fault, Form, form, refused, flatList}
 use Rattle.format_records.specs.declared.RunEnd.{RunEnd}

@@ -1,14 +1,14 @@
 -- Counts of bytes stay within their buffers.
 use Prim.Native.Nat.{ℕ, _+_, _-_, _≤_}
 use native.Mathlib.Omega.{arith}
-use mathlib.Core.Path.{_≡_, sym, _∙_, subst}
+use mathlib.Core.Path.{_≡_, sym, subst}
 use mathlib.Core.List.{List, _++_}
 use lib.ListN.{length, take, drop, length-append, length-take, length-drop}
 use borrow.Rule.Slice.PartMut.{midOf}
 use Rattle.writing.specs.Put.{put}
 use Rattle.writing.specs.Write.{Wrote}
 use Rattle.outline.specs.declared.Input.{Input}
-use Rattle.outline.specs.declared.Input.the-variants.{Read, Failed}
+use Rattle.outline.specs.declared.Input.the-variants.{Read}
 use Rattle.outline.specs.Inputs.{InputFits}
 
 -- what a read answers as its count

@@ -1,10 +1,8 @@
 -- What the program prints: the answer of both stages, or a refusal.
 use Prim.Native.Nat.{ℕ, zero, suc, _+_, _*_}
 use mathlib.Core.List.{List, [], _++_}
-use lib.Dec.{eqb}
 use lib.IntN.{ℤ, pos}
 use lib.ListN.{getD}
-use Rattle.laws.specs.Test.{pick}
 use Rattle.print_text.specs.Text.{text}
 use Rattle.print_text.specs.Decimal.{said}
 use Rattle.print_lines.specs.Lines.{header, contourLine, pointLine}

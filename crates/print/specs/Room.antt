@@ -1,5 +1,5 @@
 -- The room that an answer takes, and what a table must be like to be printed.
-use Prim.Native.Nat.{ℕ, _+_, _-_, _*_, _/_, _≤_, _<_}
+use Prim.Native.Nat.{ℕ, _+_, _*_, _/_, _≤_, _<_}
 use mathlib.Core.Path.{_≡_}
 use lib.ListN.{length, getD}
 use Rattle.turn.specs.Limits.{maxLinks}

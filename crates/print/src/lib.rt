@@ -3,10 +3,8 @@
 // Every writer takes the buffer and a position, writes its bytes there and answers the position after them.
 use print_lines::Totals;
 use turn::MAX_LINKS;
-ghost use mathlib.Core.Path.{_≡_};
-ghost use mathlib.Core.List.{List};
-ghost use Prim.Native.Nat.{ℕ, _+_, _*_, _<_, _≤_};
-ghost use lib.ListN.{length, getD};
+ghost use Prim.Native.Nat.{_+_, _*_, _<_, _≤_};
+ghost use lib.ListN.{length};
 ghost use Rattle.writing.specs.Write.{Wrote, IsFront};
 ghost use Rattle.print.specs.Room.{answerBytes, refusalBytes, RangesInside, Printable};
 ghost use Rattle.print.specs.Answer.{OwnedTable, pointLines, contourLines, contoursFrom, ownedTable, printed, printedRefusal};

@@ -2,8 +2,7 @@
 //
 // Every writer takes the buffer and a position, writes its bytes there and answers the position after them.
 use table::DROPPED;
-ghost use mathlib.Core.Path.{_≡_};
-ghost use Prim.Native.Nat.{ℕ, _+_, _≤_};
+ghost use Prim.Native.Nat.{_+_, _≤_};
 ghost use lib.ListN.{length};
 ghost use Rattle.writing.specs.Write.{Wrote};
 ghost use Rattle.print_text.specs.Decimal.{said};

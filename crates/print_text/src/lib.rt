@@ -1,8 +1,7 @@
 // Texts and decimal numbers, written into a slice of bytes.
 //
 // Every writer takes the buffer and a position, writes its bytes there and answers the position after them.
-ghost use mathlib.Core.Path.{_≡_};
-ghost use Prim.Native.Nat.{ℕ, _+_, _≤_};
+ghost use Prim.Native.Nat.{_+_, _≤_};
 ghost use lib.ListN.{length};
 ghost use Rattle.writing.specs.Write.{Wrote};
 ghost use Rattle.print_text.specs.Decimal.{decimal, decimalZ, said};

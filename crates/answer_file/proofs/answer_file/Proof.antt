@@ -3,17 +3,13 @@ use mathlib.Core.Path.{_∙_}
 use Rattle.format.specs.File.{FileLists, fileLists}
 use Rattle.writing.specs.Write.{wrote-as}
 use Rattle.answer_file.proofs.Fronts.{read-fits, read-text}
-use borrow.Author.Needs.{needs}
 use Rattle.answer_file.proofs.answer_file.Statement.{statement}
 use Rattle.answer_file.proofs.answer_file.Tie as tie
-use Rattle.answer_file.proofs.answer_file.Reads as reads
-use Rattle.answer_file.proofs.answer_file.Lts as lts
-use Rattle.answer_read.proofs.answer_read.Reads as answer-read-reads
-use Rattle.format.proofs.read_graph.Reads as read-graph-reads
 
 abbrev b : tie.Start → FileLists
 b s =
-    fileLists (s .args .ax .now) (s .args .ay .now) (s .args .bx .now) (s .args .by .now) (s .args .a-id .now) (s .args .b-id .now)
+    fileLists (s .args .ax .now) (s .args .ay .now) (s .args .bx .now) (s .args .by .now) (s .args .a-id .now)
+    (s .args .b-id .now)
     (s .args .top .now) (s .args .state .now) (s .args .start .now) (s .args .list .now)
 
 -- from the return to the last of the lists that were read
@@ -46,7 +42,8 @@ answer-read-requires c κs =
     let s = lent-start c in (
       read-fits (s .args .input .now) (b s)
           (c .before .before .before .before .before .before .before .before .before .before .before .before .before
-          .before .before .before .before .before .before .before .before .before .before .before .before .before .before
+          .before .before .before .before .before .before .before .before .before .before .before .before
+          .before .before
           .read-graph .ensures),
       s .pre .1,
     )

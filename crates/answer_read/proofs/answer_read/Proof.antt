@@ -7,14 +7,11 @@ use Rattle.answer_read.specs.ReadText.{ReadFits, readText}
 use borrow.Author.Needs.{needs}
 use Rattle.answer_read.proofs.answer_read.Statement.{statement}
 use Rattle.answer_read.proofs.answer_read.Tie as tie
-use Rattle.answer_read.proofs.answer_read.Reads as reads
-use Rattle.answer_read.proofs.answer_read.Lts as lts
-use Rattle.answer_read.proofs.answer_fronts.Reads as answer-fronts-reads
-use Rattle.print.proofs.write_refusal.Reads as write-refusal-reads
 
 abbrev b : tie.Start → FileLists
 b s =
-    fileLists (s .args .ax .now) (s .args .ay .now) (s .args .bx .now) (s .args .by .now) (s .args .a-id .now) (s .args .b-id .now)
+    fileLists (s .args .ax .now) (s .args .ay .now) (s .args .bx .now) (s .args .by .now) (s .args .a-id .now)
+    (s .args .b-id .now)
     (s .args .top .now) (s .args .state .now) (s .args .start .now) (s .args .list .now)
 
 enum-known-read : tie.Need-enum-known-read
@@ -53,7 +50,8 @@ returns-2 c =
     let s =
     c .before .before .before .before .before .before .before .before .before .before .before .before .before
     .before .before .before .before in
-    wrote-as (ap (λ (r : FileRead). readText r (b s)) (sym (c .before .before .before .before .before .before .before .before .read2 .given .1)))
+    wrote-as (ap (λ (r : FileRead). readText r (b s)) (sym (c .before .before .before .before .before .before
+    .before .before .read2 .given .1)))
     (c .before .before .before .before .answer-fronts .ensures)
 
 pub answer-read-spec : {M : Type 1} → statement M

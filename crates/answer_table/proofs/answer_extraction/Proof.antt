@@ -7,10 +7,6 @@ use Rattle.answer_table.specs.ExtractionText.{ExtractionFits, extraction
 use borrow.Author.Needs.{needs}
 use Rattle.answer_table.proofs.answer_extraction.Statement.{statement}
 use Rattle.answer_table.proofs.answer_extraction.Tie as tie
-use Rattle.answer_table.proofs.answer_extraction.Reads as reads
-use Rattle.answer_table.proofs.answer_extraction.Lts as lts
-use Rattle.answer_table.proofs.answer_kept.Reads as answer-kept-reads
-use Rattle.print.proofs.write_refusal.Reads as write-refusal-reads
 
 abbrev t : tie.Start → Table
 t s = table (s .args .points .now) (s .args .first .now) (s .args .len .now) (s .args .kind .now)
@@ -26,8 +22,10 @@ enum-known-extraction-2 c = search needs
 
 answer-kept-requires : tie.Need-answer-kept-requires
 answer-kept-requires c κs =
-    let s = c .before .before .before .before .before .before .before .before in
-    (subst (λ (e : Extraction). ExtractionFits e (t s)) (c .before .before .extraction2 .given .1) (s .pre .0), s .pre .1)
+    let s = c .before .before .before .before .before .before .before .before in (
+      subst (λ (e : Extraction). ExtractionFits e (t s)) (c .before .before .extraction2 .given .1) (s .pre .0),
+      s .pre .1,
+    )
 
 same-length : tie.Need-same-length
 same-length c = search needs
@@ -35,7 +33,8 @@ same-length c = search needs
 returns : tie.Need-returns
 returns c =
     let s = c .before .before .before .before .before .before .before .before .before .before .before in
-    wrote-as (ap (λ (e : Extraction). extractionText (s .args .clockwise) e (t s)) (sym (c .before .before .before .before .before .extraction .given .1)))
+    wrote-as (ap (λ (e : Extraction). extractionText (s .args .clockwise) e (t s)) (sym (c .before .before
+    .before .before .before .extraction .given .1)))
     (c .before .before .write-refusal .ensures .0)
 
 same-length-2 : tie.Need-same-length-2
@@ -44,7 +43,8 @@ same-length-2 c = search needs
 returns-2 : tie.Need-returns-2
 returns-2 c =
     let s = c .before .before .before .before .before .before .before .before .before .before .before in
-    wrote-as (ap (λ (e : Extraction). extractionText (s .args .clockwise) e (t s)) (sym (c .before .before .before .before .before .extraction2 .given .1)))
+    wrote-as (ap (λ (e : Extraction). extractionText (s .args .clockwise) e (t s)) (sym (c .before .before
+    .before .before .before .extraction2 .given .1)))
     (c .before .before .answer-kept .ensures)
 
 pub answer-extraction-spec : {M : Type 1} → statement M

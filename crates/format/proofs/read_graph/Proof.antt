@@ -19,11 +19,11 @@ enum-known-links c = search needs
 
 fill-links-requires : tie.Need-fill-links-requires
 fill-links-requires c κs =
-    let s = c
-    .before .before .before .before .before .before .before .before .before .before .before .before .before .before .before .before .before
-    .before .before in
-    let f = formed _ _ _ _ (sym (c .before .before .before .before .before .before .before .before .before .links .given .1)
-    ∙ c .before .before .before .before .before .before .before .before .before .before .before .shape-of .ensures) in
+    let s = c .before .before .before .before .before .before .before .before .before .before .before .before
+    .before .before .before .before .before .before .before in
+    let f = formed _ _ _ _ (sym (c .before .before .before .before .before .before .before .before .before
+    .links .given .1) ∙ c .before .before .before .before .before .before .before .before .before .before
+    .before .shape-of .ensures) in
     let r = s .pre in
     let few = links-few _ _ _ _ f in (
       links-fit _ _ _ _ f,
@@ -41,49 +41,57 @@ fill-links-requires c κs =
 
 mul-fill-nodes : tie.Need-mul-fill-nodes
 mul-fill-nodes c =
-    let f = formed _ _ _ _
-    (sym (c .before .before .before .before .before .before .before .before .before .before .before .before .before .before .before .before .before
-    .before .before .before .before .before .links .given .1)
-    ∙ c .before .before .before .before .before .before .before .before .before .before .before .before .before .before .before .before .before
-    .before .before .before .before .before .before .before .shape-of .ensures) in omega (arith, links-few _ _ _ _ f)
+    let f = formed _ _ _ _ (sym (c .before .before .before .before .before .before .before .before .before
+    .before .before .before .before .before .before .before .before .before .before .before .before .before
+    .links .given .1) ∙ c .before .before .before .before .before .before .before .before .before .before
+    .before .before .before .before .before .before .before .before .before .before .before .before .before
+    .before .shape-of .ensures) in omega (arith, links-few _ _ _ _ f)
 
 add-fill-nodes : tie.Need-add-fill-nodes
 add-fill-nodes c =
-    let f = formed _ _ _ _
-    (sym (c .before .before .before .before .before .before .before .before .before .before .before .before .before .before .before .before .before
-    .before .before .before .before .before .links .given .1)
-    ∙ c .before .before .before .before .before .before .before .before .before .before .before .before .before .before .before .before .before
-    .before .before .before .before .before .before .before .shape-of .ensures) in omega (arith, links-few _ _ _ _ f)
+    let f = formed _ _ _ _ (sym (c .before .before .before .before .before .before .before .before .before
+    .before .before .before .before .before .before .before .before .before .before .before .before .before
+    .links .given .1) ∙ c .before .before .before .before .before .before .before .before .before .before
+    .before .before .before .before .before .before .before .before .before .before .before .before .before
+    .before .shape-of .ensures) in omega (arith, links-few _ _ _ _ f)
 
 fill-nodes-requires : tie.Need-fill-nodes-requires
 fill-nodes-requires c κs =
-    let s = c
-    .before .before .before .before .before .before .before .before .before .before .before .before .before .before .before .before .before
-    .before .before .before .before .before .before .before .before .before .before .before .before .before .before .before .before .before in
-    let f = formed _ _ _ _
-    (sym (c .before .before .before .before .before .before .before .before .before .before .before .before .before .before .before .before
-    .before .before .before .before .before .before .before .before .links .given .1)
-    ∙ c .before .before .before .before .before .before .before .before .before .before .before .before .before .before .before .before .before
-    .before .before .before .before .before .before .before .before .before .shape-of .ensures) in
-    (omega (arith, nodes-few _ _ _ _ f, s .pre .start), s .pre .list, nodes-fit _ _ _ _ f)
+    let s = c .before .before .before .before .before .before .before .before .before .before .before .before
+    .before .before .before .before .before .before .before .before .before .before .before .before .before
+    .before .before .before .before .before .before .before .before .before in
+    let f = formed _ _ _ _ (sym (c .before .before .before .before .before .before .before .before .before
+    .before .before .before .before .before .before .before .before .before .before .before .before .before
+    .before .before .links .given .1) ∙ c .before .before .before .before .before .before .before .before
+    .before .before .before .before .before .before .before .before .before .before .before .before .before
+    .before .before .before .before .before .shape-of .ensures) in (
+      omega (
+        arith,
+        nodes-few _ _ _ _ f,
+        s .pre
+            .start,
+      ),
+      s .pre .list,
+      nodes-fit _ _ _ _ f,
+    )
 
 shared-slice-read-t42 : tie.Need-shared-slice-read-t42
 shared-slice-read-t42 c =
-    let f = formed _ _ _ _
-    (sym (c .before .before .before .before .before .before .before .before .before .before .before .before .before .before .before .before .before
-    .before .before .before .before .before .before .before .before .before .before .before .before .before .links .given .1)
-    ∙ c .before .before .before .before .before .before .before .before .before .before .before .before .before .before .before .before .before
-    .before .before .before .before .before .before .before .before .before .before .before .before .before .before .before .shape-of .ensures) in
-    omega (arith, file-long _ _ _ _ f)
+    let f = formed _ _ _ _ (sym (c .before .before .before .before .before .before .before .before .before
+    .before .before .before .before .before .before .before .before .before .before .before .before .before
+    .before .before .before .before .before .before .before .before .links .given .1) ∙ c .before .before
+    .before .before .before .before .before .before .before .before .before .before .before .before .before
+    .before .before .before .before .before .before .before .before .before .before .before .before .before
+    .before .before .before .before .shape-of .ensures) in omega (arith, file-long _ _ _ _ f)
 
 u64-at-requires : tie.Need-u64-at-requires
 u64-at-requires c κs =
-    let f = formed _ _ _ _
-    (sym (c .before .before .before .before .before .before .before .before .before .before .before .before .before .before .before .before .before
-    .before .before .before .before .before .before .before .before .before .before .before .before .before .links .given .1)
-    ∙ c .before .before .before .before .before .before .before .before .before .before .before .before .before .before .before .before .before
-    .before .before .before .before .before .before .before .before .before .before .before .before .before .before .before .shape-of .ensures) in
-    omega (arith, file-long _ _ _ _ f)
+    let f = formed _ _ _ _ (sym (c .before .before .before .before .before .before .before .before .before
+    .before .before .before .before .before .before .before .before .before .before .before .before .before
+    .before .before .before .before .before .before .before .before .links .given .1) ∙ c .before .before
+    .before .before .before .before .before .before .before .before .before .before .before .before .before
+    .before .before .before .before .before .before .before .before .before .before .before .before .before
+    .before .before .before .before .shape-of .ensures) in omega (arith, file-long _ _ _ _ f)
 
 returns : tie.Need-returns
 returns c = read-wrong _ _ _ (sym (c .before .e .given .1) ∙ c .before .before .before .shape-of .ensures)
@@ -120,15 +128,16 @@ same-length-10 c = search needs
 
 returns-2 : tie.Need-returns-2
 returns-2 c =
-    let f = formed _ _ _ _
-    (sym (c .before .before .before .before .before .before .before .before .before .before .before .before .before .before .before .before .before
-    .before .before .before .before .before .before .before .before .before .before .before .before .before .before .links .given .1)
-    ∙ c .before .before .before .before .before .before .before .before .before .before .before .before .before .before .before .before .before
-    .before .before .before .before .before .before .before .before .before .before .before .before .before .before .before .before .shape-of .ensures) in
-    read-right _ _ _ _ f _ _ _ _ _ _ refl (c .u64-at .ensures)
-    (c .before .before .before .before .before .before .before .before .before .before .before .before .before .before .before .before .before
-    .before .before .before .before .fill-links .ensures) (c .before .before .before .before .before .before .fill-nodes .ensures .0)
-    (c .before .before .before .before .before .before .fill-nodes .ensures .1)
+    let f = formed _ _ _ _ (sym (c .before .before .before .before .before .before .before .before .before
+    .before .before .before .before .before .before .before .before .before .before .before .before .before
+    .before .before .before .before .before .before .before .before .before .links .given .1) ∙ c .before
+    .before .before .before .before .before .before .before .before .before .before .before .before .before
+    .before .before .before .before .before .before .before .before .before .before .before .before .before
+    .before .before .before .before .before .before .shape-of .ensures) in
+    read-right _ _ _ _ f _ _ _ _ _ _ refl (c .u64-at .ensures) (c .before .before .before .before .before
+    .before .before .before .before .before .before .before .before .before .before .before .before .before
+    .before .before .before .fill-links .ensures) (c .before .before .before .before .before .before .fill-nodes
+    .ensures .0) (c .before .before .before .before .before .before .fill-nodes .ensures .1)
 
 pub read-graph-spec : {M : Type 1} → statement M
 read-graph-spec =

@@ -29,10 +29,23 @@ from-bits-requires c κs = search needs
 mul-x : tie.Need-mul-x Inv-loop μ-loop
 mul-x c =
     let s = c .before .before .before .before .before in
-    let i = c .before .before .before .loop .inv in omega (arith, i .long, s .pre, c .before .before .loop-test .taken, s .good)
+    let i = c .before .before .before .loop .inv in omega (
+      arith,
+      i .long,
+      s .pre,
+      c .before .before .loop-test
+          .taken,
+      s .good,
+    )
 
 slice-set-from-x : tie.Need-slice-set-from-x Inv-loop μ-loop
-slice-set-from-x c = let i = c .before .before .before .loop .inv in omega (arith, i .long, c .before .before .before .before .before .pre)
+slice-set-from-x c =
+    let i = c .before .before .before .loop .inv in omega (
+      arith,
+      i .long,
+      c .before .before .before .before
+          .before .pre,
+    )
 
 add-at : tie.Need-add-at Inv-loop μ-loop
 add-at c =
@@ -48,8 +61,10 @@ loop-less c = omega arith
 loop-again : tie.Need-loop-again Inv-loop μ-loop
 loop-again c =
     let s = c .before .before .before .before .before in
-    filling-next _ _ _ _ _ _ _ _ _ (c .before .before .before .loop .inv) (c .before .before .before .loop .k) _ (sym (zero-add _))
-    (toZ-ofZ w32 (c .from-bits .result) (record { sfits = c .from-bits .ok }) ∙ c .from-bits .ensures ∙ ap signed (c .before .u32-at .ensures))
+    filling-next _ _ _ _ _ _ _ _ _ (c .before .before .before .loop .inv) (c .before .before .before .loop .k) _
+    (sym (zero-add _))
+    (toZ-ofZ w32 (c .from-bits .result) (record { sfits = c .from-bits .ok }) ∙ c .from-bits .ensures ∙ ap
+    signed (c .before .u32-at .ensures))
     (c .before .before .loop-test .taken)
     (omega (arith, s .pre))
 

@@ -25,16 +25,16 @@ fill-u16-requires-2 c κs = search needs
 
 fill-u8-requires : tie.Need-fill-u8-requires
 fill-u8-requires c κs =
-    let s = c
-    .before .before .before .before .before .before .before .before .before .before .before .before .before .before .before .before .before
-    .before .before .before .before .before .before .before .before .before in
+    let s = c .before .before .before .before .before .before .before .before .before .before .before .before
+    .before .before .before .before .before .before .before .before .before .before .before .before .before
+    .before in
     omega (arith, s .pre .0, s .pre .1 .top)
 
 fill-u8-requires-2 : tie.Need-fill-u8-requires-2
 fill-u8-requires-2 c κs =
-    let s = c
-    .before .before .before .before .before .before .before .before .before .before .before .before .before .before .before .before .before
-    .before .before .before .before .before .before .before .before .before .before .before .before .before in
+    let s = c .before .before .before .before .before .before .before .before .before .before .before .before
+    .before .before .before .before .before .before .before .before .before .before .before .before .before
+    .before .before .before .before .before in
     omega (arith, s .pre .0, s .pre .1 .state)
 
 same-length : tie.Need-same-length
@@ -63,16 +63,15 @@ same-length-8 c = search needs
 
 returns : tie.Need-returns
 returns c =
-    same-columns
-    (c .before .before .before .before .before .before .before .before .before .before .before .before .before .before .before .before .before
-    .before .before .before .before .before .before .before .before .before .fill-i32 .ensures)
-    (c .before .before .before .before .before .before .before .before .before .before .before .before .before .before .before .before .before
-    .before .before .before .before .before .before .fill-i322 .ensures)
-    (c .before .before .before .before .before .before .before .before .before .before .before .before .before .before .before .before .before
-    .before .before .before .fill-i323 .ensures)
-    (c .before .before .before .before .before .before .before .before .before .before .before .before .before .before .before .before .before
-    .fill-i324 .ensures)
-    (c .before .before .before .before .before .before .before .before .before .before .before .before .before .before .fill-u16 .ensures)
+    same-columns (c .before .before .before .before .before .before .before .before .before .before .before
+    .before .before .before .before .before .before .before .before .before .before .before .before .before
+    .before .before .fill-i32 .ensures) (c .before .before .before .before .before .before .before .before
+    .before .before .before .before .before .before .before .before .before .before .before .before .before
+    .before .before .fill-i322 .ensures) (c .before .before .before .before .before .before .before .before
+    .before .before .before .before .before .before .before .before .before .before .before .before .fill-i323
+    .ensures) (c .before .before .before .before .before .before .before .before .before .before .before .before
+    .before .before .before .before .before .fill-i324 .ensures) (c .before .before .before .before .before
+    .before .before .before .before .before .before .before .before .before .fill-u16 .ensures)
     (c .before .before .before .before .before .before .before .before .before .before .fill-u162 .ensures)
     (c .before .before .before .before .before .before .fill-u8 .ensures)
     (c .before .before .fill-u82 .ensures)

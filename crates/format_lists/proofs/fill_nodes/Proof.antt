@@ -21,10 +21,21 @@ mul-start c =
     let i = c .before .loop .inv in omega (arith, i .starts-long, s .pre .0, s .good)
 
 slice-write-start : tie.Need-slice-write-start Inv-loop μ-loop
-slice-write-start c = let i = c .before .loop .inv in omega (arith, i .starts-long, c .before .before .before .before .before .pre .0)
+slice-write-start c =
+    let i = c .before .loop .inv in omega (
+      arith,
+      i .starts-long,
+      c .before .before .before .before .before .pre
+          .0,
+    )
 
 u32-at-requires : tie.Need-u32-at-requires Inv-loop μ-loop
-u32-at-requires c κs = let h = noding-here _ _ _ _ _ _ _ _ _ _ (c .before .loop .inv) (c .loop-test .taken) in omega (arith, h .whole)
+u32-at-requires c κs =
+    let h = noding-here _ _ _ _ _ _ _ _ _ _ (c .before .loop .inv) (c .loop-test .taken) in omega (
+      arith,
+      h
+          .whole,
+    )
 
 add-fill-u16 : tie.Need-add-fill-u16 Inv-loop μ-loop
 add-fill-u16 c =
@@ -40,11 +51,19 @@ cast-fill-u16-2 c = let h = noding-small _ _ _ _ _ _ _ _ _ _ (c .before .before 
 fill-u16-requires : tie.Need-fill-u16-requires Inv-loop μ-loop
 fill-u16-requires c κs =
     let s = c .before .before .before .before .before .before .before in
-    let h = noding-here _ _ _ _ _ _ _ _ _ _ (c .before .before .before .loop .inv) (c .before .before .loop-test .taken) in
+    let h = noding-here _ _ _ _ _ _ _ _ _ _ (c .before .before .before .loop .inv) (c .before .before .loop-test
+    .taken) in
     let i = c .before .before .before .loop .inv in (
       omega arith,
       λ k l. omega (arith, h .whole, h .even, c .before .u32-at .ensures),
-      omega (arith, h .room, c .before .u32-at .ensures, i .list-long, s .pre .1),
+      omega (
+        arith,
+        h .room,
+        c
+            .before .u32-at .ensures,
+        i .list-long,
+        s .pre .1,
+      ),
     )
 
 cast-at : tie.Need-cast-at Inv-loop μ-loop
@@ -55,19 +74,25 @@ add-at c = omega (arith, c .before .before .before .before .u32-at .ok)
 
 add-at-2 : tie.Need-add-at-2 Inv-loop μ-loop
 add-at-2 c =
-    let h = noding-here _ _ _ _ _ _ _ _ _ _ (c .before .before .before .before .before .before .loop .inv)
-    (c .before .before .before .before .before .loop-test .taken) in
-    omega (
+    let h = noding-here _ _ _ _ _ _ _ _ _ _ (c .before .before .before .before .before .before .loop .inv) (c
+    .before .before .before .before .before .loop-test .taken) in omega (
       arith,
       h .whole,
-      c .before .before .before .before .u32-at .ensures,
-      c .before .before .before .before .before .before .before .before .before .before .good,
+      c .before .before
+          .before .before .u32-at .ensures,
+      c .before .before .before .before .before .before .before .before .before
+          .before .good,
     )
 
 add-e : tie.Need-add-e Inv-loop μ-loop
 add-e c =
-    let h = noding-here _ _ _ _ _ _ _ _ _ _ (c .before .before .before .before .before .before .loop .inv)
-    (c .before .before .before .before .before .loop-test .taken) in omega (arith, h .room, c .before .before .before .before .u32-at .ensures)
+    let h = noding-here _ _ _ _ _ _ _ _ _ _ (c .before .before .before .before .before .before .loop .inv) (c
+    .before .before .before .before .before .loop-test .taken) in omega (
+      arith,
+      h .room,
+      c .before .before
+          .before .before .u32-at .ensures,
+    )
 
 add-k : tie.Need-add-k Inv-loop μ-loop
 add-k c = omega (arith, c .before .before .before .before .before .before .before .before .before .before .fits)
@@ -78,8 +103,9 @@ loop-less c = omega (arith, c .before .before .before .before .before .loop-test
 loop-again : tie.Need-loop-again Inv-loop μ-loop
 loop-again c =
     let s = c .before .before .before .before .before .before .before .before .before .before in
-    noding-next _ _ _ _ _ _ _ _ _ _ (c .before .before .before .before .before .before .loop .inv)
-    (c .before .before .before .before .before .loop-test .taken) (s .pre .0) (s .pre .1) _ (c .before .before .before .before .u32-at .ensures) _
+    noding-next _ _ _ _ _ _ _ _ _ _ (c .before .before .before .before .before .before .loop .inv) (c .before
+    .before .before .before .before .loop-test .taken) (s .pre .0) (s .pre .1) _ (c .before .before .before
+    .before .u32-at .ensures) _
     (c .before .before .fill-u16 .ensures) (c .before .before .fill-u16 .kept .1 .1 .1 .1 .0)
 
 mul-start-2 : tie.Need-mul-start-2 Inv-loop μ-loop
@@ -88,7 +114,13 @@ mul-start-2 c =
     let i = c .before .loop .inv in omega (arith, i .starts-long, s .pre .0, s .good)
 
 slice-write-start-2 : tie.Need-slice-write-start-2 Inv-loop μ-loop
-slice-write-start-2 c = let i = c .before .loop .inv in omega (arith, i .starts-long, c .before .before .before .before .before .pre .0)
+slice-write-start-2 c =
+    let i = c .before .loop .inv in omega (
+      arith,
+      i .starts-long,
+      c .before .before .before .before .before .pre
+          .0,
+    )
 
 same-length : tie.Need-same-length Inv-loop μ-loop
 same-length c = simp length-set (c .before .loop .inv .starts-long)

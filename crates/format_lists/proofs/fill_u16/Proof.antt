@@ -18,7 +18,12 @@ loop-holds c = filling-first _ _ _ _ _ _
 
 u16-at-requires : tie.Need-u16-at-requires Inv-loop μ-loop
 u16-at-requires c κs =
-    let i = c .before .loop .inv in omega (arith, i .place, c .before .before .before .before .pre .1 (c .before .loop .k) (c .loop-test .taken))
+    let i = c .before .loop .inv in omega (
+      arith,
+      i .place,
+      c .before .before .before .before .pre .1 (c .before
+          .loop .k) (c .loop-test .taken),
+    )
 
 add-out : tie.Need-add-out Inv-loop μ-loop
 add-out c =
@@ -31,12 +36,25 @@ mul-out c =
     omega (arith, s .pre, s .good)
 
 slice-write-out : tie.Need-slice-write-out Inv-loop μ-loop
-slice-write-out c = let i = c .before .before .loop .inv in omega (arith, i .long, c .before .before .before .before .before .pre)
+slice-write-out c =
+    let i = c .before .before .loop .inv in omega (
+      arith,
+      i .long,
+      c .before .before .before .before .before
+          .pre,
+    )
 
 add-at : tie.Need-add-at Inv-loop μ-loop
 add-at c =
     let s = c .before .before .before .before .before in
-    let i = c .before .before .loop .inv in omega (arith, i .place, s .pre .0, s .pre .1 (c .before .before .loop .k) (c .before .loop-test .taken), s .good)
+    let i = c .before .before .loop .inv in omega (
+      arith,
+      i .place,
+      s .pre .0,
+      s .pre .1 (c .before .before
+          .loop .k) (c .before .loop-test .taken),
+      s .good,
+    )
 
 add-k : tie.Need-add-k Inv-loop μ-loop
 add-k c = omega (arith, c .before .before .before .before .before .fits)
@@ -47,7 +65,8 @@ loop-less c = omega arith
 loop-again : tie.Need-loop-again Inv-loop μ-loop
 loop-again c =
     let s = c .before .before .before .before .before in
-    filling-next _ _ _ _ _ _ _ _ _ (c .before .before .loop .inv) _ _ refl (c .u16-at .ensures .0) (c .before .loop-test .taken) (s .pre .2)
+    filling-next _ _ _ _ _ _ _ _ _ (c .before .before .loop .inv) _ _ refl (c .u16-at .ensures .0) (c .before
+    .loop-test .taken) (s .pre .2)
 
 same-length : tie.Need-same-length Inv-loop μ-loop
 same-length c = c .before .loop .inv .long

@@ -18,7 +18,8 @@ loop-holds : tie.Need-loop-holds Inv-loop μ-loop
 loop-holds c = filling-first _ _ _ _ _ _
 
 shared-slice-read-out : tie.Need-shared-slice-read-out Inv-loop μ-loop
-shared-slice-read-out c = let i = c .before .before .loop .inv in omega (arith, i .place, c .before .before .before .pre)
+shared-slice-read-out c =
+    let i = c .before .before .loop .inv in omega (arith, i .place, c .before .before .before .pre)
 
 slice-write-out : tie.Need-slice-write-out Inv-loop μ-loop
 slice-write-out c = let i = c .before .before .loop .inv in omega (arith, i .long, c .before .before .before .pre)
@@ -37,8 +38,8 @@ loop-less c = omega arith
 loop-again : tie.Need-loop-again Inv-loop μ-loop
 loop-again c =
     let s = c .before .before .before in
-    filling-next _ _ _ _ _ _ _ _ _ (c .before .before .loop .inv) (c .before .before .loop .k) _ (sym (zero-add _)) refl (c .before .loop-test .taken)
-    (omega (arith, s .pre))
+    filling-next _ _ _ _ _ _ _ _ _ (c .before .before .loop .inv) (c .before .before .loop .k) _ (sym (zero-add
+    _)) refl (c .before .loop-test .taken) (omega (arith, s .pre))
 
 same-length : tie.Need-same-length Inv-loop μ-loop
 same-length c = c .before .loop .inv .long

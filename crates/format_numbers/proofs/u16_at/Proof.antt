@@ -20,18 +20,43 @@ shared-slice-read-high : tie.Need-shared-slice-read-high
 shared-slice-read-high c = search needs
 
 cast-high : tie.Need-cast-high
-cast-high c = omega (arith, c .before .shared-slice-known .given (c .before .before .args .i), c .shared-slice-known2 .given (c .before .before .args .i + 1))
+cast-high c =
+    omega (
+      arith,
+      c .before .shared-slice-known .given (c .before .before .args .i),
+      c .shared-slice-known2
+          .given (c .before .before .args .i + 1),
+    )
 
 mul-result : tie.Need-mul-result
-mul-result c = omega (arith, c .before .shared-slice-known .given (c .before .before .args .i), c .shared-slice-known2 .given (c .before .before .args .i + 1))
+mul-result c =
+    omega (
+      arith,
+      c .before .shared-slice-known .given (c .before .before .args .i),
+      c .shared-slice-known2
+          .given (c .before .before .args .i + 1),
+    )
 
 add-result : tie.Need-add-result
-add-result c = omega (arith, c .before .shared-slice-known .given (c .before .before .args .i), c .shared-slice-known2 .given (c .before .before .args .i + 1))
+add-result c =
+    omega (
+      arith,
+      c .before .shared-slice-known .given (c .before .before .args .i),
+      c .shared-slice-known2
+          .given (c .before .before .args .i + 1),
+    )
 
 returns : tie.Need-returns
 unfolding u16At
-returns c =
-    (refl, omega (arith, c .before .shared-slice-known .given (c .before .before .args .i), c .shared-slice-known2 .given (c .before .before .args .i + 1)))
+returns c = (
+  refl,
+  omega (
+    arith,
+    c .before .shared-slice-known .given (c .before .before .args .i),
+    c
+        .shared-slice-known2 .given (c .before .before .args .i + 1),
+  ),
+)
 
 pub u16-at-spec : {M : Type 1} → statement M
 u16-at-spec =

@@ -17,10 +17,22 @@ mul-if5 : tie.Need-mul-if5
 mul-if5 c = search needs
 
 returns-3 : tie.Need-returns-3
-returns-3 c = simp (eq-eqb _ _ (c .before .before .if1 .taken), eq-eqb _ _ (c .before .if2 .left), lt-ltb _ _ (c .if3 .taken))
+returns-3 c =
+    simp (
+      eq-eqb _ _ (c .before .before .if1 .taken),
+      eq-eqb _ _ (c .before .if2 .left),
+      lt-ltb _ _ (c .if3
+          .taken),
+    )
 
 returns-4 : tie.Need-returns-4
-returns-4 c = simp (eq-eqb _ _ (c .before .before .if1 .taken), eq-eqb _ _ (c .before .if2 .left), le-ltb _ _ (c .if3 .left))
+returns-4 c =
+    simp (
+      eq-eqb _ _ (c .before .before .if1 .taken),
+      eq-eqb _ _ (c .before .if2 .left),
+      le-ltb _ _ (c .if3
+          .left),
+    )
 
 returns-5 : tie.Need-returns-5
 returns-5 c = simp (ne-eqb _ _ (c .before .before .if1 .left), eq-eqb _ _ (c .before .if4 .left), c .if5 .taken)

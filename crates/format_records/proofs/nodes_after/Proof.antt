@@ -16,16 +16,18 @@ enum-known-r c = search needs
 
 returns : tie.Need-returns
 returns c =
-    λ bodies h. nodes-wrong _ _ _ bodies _ h (sym (c .before .before .before .r .given .1)
-    ∙ c .before .before .before .before .before .run-at .ensures) (c .if1 .taken)
+    λ bodies h. nodes-wrong _ _ _ bodies _ h (sym (c .before .before .before .r .given .1) ∙ c .before .before
+    .before .before .before .run-at .ensures) (c .if1 .taken)
 
 returns-2 : tie.Need-returns-2
-returns-2 c = λ bodies h. nodes-fault _ _ _ bodies (sym (c .before .e .given .1) ∙ c .before .before .before .run-at .ensures)
+returns-2 c =
+    λ bodies h. nodes-fault _ _ _ bodies (sym (c .before .e .given .1) ∙ c .before .before .before .run-at
+    .ensures)
 
 returns-3 : tie.Need-returns-3
 returns-3 c =
-    λ bodies h. nodes-right _ _ _ bodies _ h (sym (c .before .before .before .before .r .given .1)
-    ∙ c .before .before .before .before .before .before .run-at .ensures) (c .before .if1 .left)
+    λ bodies h. nodes-right _ _ _ bodies _ h (sym (c .before .before .before .before .r .given .1) ∙ c .before
+    .before .before .before .before .before .run-at .ensures) (c .before .if1 .left)
 
 pub nodes-after-spec : {M : Type 1} → statement M
 nodes-after-spec =

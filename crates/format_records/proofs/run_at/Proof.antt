@@ -24,24 +24,29 @@ enum-known-next c = search needs
 
 loop-less : tie.Need-loop-less Inv-loop μ-loop
 loop-less c =
-    running-less _ _ _ _ (c .before .before .before .before .loop .inv) _ (sym (c .before .before .before .step-at .ensures) ∙ c .before .next .given .1)
+    running-less _ _ _ _ (c .before .before .before .before .loop .inv) _ (sym (c .before .before .before
+    .step-at .ensures) ∙ c .before .next .given .1)
 
 loop-again : tie.Need-loop-again Inv-loop μ-loop
 loop-again c =
-    running-next _ _ _ _ (c .before .before .before .before .loop .inv) _ (sym (c .before .before .before .step-at .ensures) ∙ c .before .next .given .1)
+    running-next _ _ _ _ (c .before .before .before .before .loop .inv) _ (sym (c .before .before .before
+    .step-at .ensures) ∙ c .before .next .given .1)
 
 enum-told : tie.Need-enum-told Inv-loop μ-loop
 enum-told c = search needs
 
 returns : tie.Need-returns Inv-loop μ-loop
-returns c = running-other _ _ _ _ (c .before .before .before .loop .inv) (sym (c .before .before .step-at .ensures) ∙ c .enum-told .given .1)
+returns c =
+    running-other _ _ _ _ (c .before .before .before .loop .inv) (sym (c .before .before .step-at .ensures) ∙ c
+    .enum-told .given .1)
 
 enum-known-e : tie.Need-enum-known-e Inv-loop μ-loop
 enum-known-e c = search needs
 
 returns-2 : tie.Need-returns-2 Inv-loop μ-loop
 returns-2 c =
-    running-fault _ _ _ _ (c .before .before .before .before .loop .inv) _ (sym (c .before .before .before .step-at .ensures) ∙ c .before .e .given .1)
+    running-fault _ _ _ _ (c .before .before .before .before .loop .inv) _ (sym (c .before .before .before
+    .step-at .ensures) ∙ c .before .e .given .1)
 
 pub run-at-spec : {M : Type 1} → statement M
 run-at-spec =

@@ -20,7 +20,13 @@ shared-slice-read-result c = search needs
 
 returns-2 : tie.Need-returns-2
 unfolding settingsRight
-returns-2 c = simp (le-leb _ _ (c .before .before .before .if1 .left), ← c .before .before .u32-at .ensures, ← c .before .u16-at .ensures .0)
+returns-2 c =
+    simp (
+      le-leb _ _ (c .before .before .before .if1 .left),
+      ← c .before .before .u32-at .ensures,
+      ← c .before
+          .u16-at .ensures .0,
+    )
 
 pub settings-right-spec : {M : Type 1} → statement M
 settings-right-spec =

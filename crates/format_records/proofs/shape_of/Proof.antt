@@ -23,19 +23,21 @@ enum-known-r c = search needs
 
 nodes-after-requires : tie.Need-nodes-after-requires
 nodes-after-requires c κs =
-    links-inside _ (sym (c .before .before .before .before .before .settings-right .ensures)
-    ∙ not-false _ (c .before .before .before .before .if1 .left)) _ (sym (c .before .r .given .1) ∙ c .before .before .before .run-at .ensures)
+    links-inside _ (sym (c .before .before .before .before .before .settings-right .ensures) ∙ not-false _ (c
+    .before .before .before .before .if1 .left)) _ (sym (c .before .r .given .1) ∙ c .before .before .before
+    .run-at .ensures)
 
 returns-2 : tie.Need-returns-2
 returns-2 c =
-    links-fault _ (sym (c .before .before .before .before .before .settings-right .ensures)
-    ∙ not-false _ (c .before .before .before .before .if1 .left)) _ (sym (c .before .e .given .1) ∙ c .before .before .before .run-at .ensures)
+    links-fault _ (sym (c .before .before .before .before .before .settings-right .ensures) ∙ not-false _ (c
+    .before .before .before .before .if1 .left)) _ (sym (c .before .e .given .1) ∙ c .before .before .before
+    .run-at .ensures)
 
 returns-3 : tie.Need-returns-3
 returns-3 c =
-    links-then _ (sym (c .before .before .before .before .before .before .settings-right .ensures)
-    ∙ not-false _ (c .before .before .before .before .before .if1 .left)) _
-    (sym (c .before .before .r .given .1) ∙ c .before .before .before .before .run-at .ensures) _ (c .nodes-after .ensures)
+    links-then _ (sym (c .before .before .before .before .before .before .settings-right .ensures) ∙ not-false _
+    (c .before .before .before .before .before .if1 .left)) _ (sym (c .before .before .r .given .1) ∙ c .before
+    .before .before .before .run-at .ensures) _ (c .nodes-after .ensures)
 
 pub shape-of-spec : {M : Type 1} → statement M
 shape-of-spec =

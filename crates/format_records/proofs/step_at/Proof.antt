@@ -37,7 +37,8 @@ returns-3 : tie.Need-returns-3
 returns-3 c =
     let s = c .before .before .before .before .before .before .before .before in
     let a = s .args in
-    read-head (a .kind) (a .s .now) (a .r) (c .before .before .before .u32-at .result) (c .before .before .head-number .result) (omega arith)
+    read-head (a .kind) (a .s .now) (a .r) (c .before .before .before .u32-at .result) (c .before .before
+    .head-number .result) (omega arith)
     (sym (c .before .before .before .before .before .u16-at .ensures .0) ∙ c .before .before .before .before .if2 .left)
     (c .before .before .before .u32-at .ensures)
     (c .before .before .head-number .ensures)
@@ -53,7 +54,8 @@ returns-4 : tie.Need-returns-4
 returns-4 c =
     let s = c .before .before .before .before .before .before .before .before in
     let a = s .args in
-    read-body (a .kind) (a .s .now) (a .r) (c .before .before .before .u32-at .result) (c .before .before .head-number .result) (omega arith)
+    read-body (a .kind) (a .s .now) (a .r) (c .before .before .before .u32-at .result) (c .before .before
+    .head-number .result) (omega arith)
     (sym (c .before .before .before .before .before .u16-at .ensures .0) ∙ c .before .before .before .before .if2 .left)
     (c .before .before .before .u32-at .ensures)
     (c .before .before .head-number .ensures)
@@ -72,9 +74,10 @@ returns-5 : tie.Need-returns-5
 returns-5 c =
     let s = c .before .before .before .before .before .before .before .before .before .before in
     let a = s .args in
-    read-next (a .kind) (a .s .now) (a .r) (c .before .before .before .before .before .u32-at .result)
-    (c .before .before .before .before .head-number .result) (omega arith)
-    (sym (c .before .before .before .before .before .before .before .u16-at .ensures .0) ∙ c .before .before .before .before .before .before .if2 .left)
+    read-next (a .kind) (a .s .now) (a .r) (c .before .before .before .before .before .u32-at .result) (c
+    .before .before .before .before .head-number .result) (omega arith)
+    (sym (c .before .before .before .before .before .before .before .u16-at .ensures .0) ∙ c .before .before
+    .before .before .before .before .if2 .left)
     (c .before .before .before .before .before .u32-at .ensures)
     (c .before .before .before .before .head-number .ensures)
     (c .before .before .before .if3 .left) (omega arith)

@@ -3,32 +3,22 @@ use Rattle.outline.proofs.Counted.{wrote-within, wrote-part}
 use borrow.Author.Needs.{needs}
 use Rattle.outline.proofs.print_answer.Statement.{statement}
 use Rattle.outline.proofs.print_answer.Tie as tie
-use Rattle.outline.proofs.print_answer.Reads as reads
-use Rattle.outline.proofs.print_answer.Lts as lts
-use Rattle.answer.proofs.answer.Reads as answer-reads
-use Rattle.io.proofs.write_all.Reads as write-all-reads
 
--- src/main.rt:54:9
 answer-requires : tie.Need-answer-requires
 answer-requires c κs = search needs
 
--- src/main.rt:55:34
 slice-reshare-prefix-write-all : tie.Need-slice-reshare-prefix-write-all
 slice-reshare-prefix-write-all c = wrote-within (c .before .before .answer .ensures)
 
--- src/main.rt:55:34
 slice-aggregate-write-all : tie.Need-slice-aggregate-write-all
 slice-aggregate-write-all c = wrote-part (c .before .before .before .answer .ensures)
 
--- src/main.rt:55:5
 write-all-requires : tie.Need-write-all-requires
 write-all-requires c κs = search needs
 
--- src/main.rt:51:1
 same-length : tie.Need-same-length
 same-length c = search needs
 
--- src/main.rt:51:1
 returns : tie.Need-returns
 returns c = search needs
 

@@ -7,9 +7,6 @@ use borrow.Author.Needs.{needs}
 use Rattle.outline.proofs.Counted.{read-within, rest-within}
 use Rattle.outline.proofs.read_input.Statement.{statement}
 use Rattle.outline.proofs.read_input.Tie as tie
-use Rattle.outline.proofs.read_input.Reads as reads
-use Rattle.outline.proofs.read_input.Lts as lts
-use Rattle.outline.proofs.read_some.Reads as read-some-reads
 
 abbrev Inv-loop : tie.InvT-loop
 Inv-loop buf₀ done₀ buf done = (done ≤ length buf) × (length buf ≡ length buf₀)
@@ -17,85 +14,83 @@ Inv-loop buf₀ done₀ buf done = (done ≤ length buf) × (length buf ≡ leng
 abbrev μ-loop : tie.MeasureT-loop
 μ-loop buf₀ done₀ buf done = length buf - done
 
--- src/main.rt:34:5
 loop-holds : tie.Need-loop-holds Inv-loop μ-loop
 loop-holds c = search needs
 
--- src/main.rt:35:25
 sub-read-some : tie.Need-sub-read-some Inv-loop μ-loop
 sub-read-some c = search needs
 
--- src/main.rt:35:25
 part-read-some-start : tie.Need-part-read-some-start Inv-loop μ-loop
 part-read-some-start c = search needs
 
--- src/main.rt:35:25
 part-read-some-end : tie.Need-part-read-some-end Inv-loop μ-loop
 part-read-some-end c = search needs
 
--- src/main.rt:35:15
 read-some-requires : tie.Need-read-some-requires Inv-loop μ-loop
 read-some-requires c κs = search needs
 
--- src/main.rt:37:17
 enum-told : tie.Need-enum-told Inv-loop μ-loop
 enum-told c = search needs
 
--- src/main.rt:37:17
 same-length : tie.Need-same-length Inv-loop μ-loop
 same-length c = search needs
 
--- src/main.rt:37:17
 returns : tie.Need-returns Inv-loop μ-loop
 returns c = tt
 
--- src/main.rt:39:25
 enum-known-n : tie.Need-enum-known-n Inv-loop μ-loop
 enum-known-n c = search needs
 
--- src/main.rt:41:21
 same-length-2 : tie.Need-same-length-2 Inv-loop μ-loop
 same-length-2 c = search needs
 
--- src/main.rt:41:21
 returns-2 : tie.Need-returns-2 Inv-loop μ-loop
-returns-2 c = let l = c .before .before .before .before .before .before .before .before .before .loop in omega (arith, l .inv)
+returns-2 c =
+    let l = c .before .before .before .before .before .before .before .before .before .loop in omega (
+      arith,
+      l
+          .inv,
+    )
 
--- src/main.rt:43:17
 add-done : tie.Need-add-done Inv-loop μ-loop
 add-done c =
-    let l = c .before .before .before .before .before .before .before .before .before .loop in
-    let h = rest-within (l .done) (c .before .before .n .given .0 .0) (l .buf) (l .inv .0)
-    (read-within (c .before .before .n .given .1) (c .before .before .before .before .before .before .read-some .ensures)) in
-    omega (arith, h, l .inv .1, c .before .before .before .before .before .before .before .before .before .before .before .good)
+    let l = c .before .before .before .before .before .before .before .before .before .loop in let h =
+    rest-within (l .done) (c .before .before .n .given .0 .0) (l .buf) (l .inv .0) (read-within (c .before
+    .before .n .given .1) (c .before .before .before .before .before .before .read-some .ensures)) in omega (
+      arith,
+      h,
+      l .inv .1,
+      c .before .before .before .before .before .before .before .before .before .before
+          .before .good,
+    )
 
--- src/main.rt:34:5
 loop-less : tie.Need-loop-less Inv-loop μ-loop
 loop-less c =
-    let l = c .before .before .before .before .before .before .before .before .before .loop in
-    let h = rest-within (l .done) (c .before .before .n .given .0 .0) (l .buf) (l .inv .0)
-    (read-within (c .before .before .n .given .1) (c .before .before .before .before .before .before .read-some .ensures)) in
-    omega (
+    let l = c .before .before .before .before .before .before .before .before .before .loop in let h =
+    rest-within (l .done) (c .before .before .n .given .0 .0) (l .buf) (l .inv .0) (read-within (c .before
+    .before .n .given .1) (c .before .before .before .before .before .before .read-some .ensures)) in omega (
       arith,
       h,
       c .before .before .before .before .before .buf .given .1,
       c .if1,
-      c .before .before .before .before .before .before .before .before .loop-test,
+      c .before .before .before
+          .before .before .before .before .before .loop-test,
     )
 
--- src/main.rt:34:5
 loop-again : tie.Need-loop-again Inv-loop μ-loop
 loop-again c =
-    let l = c .before .before .before .before .before .before .before .before .before .loop in
-    let h = rest-within (l .done) (c .before .before .n .given .0 .0) (l .buf) (l .inv .0)
-    (read-within (c .before .before .n .given .1) (c .before .before .before .before .before .before .read-some .ensures)) in
-    (omega (arith, h, c .before .before .before .before .before .buf .given .1), c .before .before .before .before .before .buf .given .1 ∙ l .inv .1)
+    let l = c .before .before .before .before .before .before .before .before .before .loop in let h =
+    rest-within (l .done) (c .before .before .n .given .0 .0) (l .buf) (l .inv .0) (read-within (c .before
+    .before .n .given .1) (c .before .before .before .before .before .before .read-some .ensures)) in (
+      omega
+          (arith, h, c .before .before .before .before .before .buf .given .1),
+      c .before .before .before .before
+          .before .buf .given .1 ∙ l .inv .1,
+    )
 
--- src/main.rt:30:1
 same-length-3 : tie.Need-same-length-3 Inv-loop μ-loop
 same-length-3 c = search needs
 
--- src/main.rt:30:1
 returns-3 : tie.Need-returns-3 Inv-loop μ-loop
 returns-3 c = search needs
 

@@ -16,8 +16,8 @@ write-header-requires c κs =
     let t = ownedTable (a .points .now) (a .first .now) (a .len .now) (a .kind .now) (a .owner .now) in
     let p = header (a .totals) in
     let q = contoursFrom t 0 (a .totals .contours) in
-    let l0 = left-from-0 (a .out .now) (printed t (a .totals))
-    (le-trans (answer-short t (a .totals) (s .pre .0) (c .before .before .shared-slice-known4 .given)) (s .pre .1)) in
+    let l0 = left-from-0 (a .out .now) (printed t (a .totals)) (le-trans (answer-short t (a .totals) (s .pre .0)
+    (c .before .before .shared-slice-known4 .given)) (s .pre .1)) in
     omega (arith, piece-fits p q l0)
 
 write-contours-requires : tie.Need-write-contours-requires
@@ -27,8 +27,8 @@ write-contours-requires c κs =
     let t = ownedTable (a .points .now) (a .first .now) (a .len .now) (a .kind .now) (a .owner .now) in
     let p = header (a .totals) in
     let q = contoursFrom t 0 (a .totals .contours) in
-    let l0 = left-from-0 (a .out .now) (printed t (a .totals))
-    (le-trans (answer-short t (a .totals) (s .pre .0) (c .before .before .before .before .before .before .shared-slice-known4 .given)) (s .pre .1)) in
+    let l0 = left-from-0 (a .out .now) (printed t (a .totals)) (le-trans (answer-short t (a .totals) (s .pre .0)
+    (c .before .before .before .before .before .before .shared-slice-known4 .given)) (s .pre .1)) in
     (s .pre .0 .ranges, last-fits q (left-after p q l0 (c .before .before .before .write-header .ensures)))
 
 same-length : tie.Need-same-length
@@ -41,17 +41,14 @@ returns c =
     let t = ownedTable (a .points .now) (a .first .now) (a .len .now) (a .kind .now) (a .owner .now) in
     let p = header (a .totals) in
     let q = contoursFrom t 0 (a .totals .contours) in
-    let l0 = left-from-0 (a .out .now) (printed t (a .totals))
-    (le-trans
-    (answer-short t (a .totals) (s .pre .0)
-    (c .before .before .before .before .before .before .before .before .before .shared-slice-known4 .given)) (s .pre .1)) in
-    let w = left-last q (left-after p q l0 (c .before .before .before .before .before .before .write-header .ensures))
-    (c .before .before .write-contours .ensures) in (
+    let l0 = left-from-0 (a .out .now) (printed t (a .totals)) (le-trans (answer-short t (a .totals) (s .pre .0)
+    (c .before .before .before .before .before .before .before .before .before .shared-slice-known4 .given)) (s
+    .pre .1)) in
+    let w = left-last q (left-after p q l0 (c .before .before .before .before .before .before .write-header
+    .ensures)) (c .before .before .write-contours .ensures) in (
       w,
-      is-front
-          (le-trans
-          (answer-short t (a .totals) (s .pre .0)
-          (c .before .before .before .before .before .before .before .before .before .shared-slice-known4 .given)) (s .pre .1)) w,
+      is-front (le-trans (answer-short t (a .totals) (s .pre .0) (c .before .before .before .before .before
+          .before .before .before .before .shared-slice-known4 .given)) (s .pre .1)) w,
     )
 
 pub write-answer-spec : {M : Type 1} → statement M

@@ -7,7 +7,8 @@ use Rattle.print.proofs.write_contours.Statement.{statement}
 use Rattle.print.proofs.write_contours.Tie as tie
 
 abbrev Inv-loop : tie.InvT-loop
-Inv-loop points first len kind owner contours out₀ at i₀ next₀ out i next = Listing (ownedTable points first len kind owner) contours out₀ at out i next
+Inv-loop points first len kind owner contours out₀ at i₀ next₀ out i next =
+    Listing (ownedTable points first len kind owner) contours out₀ at out i next
 
 abbrev μ-loop : tie.MeasureT-loop
 μ-loop points first len kind owner contours out₀ at i₀ next₀ out i next = contours - i
@@ -17,8 +18,10 @@ loop-holds c = listing-first _ _ _ _ (c .before .before .before .before .before 
 
 write-contour-requires : tie.Need-write-contour-requires Inv-loop μ-loop
 write-contour-requires c κs = (
-  fewer _ _ _ (omega (arith, c .before .loop-test .taken)) (c .before .before .before .before .before .before .before .before .pre .0),
-  listing-fits _ _ _ _ _ _ _ (c .before .before .loop .inv) (c .before .loop-test .taken),
+  fewer _ _ _ (omega (arith, c .before .loop-test .taken)) (c .before .before .before .before .before .before
+      .before .before .pre .0),
+  listing-fits _ _ _ _ _ _ _ (c .before .before .loop .inv) (c .before .loop-test
+      .taken),
 )
 
 add-i : tie.Need-add-i Inv-loop μ-loop
@@ -29,8 +32,8 @@ loop-less c = omega (arith, c .before .before .before .before .loop-test .taken)
 
 loop-again : tie.Need-loop-again Inv-loop μ-loop
 loop-again c =
-    listing-next _ _ _ _ _ _ _ (c .before .before .before .before .before .loop .inv) (c .before .before .before .before .loop-test .taken) _ _
-    (c .before .before .write-contour .ensures)
+    listing-next _ _ _ _ _ _ _ (c .before .before .before .before .before .loop .inv) (c .before .before .before
+    .before .loop-test .taken) _ _ (c .before .before .write-contour .ensures)
 
 same-length : tie.Need-same-length Inv-loop μ-loop
 same-length c = c .before .loop .inv .left .long

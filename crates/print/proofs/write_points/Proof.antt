@@ -47,17 +47,21 @@ mul-y-2 c =
     let w = c .before .before .loop .inv in omega (arith, w .end-is, s .pre .0, s .good)
 
 shared-slice-copy-out-y : tie.Need-shared-slice-copy-out-y Inv-loop μ-loop
-shared-slice-copy-out-y c = let w = c .before .before .loop .inv in omega (arith, w .end-is, c .before .before .before .before .pre .0)
+shared-slice-copy-out-y c =
+    let w = c .before .before .loop .inv in omega (arith, w .end-is, c .before .before .before .before .pre .0)
 
 write-point-requires : tie.Need-write-point-requires Inv-loop μ-loop
 write-point-requires c κs =
-    pointing-fits (c .before .before .before .before .before .before .args .points .now)
-    (c .before .before .before .before .before .before .args .first) (c .before .before .before .before .before .before .args .count)
-    (c .before .before .before .before .before .before .args .out .now) (c .before .before .before .before .before .before .args .at)
-    (c .before .before .before .before .before .before .args .first + c .before .before .before .before .before .before .args .count)
-    (c .before .before .before .before .loop .out) (c .before .before .before .before .loop .p) (c .before .before .before .before .loop .next)
-    (c .before .before .before .before .loop .inv) (c .before .before .before .loop-test .taken) (record { sfits = c .before .before .x .given })
-    (record { sfits = c .before .y .given })
+    pointing-fits (c .before .before .before .before .before .before .args .points .now) (c .before .before
+    .before .before .before .before .args .first) (c .before .before .before .before .before .before .args
+    .count) (c .before .before .before .before .before .before .args .out .now) (c .before .before .before
+    .before .before .before .args .at) (c .before .before .before .before .before .before .args .first + c
+    .before .before .before .before .before .before .args .count) (c .before .before .before .before .loop .out)
+    (c .before .before .before .before .loop .p) (c .before .before .before .before .loop .next) (c .before
+    .before .before .before .loop .inv) (c .before .before .before .loop-test .taken) (record {
+      sfits = c
+          .before .before .x .given;
+    }) (record { sfits = c .before .y .given })
 
 add-p : tie.Need-add-p Inv-loop μ-loop
 add-p c = omega (arith, c .before .before .before .before .before .before .before .loop .inv .to)
@@ -68,16 +72,19 @@ loop-less c = omega (arith, c .before .before .before .before .before .before .l
 loop-again : tie.Need-loop-again Inv-loop μ-loop
 loop-again c =
     pointing-next (c .before .before .before .before .before .before .before .before .before .args .points .now)
-    (c .before .before .before .before .before .before .before .before .before .args .first)
-    (c .before .before .before .before .before .before .before .before .before .args .count)
-    (c .before .before .before .before .before .before .before .before .before .args .out .now)
-    (c .before .before .before .before .before .before .before .before .before .args .at)
-    (c .before .before .before .before .before .before .before .before .before .args .first +
-    c .before .before .before .before .before .before .before .before .before .args .count)
-    (c .before .before .before .before .before .before .before .loop .out) (c .before .before .before .before .before .before .before .loop .p)
-    (c .before .before .before .before .before .before .before .loop .next) (c .before .before .before .before .before .before .before .loop .inv)
-    (c .before .before .before .before .before .before .loop-test .taken) (record { sfits = c .before .before .before .before .before .x .given })
-    (record { sfits = c .before .before .before .before .y .given }) _ _ (c .before .before .write-point .ensures)
+    (c .before .before .before .before .before .before .before .before .before .args .first) (c .before .before
+    .before .before .before .before .before .before .before .args .count) (c .before .before .before .before
+    .before .before .before .before .before .args .out .now) (c .before .before .before .before .before .before
+    .before .before .before .args .at) (c .before .before .before .before .before .before .before .before
+    .before .args .first + c .before .before .before .before .before .before .before .before .before .args
+    .count) (c .before .before .before .before .before .before .before .loop .out) (c .before .before .before
+    .before .before .before .before .loop .p) (c .before .before .before .before .before .before .before .loop
+    .next) (c .before .before .before .before .before .before .before .loop .inv) (c .before .before .before
+    .before .before .before .loop-test .taken) (record {
+      sfits = c .before .before .before .before .before .x
+          .given;
+    }) (record { sfits = c .before .before .before .before .y .given }) _ _ (c .before .before
+    .write-point .ensures)
 
 same-length : tie.Need-same-length Inv-loop μ-loop
 same-length c = c .before .loop .inv .left .long

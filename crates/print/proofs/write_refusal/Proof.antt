@@ -20,8 +20,8 @@ write-said-requires c κs =
     let a = s .args in
     let p = said (text "refused ") (a .number) in
     let q = said (text " at ") (a .place) in
-    let l = left-from-0 (a .out .now) (printedRefusal (a .number) (a .place))
-    (le-trans (refusal-short (a .number) (a .place) (s .fits .number .fits) (s .fits .place .fits)) (s .pre)) in
+    let l = left-from-0 (a .out .now) (printedRefusal (a .number) (a .place)) (le-trans (refusal-short (a
+    .number) (a .place) (s .fits .number .fits) (s .fits .place .fits)) (s .pre)) in
     piece-fits p (q ++ text "\n") l
 
 slice-aggregate-write-said-2 : tie.Need-slice-aggregate-write-said-2
@@ -34,8 +34,8 @@ write-said-requires-2 c κs =
     let a = s .args in
     let p = said (text "refused ") (a .number) in
     let q = said (text " at ") (a .place) in
-    let l = left-from-0 (a .out .now) (printedRefusal (a .number) (a .place))
-    (le-trans (refusal-short (a .number) (a .place) (s .fits .number .fits) (s .fits .place .fits)) (s .pre)) in
+    let l = left-from-0 (a .out .now) (printedRefusal (a .number) (a .place)) (le-trans (refusal-short (a
+    .number) (a .place) (s .fits .number .fits) (s .fits .place .fits)) (s .pre)) in
     piece-fits q (text "\n") (left-after p (q ++ text "\n") l (c .before .before .before .before .write-said .ensures))
 
 slice-aggregate-write-text : tie.Need-slice-aggregate-write-text
@@ -48,12 +48,11 @@ write-text-requires c κs =
     let a = s .args in
     let p = said (text "refused ") (a .number) in
     let q = said (text " at ") (a .place) in
-    let l = left-from-0 (a .out .now) (printedRefusal (a .number) (a .place))
-    (le-trans (refusal-short (a .number) (a .place) (s .fits .number .fits) (s .fits .place .fits)) (s .pre)) in
-    last-fits (text "\n")
-    (left-after q (text "\n")
-    (left-after p (q ++ text "\n") l (c .before .before .before .before .before .before .before .before .before .write-said .ensures))
-    (c .before .before .before .before .write-said2 .ensures))
+    let l = left-from-0 (a .out .now) (printedRefusal (a .number) (a .place)) (le-trans (refusal-short (a
+    .number) (a .place) (s .fits .number .fits) (s .fits .place .fits)) (s .pre)) in
+    last-fits (text "\n") (left-after q (text "\n") (left-after p (q ++ text "\n") l (c .before .before .before
+    .before .before .before .before .before .before .write-said .ensures)) (c .before .before .before .before
+    .write-said2 .ensures))
 
 same-length : tie.Need-same-length
 same-length c = search needs
@@ -61,18 +60,21 @@ same-length c = search needs
 returns : tie.Need-returns
 unfolding printedRefusal
 returns c =
-    let s = c .before .before .before .before .before .before .before .before .before .before .before .before .before .before .before .before in
+    let s = c .before .before .before .before .before .before .before .before .before .before .before .before
+    .before .before .before .before in
     let a = s .args in
     let p = said (text "refused ") (a .number) in
     let q = said (text " at ") (a .place) in
-    let l = left-from-0 (a .out .now) (printedRefusal (a .number) (a .place))
-    (le-trans (refusal-short (a .number) (a .place) (s .fits .number .fits) (s .fits .place .fits)) (s .pre)) in
-    let w = left-last (text "\n")
-    (left-after q (text "\n")
-    (left-after p (q ++ text "\n") l
-    (c .before .before .before .before .before .before .before .before .before .before .before .before .write-said .ensures))
-    (c .before .before .before .before .before .before .before .write-said2 .ensures)) (c .before .before .write-text .ensures) in
-    (w, is-front (le-trans (refusal-short (a .number) (a .place) (s .fits .number .fits) (s .fits .place .fits)) (s .pre)) w)
+    let l = left-from-0 (a .out .now) (printedRefusal (a .number) (a .place)) (le-trans (refusal-short (a
+    .number) (a .place) (s .fits .number .fits) (s .fits .place .fits)) (s .pre)) in
+    let w = left-last (text "\n") (left-after q (text "\n") (left-after p (q ++ text "\n") l (c .before .before
+    .before .before .before .before .before .before .before .before .before .before .write-said .ensures)) (c
+    .before .before .before .before .before .before .before .write-said2 .ensures)) (c .before .before
+    .write-text .ensures) in (
+      w,
+      is-front (le-trans (refusal-short (a .number) (a .place) (s .fits .number .fits) (s .fits .place .fits))
+          (s .pre)) w,
+    )
 
 pub write-refusal-spec : {M : Type 1} → statement M
 write-refusal-spec =

@@ -16,7 +16,8 @@ write-decimal-requires c κs =
     let q = said (roleText (a .kind) (a .owner)) (a .owner) in
     let r = said (text " ") (a .len) in
     let e = text "\n" in
-    let l0 = left-all (a .out .now) (a .at) (contourLine (a .number) (a .kind) (a .owner) (a .len)) (c .before .before .pre) in
+    let l0 = left-all (a .out .now) (a .at) (contourLine (a .number) (a .kind) (a .owner) (a .len)) (c .before
+    .before .pre) in
     piece-fits p (q ++ (r ++ e)) l0
 
 write-role-requires : tie.Need-write-role-requires
@@ -45,7 +46,8 @@ write-said-requires c κs =
     let r = said (text " ") (a .len) in
     let e = text "\n" in
     let l0 = left-all (a .out .now) (a .at) (contourLine (a .number) (a .kind) (a .owner) (a .len)) (s .pre) in
-    let l1 = left-after p (q ++ (r ++ e)) l0 (c .before .before .before .before .before .before .before .before .write-decimal .ensures) in
+    let l1 = left-after p (q ++ (r ++ e)) l0 (c .before .before .before .before .before .before .before .before
+    .write-decimal .ensures) in
     let l2 = left-after q (r ++ e) l1 (c .before .before .before .before .write-role .ensures) in
     piece-fits r e l2
 
@@ -55,16 +57,18 @@ slice-aggregate-write-text c = search needs
 write-text-requires : tie.Need-write-text-requires
 unfolding contourLine
 write-text-requires c κs =
-    let s = c .before .before .before .before .before .before .before .before .before .before .before .before .before .before .before .before in
+    let s = c .before .before .before .before .before .before .before .before .before .before .before .before
+    .before .before .before .before in
     let a = s .args in
     let p = decimal (a .number) in
     let q = said (roleText (a .kind) (a .owner)) (a .owner) in
     let r = said (text " ") (a .len) in
     let e = text "\n" in
     let l0 = left-all (a .out .now) (a .at) (contourLine (a .number) (a .kind) (a .owner) (a .len)) (s .pre) in
-    let l1 = left-after p (q ++ (r ++ e)) l0
-    (c .before .before .before .before .before .before .before .before .before .before .before .before .before .write-decimal .ensures) in
-    let l2 = left-after q (r ++ e) l1 (c .before .before .before .before .before .before .before .before .before .write-role .ensures) in
+    let l1 = left-after p (q ++ (r ++ e)) l0 (c .before .before .before .before .before .before .before .before
+    .before .before .before .before .before .write-decimal .ensures) in
+    let l2 = left-after q (r ++ e) l1 (c .before .before .before .before .before .before .before .before .before
+    .write-role .ensures) in
     let l3 = left-after r e l2 (c .before .before .before .before .write-said .ensures) in
     last-fits e l3
 
@@ -74,20 +78,18 @@ same-length c = search needs
 returns : tie.Need-returns
 unfolding contourLine
 returns c =
-    let s = c
-    .before .before .before .before .before .before .before .before .before .before .before .before .before .before .before .before .before
-    .before .before in
+    let s = c .before .before .before .before .before .before .before .before .before .before .before .before
+    .before .before .before .before .before .before .before in
     let a = s .args in
     let p = decimal (a .number) in
     let q = said (roleText (a .kind) (a .owner)) (a .owner) in
     let r = said (text " ") (a .len) in
     let e = text "\n" in
     let l0 = left-all (a .out .now) (a .at) (contourLine (a .number) (a .kind) (a .owner) (a .len)) (s .pre) in
-    let l1 = left-after p (q ++ (r ++ e)) l0
-    (c .before .before .before .before .before .before .before .before .before .before .before .before .before .before .before .before
-    .write-decimal .ensures) in
-    let l2 = left-after q (r ++ e) l1
-    (c .before .before .before .before .before .before .before .before .before .before .before .before .write-role .ensures) in
+    let l1 = left-after p (q ++ (r ++ e)) l0 (c .before .before .before .before .before .before .before .before
+    .before .before .before .before .before .before .before .before .write-decimal .ensures) in
+    let l2 = left-after q (r ++ e) l1 (c .before .before .before .before .before .before .before .before .before
+    .before .before .before .write-role .ensures) in
     let l3 = left-after r e l2 (c .before .before .before .before .before .before .before .write-said .ensures) in
     left-last e l3 (c .before .before .write-text .ensures)
 

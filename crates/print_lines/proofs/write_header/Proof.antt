@@ -47,7 +47,8 @@ slice-aggregate-write-said-3 c = search needs
 write-said-requires-3 : tie.Need-write-said-requires-3
 unfolding header
 write-said-requires-3 c κs =
-    let start = c .before .before .before .before .before .before .before .before .before .before .before .before .before in
+    let start = c .before .before .before .before .before .before .before .before .before .before .before
+    .before .before in
     let a = start .args in
     let p = said (text "contours ") (a .t .contours) in
     let q = said (text " shapes ") (a .t .shapes) in
@@ -55,7 +56,8 @@ write-said-requires-3 c κs =
     let s = said (text " dropped ") (a .t .dropped) in
     let e = text "\n" in
     let l0 = left-from-0 (a .out .now) (header (a .t)) (start .pre) in
-    let l1 = left-after p (q ++ (r ++ (s ++ e))) l0 (c .before .before .before .before .before .before .before .before .before .write-said .ensures) in
+    let l1 = left-after p (q ++ (r ++ (s ++ e))) l0 (c .before .before .before .before .before .before .before
+    .before .before .write-said .ensures) in
     let l2 = left-after q (r ++ (s ++ e)) l1 (c .before .before .before .before .write-said2 .ensures) in
     piece-fits r (s ++ e) l2
 
@@ -65,8 +67,8 @@ slice-aggregate-write-said-4 c = search needs
 write-said-requires-4 : tie.Need-write-said-requires-4
 unfolding header
 write-said-requires-4 c κs =
-    let start =
-    c .before .before .before .before .before .before .before .before .before .before .before .before .before .before .before .before .before .before in
+    let start = c .before .before .before .before .before .before .before .before .before .before .before
+    .before .before .before .before .before .before .before in
     let a = start .args in
     let p = said (text "contours ") (a .t .contours) in
     let q = said (text " shapes ") (a .t .shapes) in
@@ -74,9 +76,10 @@ write-said-requires-4 c κs =
     let s = said (text " dropped ") (a .t .dropped) in
     let e = text "\n" in
     let l0 = left-from-0 (a .out .now) (header (a .t)) (start .pre) in
-    let l1 = left-after p (q ++ (r ++ (s ++ e))) l0
-    (c .before .before .before .before .before .before .before .before .before .before .before .before .before .before .write-said .ensures) in
-    let l2 = left-after q (r ++ (s ++ e)) l1 (c .before .before .before .before .before .before .before .before .before .write-said2 .ensures) in
+    let l1 = left-after p (q ++ (r ++ (s ++ e))) l0 (c .before .before .before .before .before .before .before
+    .before .before .before .before .before .before .before .write-said .ensures) in
+    let l2 = left-after q (r ++ (s ++ e)) l1 (c .before .before .before .before .before .before .before .before
+    .before .write-said2 .ensures) in
     let l3 = left-after r (s ++ e) l2 (c .before .before .before .before .write-said3 .ensures) in
     piece-fits s e l3
 
@@ -86,9 +89,8 @@ slice-aggregate-write-text c = search needs
 write-text-requires : tie.Need-write-text-requires
 unfolding header
 write-text-requires c κs =
-    let start =
-    c .before .before .before .before .before .before .before .before .before .before .before .before .before .before .before .before .before
-    .before .before .before .before .before .before in
+    let start = c .before .before .before .before .before .before .before .before .before .before .before
+    .before .before .before .before .before .before .before .before .before .before .before .before in
     let a = start .args in
     let p = said (text "contours ") (a .t .contours) in
     let q = said (text " shapes ") (a .t .shapes) in
@@ -96,12 +98,13 @@ write-text-requires c κs =
     let s = said (text " dropped ") (a .t .dropped) in
     let e = text "\n" in
     let l0 = left-from-0 (a .out .now) (header (a .t)) (start .pre) in
-    let l1 = left-after p (q ++ (r ++ (s ++ e))) l0
-    (c .before .before .before .before .before .before .before .before .before .before .before .before .before .before .before .before .before
-    .before .before .write-said .ensures) in
-    let l2 = left-after q (r ++ (s ++ e)) l1
-    (c .before .before .before .before .before .before .before .before .before .before .before .before .before .before .write-said2 .ensures) in
-    let l3 = left-after r (s ++ e) l2 (c .before .before .before .before .before .before .before .before .before .write-said3 .ensures) in
+    let l1 = left-after p (q ++ (r ++ (s ++ e))) l0 (c .before .before .before .before .before .before .before
+    .before .before .before .before .before .before .before .before .before .before .before .before .write-said
+    .ensures) in
+    let l2 = left-after q (r ++ (s ++ e)) l1 (c .before .before .before .before .before .before .before .before
+    .before .before .before .before .before .before .write-said2 .ensures) in
+    let l3 = left-after r (s ++ e) l2 (c .before .before .before .before .before .before .before .before .before
+    .write-said3 .ensures) in
     let l4 = left-after s e l3 (c .before .before .before .before .write-said4 .ensures) in
     last-fits e l4
 
@@ -111,9 +114,9 @@ same-length c = search needs
 returns : tie.Need-returns
 unfolding header
 returns c =
-    let start =
-    c .before .before .before .before .before .before .before .before .before .before .before .before .before .before .before .before .before
-    .before .before .before .before .before .before .before .before .before in
+    let start = c .before .before .before .before .before .before .before .before .before .before .before
+    .before .before .before .before .before .before .before .before .before .before .before .before .before
+    .before .before in
     let a = start .args in
     let p = said (text "contours ") (a .t .contours) in
     let q = said (text " shapes ") (a .t .shapes) in
@@ -121,14 +124,13 @@ returns c =
     let s = said (text " dropped ") (a .t .dropped) in
     let e = text "\n" in
     let l0 = left-from-0 (a .out .now) (header (a .t)) (start .pre) in
-    let l1 = left-after p (q ++ (r ++ (s ++ e))) l0
-    (c .before .before .before .before .before .before .before .before .before .before .before .before .before .before .before .before .before
-    .before .before .before .before .before .write-said .ensures) in
-    let l2 = left-after q (r ++ (s ++ e)) l1
-    (c .before .before .before .before .before .before .before .before .before .before .before .before .before .before .before .before .before
-    .write-said2 .ensures) in
-    let l3 = left-after r (s ++ e) l2
-    (c .before .before .before .before .before .before .before .before .before .before .before .before .write-said3 .ensures) in
+    let l1 = left-after p (q ++ (r ++ (s ++ e))) l0 (c .before .before .before .before .before .before .before
+    .before .before .before .before .before .before .before .before .before .before .before .before .before
+    .before .before .write-said .ensures) in
+    let l2 = left-after q (r ++ (s ++ e)) l1 (c .before .before .before .before .before .before .before .before
+    .before .before .before .before .before .before .before .before .before .write-said2 .ensures) in
+    let l3 = left-after r (s ++ e) l2 (c .before .before .before .before .before .before .before .before .before
+    .before .before .before .write-said3 .ensures) in
     let l4 = left-after s e l3 (c .before .before .before .before .before .before .before .write-said4 .ensures) in
     left-last e l4 (c .before .before .write-text .ensures)
 

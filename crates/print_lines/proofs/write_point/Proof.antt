@@ -17,7 +17,8 @@ write-signed-requires c κs =
     let q = text " " in
     let r = decimalZ (again (a .y)) in
     let e = text "\n" in
-    let l0 = point-left (a .x) (a .y) (c .before .before .fits .x) (c .before .before .fits .y) (a .out .now) (a .at) (c .before .before .pre) in
+    let l0 = point-left (a .x) (a .y) (c .before .before .fits .x) (c .before .before .fits .y) (a .out .now) (a
+    .at) (c .before .before .pre) in
     piece-fits p (q ++ (r ++ e)) l0
 
 slice-aggregate-write-text : tie.Need-slice-aggregate-write-text
@@ -46,7 +47,8 @@ write-signed-requires-2 c κs =
     let r = decimalZ (again (a .y)) in
     let e = text "\n" in
     let l0 = point-left (a .x) (a .y) (s .fits .x) (s .fits .y) (a .out .now) (a .at) (s .pre) in
-    let l1 = left-after p (q ++ (r ++ e)) l0 (c .before .before .before .before .before .before .before .before .write-signed .ensures) in
+    let l1 = left-after p (q ++ (r ++ e)) l0 (c .before .before .before .before .before .before .before .before
+    .write-signed .ensures) in
     let l2 = left-after q (r ++ e) l1 (c .before .before .before .write-text .ensures) in
     piece-fits r e l2
 
@@ -56,16 +58,18 @@ slice-aggregate-write-text-2 c = search needs
 write-text-requires-2 : tie.Need-write-text-requires-2
 unfolding pointLine
 write-text-requires-2 c κs =
-    let s = c .before .before .before .before .before .before .before .before .before .before .before .before .before .before .before .before in
+    let s = c .before .before .before .before .before .before .before .before .before .before .before .before
+    .before .before .before .before in
     let a = s .args in
     let p = decimalZ (again (a .x)) in
     let q = text " " in
     let r = decimalZ (again (a .y)) in
     let e = text "\n" in
     let l0 = point-left (a .x) (a .y) (s .fits .x) (s .fits .y) (a .out .now) (a .at) (s .pre) in
-    let l1 = left-after p (q ++ (r ++ e)) l0
-    (c .before .before .before .before .before .before .before .before .before .before .before .before .before .write-signed .ensures) in
-    let l2 = left-after q (r ++ e) l1 (c .before .before .before .before .before .before .before .before .write-text .ensures) in
+    let l1 = left-after p (q ++ (r ++ e)) l0 (c .before .before .before .before .before .before .before .before
+    .before .before .before .before .before .write-signed .ensures) in
+    let l2 = left-after q (r ++ e) l1 (c .before .before .before .before .before .before .before .before
+    .write-text .ensures) in
     let l3 = left-after r e l2 (c .before .before .before .before .write-signed2 .ensures) in
     last-fits e l3
 
@@ -75,19 +79,18 @@ same-length c = search needs
 returns : tie.Need-returns
 unfolding pointLine
 returns c =
-    let s = c
-    .before .before .before .before .before .before .before .before .before .before .before .before .before .before .before .before .before
-    .before .before in
+    let s = c .before .before .before .before .before .before .before .before .before .before .before .before
+    .before .before .before .before .before .before .before in
     let a = s .args in
     let p = decimalZ (again (a .x)) in
     let q = text " " in
     let r = decimalZ (again (a .y)) in
     let e = text "\n" in
     let l0 = point-left (a .x) (a .y) (s .fits .x) (s .fits .y) (a .out .now) (a .at) (s .pre) in
-    let l1 = left-after p (q ++ (r ++ e)) l0
-    (c .before .before .before .before .before .before .before .before .before .before .before .before .before .before .before .before
-    .write-signed .ensures) in
-    let l2 = left-after q (r ++ e) l1 (c .before .before .before .before .before .before .before .before .before .before .before .write-text .ensures) in
+    let l1 = left-after p (q ++ (r ++ e)) l0 (c .before .before .before .before .before .before .before .before
+    .before .before .before .before .before .before .before .before .write-signed .ensures) in
+    let l2 = left-after q (r ++ e) l1 (c .before .before .before .before .before .before .before .before .before
+    .before .before .write-text .ensures) in
     let l3 = left-after r e l2 (c .before .before .before .before .before .before .before .write-signed2 .ensures) in
     left-last e l3 (c .before .before .write-text2 .ensures)
 

@@ -14,37 +14,47 @@ same-length : tie.Need-same-length
 same-length c = search needs
 
 returns : tie.Need-returns
-returns c = rw (eq-eqb _ _ (c .before .before .before .before .before .if1 .taken)) (c .before .before .write-said .ensures)
+returns c =
+    rw (eq-eqb _ _ (c .before .before .before .before .before .if1 .taken)) (c .before .before .write-said
+    .ensures)
 
 slice-aggregate-write-said-2 : tie.Need-slice-aggregate-write-said-2
 slice-aggregate-write-said-2 c = search needs
 
 write-said-requires-2 : tie.Need-write-said-requires-2
 write-said-requires-2 c κs =
-    rw (ne-eqb _ _ (c .before .before .before .if1 .left), eq-eqb _ _ (c .before .before .if2 .taken)) at (c .before .before .before .before .before .pre)
+    rw (ne-eqb _ _ (c .before .before .before .if1 .left), eq-eqb _ _ (c .before .before .if2 .taken)) at (c
+    .before .before .before .before .before .pre)
 
 same-length-2 : tie.Need-same-length-2
 same-length-2 c = search needs
 
 returns-2 : tie.Need-returns-2
 returns-2 c =
-    rw (ne-eqb _ _ (c .before .before .before .before .before .before .if1 .left), eq-eqb _ _ (c .before .before .before .before .before .if2 .taken))
-    (c .before .before .write-said2 .ensures)
+    rw (
+      ne-eqb _ _ (c .before .before .before .before .before .before .if1 .left),
+      eq-eqb _ _ (c .before .before
+          .before .before .before .if2 .taken),
+    ) (c .before .before .write-said2 .ensures)
 
 slice-aggregate-write-said-3 : tie.Need-slice-aggregate-write-said-3
 slice-aggregate-write-said-3 c = search needs
 
 write-said-requires-3 : tie.Need-write-said-requires-3
 write-said-requires-3 c κs =
-    rw (ne-eqb _ _ (c .before .before .before .if1 .left), ne-eqb _ _ (c .before .before .if2 .left)) at (c .before .before .before .before .before .pre)
+    rw (ne-eqb _ _ (c .before .before .before .if1 .left), ne-eqb _ _ (c .before .before .if2 .left)) at (c
+    .before .before .before .before .before .pre)
 
 same-length-3 : tie.Need-same-length-3
 same-length-3 c = search needs
 
 returns-3 : tie.Need-returns-3
 returns-3 c =
-    rw (ne-eqb _ _ (c .before .before .before .before .before .before .if1 .left), ne-eqb _ _ (c .before .before .before .before .before .if2 .left))
-    (c .before .before .write-said3 .ensures)
+    rw (
+      ne-eqb _ _ (c .before .before .before .before .before .before .if1 .left),
+      ne-eqb _ _ (c .before .before
+          .before .before .before .if2 .left),
+    ) (c .before .before .write-said3 .ensures)
 
 pub write-role-spec : {M : Type 1} → statement M
 write-role-spec =

@@ -44,7 +44,8 @@ write-decimal-slice-write-out : (t : ℕ) → write-decimal-lts.Need-slice-write
   write-decimal.Post,
 ) (write-decimal-at t) write-decimal.Post
 write-decimal-slice-write-out t c =
-    one-fits (c .before .before .args .n) (c .before .before .args .at) (c .before .before .args .out .now) (c .if1 .taken) (c .before .before .pre .1)
+    one-fits (c .before .before .args .n) (c .before .before .args .at) (c .before .before .args .out .now) (c
+    .if1 .taken) (c .before .before .pre .1)
 
 write-decimal-add-result : (t : ℕ) → write-decimal-lts.Need-add-result (
   write-decimal-below t,
@@ -53,8 +54,8 @@ write-decimal-add-result : (t : ℕ) → write-decimal-lts.Need-add-result (
 write-decimal-add-result t c =
     omega (
       arith,
-      one-fits (c .before .before .args .n) (c .before .before .args .at) (c .before .before .args .out .now) (c .if1 .taken)
-          (c .before .before .pre .1),
+      one-fits (c .before .before .args .n) (c .before .before .args .at) (c .before .before .args
+          .out .now) (c .if1 .taken) (c .before .before .pre .1),
       c .before .before .good,
     )
 
@@ -77,8 +78,8 @@ write-decimal-write-decimal-requires : (t : ℕ) → write-decimal-lts.Need-writ
 write-decimal-write-decimal-requires t c κs =
     let s = c .before .before .before in (
       omega (arith, c .before .if1 .left, s .pre .0),
-      before-fit (s .args .n) (s .args .at) (s .args .out .now) (c .before .if1 .left)
-          (s .fits .n .fits) (s .pre .1),
+      before-fit (s .args .n) (s .args .at) (s .args .out .now)
+          (c .before .if1 .left) (s .fits .n .fits) (s .pre .1),
     )
 
 write-decimal-cast-out-2 : (t : ℕ) → write-decimal-lts.Need-cast-out-2 (
@@ -99,8 +100,8 @@ write-decimal-slice-write-out-2 : (t : ℕ) → write-decimal-lts.Need-slice-wri
 ) (write-decimal-at t) write-decimal.Post
 write-decimal-slice-write-out-2 t c =
     let s = c .before .before .before .before .before .before in
-    last-digit-fits (s .args .n) (s .args .at) (s .args .out .now) (c .before .before .before .before .if1 .left) (s .fits .n .fits) (s .pre .1) _ _
-    (c .before .before .write-decimal .ensures)
+    last-digit-fits (s .args .n) (s .args .at) (s .args .out .now) (c .before .before .before .before .if1
+    .left) (s .fits .n .fits) (s .pre .1) _ _ (c .before .before .write-decimal .ensures)
 
 write-decimal-add-result-2 : (t : ℕ) → write-decimal-lts.Need-add-result-2 (
   write-decimal-below t,
@@ -110,9 +111,10 @@ write-decimal-add-result-2 t c =
     let s = c .before .before .before .before .before .before in
     omega (
       arith,
-      last-digit-fits (s .args .n) (s .args .at) (s .args .out .now) (c .before .before .before .before .if1 .left) (s .fits .n .fits)
-          (s .pre .1) _ _ (c .before .before .write-decimal .ensures),
-      c .before .before .write-decimal .kept .1 .0,
+      last-digit-fits (s .args .n) (s .args .at) (s .args .out .now) (c .before .before .before
+          .before .if1 .left) (s .fits .n .fits) (s .pre .1) _ _ (c .before .before .write-decimal .ensures),
+      c
+          .before .before .write-decimal .kept .1 .0,
       s .good,
     )
 
@@ -128,8 +130,8 @@ write-decimal-returns-2 : (t : ℕ) → write-decimal-lts.Need-returns-2 (
 ) (write-decimal-at t) write-decimal.Post
 write-decimal-returns-2 t c =
     let s = c .before .before .before .before .before .before in
-    last-digit (s .args .n) (s .args .at) (s .args .out .now) (c .before .before .before .before .if1 .left) (s .fits .n .fits) (s .pre .1) _ _
-    (c .before .before .write-decimal .ensures)
+    last-digit (s .args .n) (s .args .at) (s .args .out .now) (c .before .before .before .before .if1 .left) (s
+    .fits .n .fits) (s .pre .1) _ _ (c .before .before .write-decimal .ensures)
 
 pub +write-decimal-spec : {M : Type 1} → statement M
 +write-decimal-spec = close μ-write-decimal λ t. write-decimal-lts.spec (

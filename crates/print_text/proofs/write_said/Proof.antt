@@ -8,14 +8,15 @@ use Rattle.print_text.proofs.write_said.Tie as tie
 write-text-requires : tie.Need-write-text-requires
 write-text-requires c κs =
     let s = c .before .before .before in
-    let a = s .args in piece-fits (a .word .now) (decimal (a .n)) (left-all (a .out .now) (a .at) (said (a .word .now) (a .n)) (s .pre))
+    let a = s .args in piece-fits (a .word .now) (decimal (a .n)) (left-all (a .out .now) (a .at) (said (a .word
+    .now) (a .n)) (s .pre))
 
 write-decimal-requires : tie.Need-write-decimal-requires
 write-decimal-requires c κs =
     let s = c .before .before .before .before .before .before .before in
     let a = s .args in
-    last-fits (decimal (a .n)) (left-after (a .word .now) (decimal (a .n)) (left-all (a .out .now) (a .at) (said (a .word .now) (a .n)) (s .pre))
-    (c .before .before .before .write-text .ensures))
+    last-fits (decimal (a .n)) (left-after (a .word .now) (decimal (a .n)) (left-all (a .out .now) (a .at) (said
+    (a .word .now) (a .n)) (s .pre)) (c .before .before .before .write-text .ensures))
 
 same-length : tie.Need-same-length
 same-length c = search needs
@@ -24,8 +25,9 @@ returns : tie.Need-returns
 returns c =
     let s = c .before .before .before .before .before .before .before .before .before .before in
     let a = s .args in
-    left-last (decimal (a .n)) (left-after (a .word .now) (decimal (a .n)) (left-all (a .out .now) (a .at) (said (a .word .now) (a .n)) (s .pre))
-    (c .before .before .before .before .before .before .write-text .ensures)) (c .before .before .write-decimal .ensures)
+    left-last (decimal (a .n)) (left-after (a .word .now) (decimal (a .n)) (left-all (a .out .now) (a .at) (said
+    (a .word .now) (a .n)) (s .pre)) (c .before .before .before .before .before .before .write-text .ensures))
+    (c .before .before .write-decimal .ensures)
 
 pub write-said-spec : {M : Type 1} → statement M
 write-said-spec =
