@@ -9,7 +9,7 @@ ghost use Rattle.laws.specs.Test.{pick};
 ghost use Rattle.turn.specs.Limits.{maxLinks};
 ghost use Rattle.turn.specs.Points.{Grid};
 ghost use Rattle.turn.specs.Area.{area, pointsOf, wedgeBound};
-ghost use Rattle.keep.specs.Tables.{Tables, tables, enterKept, enterRejected, enter, Within};
+ghost use Rattle.keep.specs.Tables.{Tables, tables, enterKept, enterRejected, enter, Within, noCounts};
 
 // What extraction returns on success. `kept_area` and `rejected_area` are the signed doubled totals of kept and of rejected walks.
 pub struct Counts {
@@ -19,6 +19,20 @@ pub struct Counts {
     pub walked: usize,
     pub kept_area: i64,
     pub rejected_area: i64,
+}
+
+// The counts before the first walk.
+pub fn no_counts() -> Counts
+    ensures { λ r. ⌜ r ≡ noCounts ⌝ }
+{
+    Counts {
+        contours: 0,
+        points: 0,
+        rejected: 0,
+        walked: 0,
+        kept_area: 0,
+        rejected_area: 0,
+    }
 }
 
 // The counts with one contour more.

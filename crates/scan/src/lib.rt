@@ -208,14 +208,7 @@ pub fn scan_links(
 {
     let n = state.len();
     let mut k = 0;
-    let mut c = Counts {
-        contours: 0,
-        points: 0,
-        rejected: 0,
-        walked: 0,
-        kept_area: 0,
-        rejected_area: 0,
-    };
+    let mut c = keep::no_counts();
     while k < n {
         if state[k] != 0 {
             k += 1;

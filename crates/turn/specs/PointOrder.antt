@@ -1,4 +1,5 @@
 -- The order of points: strict, transitive, total; that the vector between two points that differ is not 0; and what the test of the bounds says.
+use Prim.Native.Nat.{_-_}
 use mathlib.Core.Path.{_≡_, refl, sym, _∙_, subst}
 use mathlib.Core.Logic.{_⊎_, inl, inr, ⊎-elim}
 use mathlib.Core.Bool.{Bool, true, false, not, _&&_, _||_}
@@ -12,6 +13,7 @@ use Rattle.laws.specs.Int.{same, sub-zero-eq}
 use Rattle.laws.specs.Sign.{zer, sgn, eqS, eqS-eq, sgn-zer}
 use Rattle.laws.specs.Order.{ltZ-true, ltZ-false, true-ltZ, false-ltZ}
 use Rattle.turn.specs.declared.Point.{Point}
+use Rattle.turn.specs.Limits.{maxCoordinate}
 use Rattle.turn.specs.Points.{before, differ, outside, offGrid, Coord, OnGrid, fromTo}
 use Rattle.turn.specs.Angle.{nonzero}
 
@@ -116,12 +118,12 @@ nonzero-back p q e = nonzero-between q p (differ-sym q p ∙ before-differ p q e
 
 -- ---- within the bounds
 pub coord : (z : ℤ) → outside z ≡ false → Coord z
-coord (pos n) e = ltb-false 524288 n e
-coord (negsuc n) e = let h = ltb-false 524287 n (or-false _ _ e .0) in omega arith
+coord (pos n) e = ltb-false maxCoordinate n e
+coord (negsuc n) e = let h = ltb-false (maxCoordinate - 1) n (or-false _ _ e .0) in omega arith
 
 pub inside : (z : ℤ) → Coord z → outside z ≡ false
-inside (pos n) h = le-ltb 524288 n h
-inside (negsuc n) h = false-or _ _ (le-ltb 524287 n (omega arith)) refl
+inside (pos n) h = le-ltb maxCoordinate n h
+inside (negsuc n) h = false-or _ _ (le-ltb (maxCoordinate - 1) n (omega arith)) refl
 
 -- a point is out of bounds exactly where it is not on the grid
 pub on-grid : (p : Point) → Fails (offGrid p) (OnGrid p)

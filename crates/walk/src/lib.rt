@@ -320,25 +320,14 @@ pub fn find_contour(
     ensures { λ _. ⌜ Kept (now (state .entry)) (now (state .exit)) ⌝ }
 {
     let forward = course.forward;
+    let sense = course.sense;
     let mark = course.mark;
     let home = end_node(aid, bid, forward, s);
     let ahead = end_node(bid, aid, forward, s);
     let begin = end_point(ax, ay, bx, by, forward, s);
     state[s] = mark;
     put_point(points, at, begin);
-    match last_link(
-        ax,
-        ay,
-        bx,
-        by,
-        aid,
-        start,
-        list,
-        state,
-        course.sense,
-        home,
-        s,
-    ) {
+    match last_link(ax, ay, bx, by, aid, start, list, state, sense, home, s) {
         Next::Nothing => Ended::Stuck(8),
         Next::Link(last) => {
             let written = at + 1;

@@ -33,7 +33,7 @@ g s = graphOf (lent (s .args .ax .now) (s .args .ay .now) (s .args .bx .now) (s 
     (s .args .start .now) (s .args .list .now)) (s .args .top .now)
 
 abbrev at-start : tie.At-loop Inv-loop μ-loop → tie.Start Inv-loop μ-loop
-at-start l = l .before .before .before .before .before .before .before .before .before .before
+at-start l = l .before .before .before .before .before .before .before .before .before .before .before
 
 -- the link that the scan stands at is one of the states
 in-states : (l : tie.At-loop Inv-loop μ-loop) → l .loop .k < length (at-start l .args .state .now) → l .loop .k < length (l .loop .state)
@@ -45,11 +45,15 @@ roomy l =
     let i = l .loop .inv in
     rw (i .kept .len, i .points-length, i .first-length, i .len-length, i .kind-length) (at-start l .pre .1)
 
+no-counts-requires : tie.Need-no-counts-requires Inv-loop μ-loop
+no-counts-requires c κs = search needs
+
 loop-holds : tie.Need-loop-holds Inv-loop μ-loop
 loop-holds c =
-    let s = c .before .before .before .before .before .before .before .before .before in
-    none-yet (g s) (s .args .settings .clockwise) (s .args .settings .minimum) (s .args .state .now) (s .args .points .now) (s .args .first .now)
-    (s .args .len .now) (s .args .kind .now)
+    let s = c .before .before .before .before .before .before .before .before .before .before in
+    rw (c .no-counts .ensures)
+    (none-yet (g s) (s .args .settings .clockwise) (s .args .settings .minimum) (s .args .state .now) (s .args .points .now) (s .args .first .now)
+    (s .args .len .now) (s .args .kind .now))
 
 slice-read-if1 : tie.Need-slice-read-if1 Inv-loop μ-loop
 slice-read-if1 c = in-states (c .before .before) (c .before .loop-test .taken)
@@ -187,6 +191,7 @@ scan-links-spec =
     (tie.spec
     Inv-loop
     μ-loop
+    no-counts-requires
     loop-holds
     slice-read-if1
     add-k
