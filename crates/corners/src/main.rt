@@ -1,7 +1,8 @@
 // Runs the proved functions of `turn` at zero and at both extremes, a line for each input.
 use turn::Point;
+use turn::Vector;
 ghost use Prim.Native.Nat.{_≤_};
-ghost use Rattle.turn.specs.Points.{Coord};
+ghost use Rattle.turn.specs.Points.{Coord, Short};
 
 fn say(n: u64) {
     io::write_all(1, b" ");
@@ -63,6 +64,68 @@ fn area(west: i32, south: i32, east: i32, north: i32, count: usize)
     say((doubled < 0) as u64);
 }
 
+// The size of the cross product of u and v, whether it is below 0, and whether they have one direction.
+fn product(u: Vector, v: Vector)
+    requires { ⌜ (Short u) × (Short v) ⌝ }
+{
+    let c = turn::cross_product(u, v);
+    io::write_all(1, b"\nproduct");
+    say(turn::absolute(c));
+    say((c < 0) as u64);
+    say(turn::same_direction(u, v) as u64);
+}
+
+// Whether f is met before g, turning from e in a sense.
+fn met_in(sense: bool, e: Vector, f: Vector, g: Vector) -> bool
+    requires { ⌜ (Short e) × (Short f) × (Short g) ⌝ }
+{
+    turn::met_before(
+        sense,
+        f,
+        turn::half_of(sense, e, f),
+        g,
+        turn::half_of(sense, e, g),
+    )
+}
+
+// Whether f is met before g, and g before f, turning from e clockwise, then counterclockwise.
+fn met(e: Vector, f: Vector, g: Vector)
+    requires { ⌜ (Short e) × (Short f) × (Short g) ⌝ }
+{
+    io::write_all(1, b"\nmet");
+    say(met_in(true, e, f, g) as u64);
+    say(met_in(true, e, g, f) as u64);
+    say(met_in(false, e, f, g) as u64);
+    say(met_in(false, e, g, f) as u64);
+}
+
+// Vectors that no link has: of length 0, as long as the grid is wide, and two of one direction.
+fn vectors() {
+    let zero = Vector { x: 0, y: 0 };
+    let east = Vector { x: 1, y: 0 };
+    let west = Vector { x: -1, y: 0 };
+    let north = Vector { x: 0, y: 1 };
+    let up = Vector {
+        x: 1048576,
+        y: 1048576,
+    };
+    let down = Vector {
+        x: 1048576,
+        y: -1048576,
+    };
+    product(zero, zero);
+    product(zero, up);
+    product(up, zero);
+    product(down, up);
+    product(up, down);
+    met(east, east, north);
+    met(east, east, west);
+    met(north, up, Vector { x: 7, y: 7 });
+    met(zero, east, north);
+    met(east, zero, north);
+    met(east, zero, east);
+}
+
 fn main() {
     io::write_all(1, b"1 is yes, 0 is no");
     size(0, 0);
@@ -107,5 +170,6 @@ fn main() {
     area(-524288, -524288, 524288, 524288, 8);
     area(524288, -524288, -524288, 524288, 8);
     area(-524288, 524288, 524288, 524288, 8);
+    vectors();
     io::write_all(1, b"\n");
 }
