@@ -4,17 +4,92 @@ use generators::mesh::Mesh;
 use generators::rng::Rng;
 use generators::{Link, Numbering, Sample, planar};
 use reading::geometry::Point;
+use reading::graph::Graph;
 
-/// All graphs, by name.
-pub fn all() -> Vec<(&'static str, Sample)> {
+/// Graphs that are run in turn, each so many times.
+pub struct Group {
+    pub name: &'static str,
+    pub samples: Vec<Sample>,
+    pub repeats: usize,
+}
+
+impl Group {
+    fn of_one(name: &'static str, sample: Sample) -> Self {
+        Self { name, samples: vec![sample], repeats: 1 }
+    }
+
+    /// How many runs one round takes.
+    pub fn runs(&self) -> usize {
+        self.samples.len() * self.repeats
+    }
+}
+
+/// How many different meshes are run in turn.
+const MANY: u64 = 48;
+/// Blocks along each side of a mesh.
+const BLOCKS: usize = 20;
+
+/// Graphs near the most links: each by itself, then many different ones in turn.
+pub fn large() -> Vec<Group> {
     vec![
-        ("checkerboard of 1,024 touching squares", checkerboard()),
-        ("one contour of 4,094 links", one_contour()),
-        ("board with 930 holes", holes()),
-        ("random mesh, 200 holes, 400 hulls", blocks(1)),
-        ("another such mesh", blocks(2)),
-        ("star of 2,730 links at one node", star()),
+        Group::of_one("checkerboard of 1,024 touching squares", checkerboard(64, 32)),
+        Group::of_one("one contour of 4,094 links", one_contour(2046)),
+        Group::of_one("board with 930 holes", holes(63, 61)),
+        Group::of_one("random mesh, 200 holes, 400 hulls", blocks(BLOCKS, 1)),
+        Group::of_one("another such mesh", blocks(BLOCKS, 2)),
+        Group::of_one("star of 2,730 links at one node", star(2730)),
+        Group {
+            name: "48 different such meshes in turn, each",
+            samples: (1..=MANY).map(|seed| blocks(BLOCKS, seed)).collect(),
+            repeats: 1,
+        },
     ]
+}
+
+/// Graphs of a few links, each so many times that a run can be timed.
+pub fn tiny() -> Vec<Group> {
+    let repeated = |name, sample| Group { name, samples: vec![sample], repeats: 1000 };
+    vec![
+        repeated("triangle", triangle()),
+        repeated("square (E2)", of_links(rectangle(0, 4, 1).to_vec())),
+        repeated("square with a hole", of_links([rectangle(0, 10, 1), rectangle(2, 8, 0)].concat())),
+    ]
+}
+
+/// The same kinds of graphs, small.
+#[cfg(test)]
+pub fn small() -> Vec<Group> {
+    let mut groups = tiny();
+    groups.iter_mut().for_each(|group| group.repeats = 2);
+    groups.extend([
+        Group::of_one("small checkerboard", checkerboard(4, 3)),
+        Group::of_one("short contour", one_contour(6)),
+        Group::of_one("small board with holes", holes(7, 5)),
+        Group::of_one("small star", star(10)),
+        Group { name: "small meshes", samples: (1..=3).map(|seed| blocks(3, seed)).collect(), repeats: 2 },
+    ]);
+    groups
+}
+
+type Ends = ([i32; 2], [i32; 2], u8);
+
+fn of_links(mut links: Vec<Ends>) -> Sample {
+    links.sort_by_key(|link| link.0);
+    Sample { graph: Graph::of_links(&links), state: vec![0; links.len()] }
+}
+
+/// The sides of a square from (low, low) to (high, high), filled inside or, if `inside` is 0, outside.
+fn rectangle(low: i32, high: i32, inside: u8) -> [Ends; 4] {
+    [
+        ([low, low], [high, low], inside),
+        ([low, low], [low, high], 1 - inside),
+        ([low, high], [high, high], 1 - inside),
+        ([high, low], [high, high], inside),
+    ]
+}
+
+fn triangle() -> Sample {
+    of_links(vec![([0, 0], [0, 4], 0), ([0, 0], [4, 0], 1), ([0, 4], [4, 0], 0)])
 }
 
 fn sample(mesh: &Mesh, filled: &[bool]) -> Sample {
@@ -30,17 +105,16 @@ fn board(columns: usize, rows: usize, is_filled: impl Fn(usize, usize) -> bool) 
     sample(&mesh, &filled)
 }
 
-fn checkerboard() -> Sample {
-    board(64, 32, |column, row| (column + row).is_multiple_of(2))
+fn checkerboard(columns: usize, rows: usize) -> Sample {
+    board(columns, rows, |column, row| (column + row).is_multiple_of(2))
 }
 
-fn holes() -> Sample {
-    board(63, 61, |column, row| column % 2 == 0 || row % 2 == 0)
+fn holes(columns: usize, rows: usize) -> Sample {
+    board(columns, rows, |column, row| column % 2 == 0 || row % 2 == 0)
 }
 
 /// A band with a toothed upper and a toothed lower rim.
-fn one_contour() -> Sample {
-    let teeth = 2046;
+fn one_contour(teeth: i32) -> Sample {
     let upper = |tooth: i32| Point::new(tooth, 10 + tooth % 2);
     let lower = |tooth: i32| Point::new(tooth, -(tooth % 2));
     let key = |point: Point| 2 * point.x as usize + (point.y > 5) as usize;
@@ -53,29 +127,27 @@ fn one_contour() -> Sample {
     Sample::from_links(links, Numbering::Sorted, &mut Rng::new(1))
 }
 
-/// Twenty by twenty blocks on an uneven grid: half of them rings with a hole, half of them single cells.
-fn blocks(seed: u64) -> Sample {
-    const BLOCKS: usize = 20;
+/// So many by so many blocks on an uneven grid: half of them rings with a hole, half of them single cells.
+fn blocks(side: usize, seed: u64) -> Sample {
     const PITCH: usize = 4;
     let mut rng = Rng::new(seed);
-    let mut mesh = Mesh::unit_board(BLOCKS * PITCH, BLOCKS * PITCH);
+    let mut mesh = Mesh::unit_board(side * PITCH, side * PITCH);
     mesh.transform([[20, 0], [0, 20]]);
     mesh.jitter(7, &mut rng);
-    let mut is_ring: Vec<bool> = (0..BLOCKS * BLOCKS).map(|block| block % 2 == 0).collect();
+    let mut is_ring: Vec<bool> = (0..side * side).map(|block| block % 2 == 0).collect();
     rng.shuffle(&mut is_ring);
     let is_filled = |face: usize| {
         let (column, row) = (face % mesh.columns, face / mesh.columns);
         let is_middle = column % PITCH == 1 && row % PITCH == 1;
         let is_gap = column % PITCH == 3 || row % PITCH == 3;
-        if is_ring[row / PITCH * BLOCKS + column / PITCH] { !is_gap && !is_middle } else { is_middle }
+        if is_ring[row / PITCH * side + column / PITCH] { !is_gap && !is_middle } else { is_middle }
     };
     let filled: Vec<bool> = (0..mesh.faces.len()).map(is_filled).collect();
     sample(&mesh, &filled)
 }
 
 /// Triangles round one node, their tips on the rim of a square.
-fn star() -> Sample {
-    const SPOKES: i32 = 2730;
+fn star(spokes: i32) -> Sample {
     const REACH: i32 = 1000;
     let rim = |step: i32| match (step / (2 * REACH), step % (2 * REACH) - REACH) {
         (0, along) => Point::new(along, -REACH),
@@ -83,9 +155,9 @@ fn star() -> Sample {
         (2, along) => Point::new(-along, REACH),
         (_, along) => Point::new(-REACH, -along),
     };
-    let tips = (0..SPOKES).map(|spoke| rim(8 * REACH * spoke / SPOKES));
+    let tips = (0..spokes).map(|spoke| rim(8 * REACH * spoke / spokes));
     let points: Vec<Point> = std::iter::once(Point::new(0, 0)).chain(tips).collect();
-    let faces: Vec<Vec<usize>> = (0..SPOKES as usize / 2).map(|pair| vec![0, 2 * pair + 1, 2 * pair + 2]).collect();
+    let faces: Vec<Vec<usize>> = (0..spokes as usize / 2).map(|pair| vec![0, 2 * pair + 1, 2 * pair + 2]).collect();
     let filled = vec![true; faces.len()];
     sample(&Mesh { points, faces, columns: 1 }, &filled)
 }

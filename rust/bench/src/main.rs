@@ -1,133 +1,149 @@
-//! Times the library and the given text on the same graphs, in turns in one process, and prints the least time of each with
-//! their ratio. Run it with `cargo run --release -p bench`.
+//! Times the library and the given text on the same graphs, in turns in one process, and prints the least time of each
+//! with their ratio. Run it with `cargo run --release -p bench`.
 
 mod graphs;
+mod machine;
+mod sides;
+mod table;
+mod timing;
 
 use generators::Sample;
-use guovdamas::{ContourDirection, Options, lent};
-use lending::{buffers, lists};
-use reading::Settings;
-use reading::graph::Buffers;
+use graphs::Group;
+use reading::file::{Study, encode};
+use sides::Library;
 use std::hint::black_box;
+use std::path::Path;
 use std::process::ExitCode;
-use std::time::{Duration, Instant};
-use text::Run;
+use std::{fs, io};
+use table::Table;
+use text::{Run, Unbound};
+use timing::{Effort, Round, least, time};
 
-const LEAST_ROUNDS: usize = 30;
-const LEAST_TIME: Duration = Duration::from_millis(700);
+const HELP: &str = "\
+Times the static library and the given text of i_overlay 9.0.1 on the same graphs, in turns in one process.
 
-/// Our buffers, lent again and again.
-struct Ours<'a> {
-    sample: &'a Sample,
-    lent: Buffers,
-    counts: lent::Counts,
-    owner: Vec<u16>,
-}
+    cargo run --release -p bench [-- --quick | --write FOLDER | --help]
 
-impl<'a> Ours<'a> {
-    fn new(sample: &'a Sample) -> Self {
-        let lent = Buffers::for_states(sample.state.clone());
-        Self { sample, lent, counts: lent::Counts::default(), owner: vec![0; sample.state.len() / 3] }
-    }
+    --quick           few repetitions: to see that it runs, not to have times
+    --write FOLDER    times nothing; writes the graphs there, as files of docs/FORMAT.md
+    --help            this text
 
-    /// Extraction with all its checks; the states are set as the text's link filter sets its own.
-    fn extract(&mut self) {
-        self.lent.state.copy_from_slice(&self.sample.state);
-        self.walk();
-    }
-
-    /// The same with every link skipped: the checks, and nothing to walk.
-    fn check(&mut self) {
-        self.lent.state.fill(1);
-        self.walk();
-    }
-
-    fn walk(&mut self) {
-        let graph = &self.sample.graph;
-        self.counts =
-            lent::extract(lists(graph), Options::default(), buffers(&mut self.lent)).expect("the graphs are walked");
-    }
-
-    fn kinds(&self) -> &[u8] {
-        &self.lent.kind[..self.counts.contours as usize]
-    }
-
-    /// Binding with all its checks.
-    fn bind(&mut self) {
-        let contours = self.counts.contours as usize;
-        let table = lent::Table {
-            points: &self.lent.points[..2 * self.counts.points as usize],
-            first: &self.lent.first[..contours],
-            len: &self.lent.len[..contours],
-            kind: &self.lent.kind[..contours],
-        };
-        lent::bind(table, ContourDirection::CounterClockwise, &mut self.owner).expect("the holes are bound");
-    }
-
-    /// How many holes each shape has.
-    fn holes(&self) -> Vec<usize> {
-        let mut holes = vec![0; self.kinds().iter().filter(|&&kind| kind == 0).count()];
-        let owned = self.owner.iter().zip(self.kinds()).filter(|(_, kind)| **kind == 1);
-        owned.for_each(|(&owner, _)| holes[owner as usize] += 1);
-        holes
-    }
-}
-
-/// The least time of each of two, run in turns on what each prepares.
-fn least<A, B, R>(
-    mut prepare: impl FnMut() -> A,
-    mut ours: impl FnMut() -> B,
-    mut theirs: impl FnMut(A) -> R,
-) -> (Duration, Duration) {
-    let mut least = (Duration::MAX, Duration::MAX);
-    let began = Instant::now();
-    let mut rounds = 0;
-    while rounds < LEAST_ROUNDS || began.elapsed() < LEAST_TIME {
-        let start = Instant::now();
-        black_box(ours());
-        least.0 = least.0.min(start.elapsed());
-
-        let prepared = prepare();
-        let start = Instant::now();
-        let result = black_box(theirs(prepared));
-        least.1 = least.1.min(start.elapsed());
-        drop(result);
-        rounds += 1;
-    }
-    least
-}
-
-fn micros(time: Duration) -> f64 {
-    time.as_nanos() as f64 / 1000.0
-}
-
-fn print(name: &str, step: &str, (ours, theirs): (Duration, Duration)) {
-    let ratio = micros(ours) / micros(theirs);
-    println!("| {name} | {step} | {:.1} | {:.1} | {ratio:.2} |", micros(ours), micros(theirs));
-}
+Each time is the least of many runs of one graph; the ratio is the first time by the second. There are graphs near the
+most links, 48 different meshes in turn, and tiny graphs; then the whole call of the safe interface beside the bare
+calls.
+Where the text is not at hand (../shared/docs/src beside the repository) the library is timed alone.
+docs/PERFORMANCE.md says what each row is.";
 
 fn main() -> ExitCode {
-    if !text::AT_HAND {
-        eprintln!("the given Rust text is not at hand (../shared/docs/src beside the repository)");
-        return ExitCode::FAILURE;
-    }
-    println!("| graph | step | library, µs | text, µs | ratio |\n|---|---|---:|---:|---:|");
-    for (name, sample) in graphs::all() {
-        let mut ours = Ours::new(&sample);
-        let mut theirs = Run::new(&sample.graph, &sample.state, Settings { clockwise: false, minimum: 0 }, 0);
-        let (checks, _) = least(|| (), || ours.check(), |()| ());
-        println!("| {name} | its checks alone | {:.1} | | |", micros(checks));
-        let times = least(|| (), || ours.extract(), |()| theirs.extract_contours());
-        print(name, "extraction", times);
-        let points: Vec<i32> = theirs.contours().concat().iter().flat_map(|point| [point.x, point.y]).collect();
-        assert_eq!(points, ours.lent.points[..2 * ours.counts.points as usize], "{name}: both find the same points");
-
-        let unbound = theirs.unbound(ours.kinds());
-        if ours.kinds().contains(&1) {
-            let times = least(|| unbound.clone(), || ours.bind(), |unbound| unbound.bind());
-            print(name, "binding", times);
-            assert_eq!(ours.holes(), unbound.bind().holes(), "{name}: both bind alike");
+    let words: Vec<String> = std::env::args().skip(1).collect();
+    match words.iter().map(String::as_str).collect::<Vec<_>>()[..] {
+        [] => run(Effort::FULL),
+        ["--quick"] => run(Effort::QUICK),
+        ["--write", folder] => write(Path::new(folder)).expect("the folder can be written"),
+        ["--help"] => println!("{HELP}"),
+        _ => {
+            eprintln!("{HELP}");
+            return ExitCode::FAILURE;
         }
     }
     ExitCode::SUCCESS
+}
+
+fn run(effort: Effort) {
+    println!("{}", machine::described());
+    if !text::AT_HAND {
+        println!("text: not at hand (../shared/docs/src beside the repository); the library is timed alone");
+    }
+    if cfg!(debug_assertions) {
+        println!("this is no release build: its times say little");
+    }
+    let (large, tiny) = (graphs::large(), graphs::tiny());
+    let sides = ["library", "text"];
+    beside_the_text(&Table::in_micros("Large graphs", sides), &large, effort);
+    beside_the_text(&Table::in_nanos("Tiny graphs", sides), &tiny, effort);
+    let calls = ["whole call", "bare calls"];
+    whole_calls(&Table::in_micros("Graph to shapes from Rust, large graphs", calls), &large, effort);
+    whole_calls(&Table::in_nanos("Graph to shapes from Rust, tiny graphs", calls), &tiny, effort);
+}
+
+/// Each graph that has a row of its own, in a file with its name.
+fn write(folder: &Path) -> io::Result<()> {
+    fs::create_dir_all(folder)?;
+    for group in graphs::large().into_iter().chain(graphs::tiny()) {
+        let [Sample { graph, state }] = &group.samples[..] else { continue };
+        let study = Study { settings: sides::SETTINGS, graph: graph.clone(), state: state.clone() };
+        let words = group.name.split(|letter: char| !letter.is_alphanumeric()).filter(|word| !word.is_empty());
+        let path = folder.join(words.collect::<Vec<_>>().join("-")).with_extension("graph");
+        fs::write(&path, encode(&study))?;
+        println!("{}", path.display());
+    }
+    Ok(())
+}
+
+/// The library's steps, each beside the text's.
+fn beside_the_text(table: &Table, groups: &[Group], effort: Effort) {
+    for group in groups {
+        let mut ours: Vec<Library> = group.samples.iter().map(Library::new).collect();
+        let mut theirs = sides::texts(group);
+        let row = |step, times| table.row(group.name, step, times, group.runs());
+
+        row("its checks alone", least(effort, each(group, &mut ours, Library::check), None));
+        let extraction = theirs.as_mut().map(|theirs| each(group, theirs, Run::extract_contours));
+        row("extraction", least(effort, each(group, &mut ours, Library::extract), extraction));
+        ours.iter_mut().for_each(Library::bind);
+        if let Some(theirs) = &theirs {
+            ours.iter().zip(theirs).for_each(|(ours, theirs)| sides::agree(group.name, ours, theirs));
+        }
+        if ours.iter().any(|ours| ours.kinds().contains(&1)) {
+            let unbound = theirs.as_ref().map(|theirs| sides::unbound(&ours, theirs));
+            let binding = unbound.as_ref().map(|unbound| binds(group, unbound));
+            row("binding", least(effort, each(group, &mut ours, Library::bind), binding));
+        }
+    }
+}
+
+/// The whole call of the safe interface beside extraction and binding in lent buffers.
+fn whole_calls(table: &Table, groups: &[Group], effort: Effort) {
+    for group in groups {
+        let mut ours: Vec<Library> = group.samples.iter().map(Library::new).collect();
+        let mut bare: Vec<Library> = group.samples.iter().map(Library::new).collect();
+        let whole = each(group, &mut ours, |ours| drop(ours.shapes()));
+        let calls = each(group, &mut bare, |bare| {
+            bare.extract();
+            bare.bind();
+        });
+        table.row(group.name, "graph to shapes", least(effort, whole, Some(calls)), group.runs());
+        bare.iter().for_each(|bare| sides::agree_with_safe_interface(group.name, bare));
+    }
+}
+
+/// A round of a step over all graphs of a group.
+fn each<'a, S>(group: &Group, sides: &'a mut [S], step: impl Fn(&mut S) + 'a) -> Round<'a> {
+    let repeats = group.repeats;
+    let repeated = move |side: &mut S| time(|| (0..repeats).for_each(|_| step(black_box(side))));
+    Box::new(move || sides.iter_mut().map(&repeated).collect())
+}
+
+/// A round of the text's binding, on contours that it may keep.
+fn binds<'a>(group: &Group, unbound: &'a [Unbound]) -> Round<'a> {
+    let repeats = group.repeats;
+    let repeated = |copies: Vec<Unbound>| time(|| copies.into_iter().map(Unbound::bind).collect::<Vec<_>>());
+    Box::new(move || {
+        let copies: Vec<Vec<Unbound>> = unbound.iter().map(|unbound| vec![unbound.clone(); repeats]).collect();
+        copies.into_iter().map(repeated).collect()
+    })
+}
+
+#[cfg(test)]
+mod tests {
+    use super::*;
+
+    /// Every row runs on small graphs, and the two sides agree on them (where there are two).
+    #[test]
+    fn rows_run_and_sides_agree() {
+        let effort = Effort { rounds: 1, ..Effort::QUICK };
+        let groups = graphs::small();
+        beside_the_text(&Table::in_micros("Small graphs", ["library", "text"]), &groups, effort);
+        whole_calls(&Table::in_micros("Small graphs, whole calls", ["whole call", "bare calls"]), &groups, effort);
+    }
 }

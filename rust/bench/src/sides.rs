@@ -1,0 +1,128 @@
+//! The two that are timed, the library and the text, on the graphs of a group.
+
+use crate::graphs::Group;
+use generators::Sample;
+use guovdamas::{ContourDirection, Graph, Link, Options, Shapes, lent};
+use lending::{buffers, lists};
+use reading::Settings;
+use reading::graph::Buffers;
+use text::{Run, Unbound};
+
+/// Counterclockwise, and everything kept: what `Options::default()` says.
+pub const SETTINGS: Settings = Settings { clockwise: false, minimum: 0 };
+
+/// The library on one graph, with buffers that are lent again and again.
+pub struct Library<'a> {
+    sample: &'a Sample,
+    lent: Buffers,
+    counts: lent::Counts,
+    owner: Vec<u16>,
+    graph: Graph,
+}
+
+impl<'a> Library<'a> {
+    pub fn new(sample: &'a Sample) -> Self {
+        let lent = Buffers::for_states(sample.state.clone());
+        let owner = vec![0; lent.first.len()];
+        Self { sample, lent, counts: lent::Counts::default(), owner, graph: owned(sample) }
+    }
+
+    /// Extraction with every link skipped: all checks run, and nothing is walked.
+    pub fn check(&mut self) {
+        self.lent.state.fill(1);
+        self.walk();
+    }
+
+    /// Extraction with all its checks; the states are set as the text's link filter sets its own.
+    pub fn extract(&mut self) {
+        self.lent.state.copy_from_slice(&self.sample.state);
+        self.walk();
+    }
+
+    fn walk(&mut self) {
+        let lent = buffers(&mut self.lent);
+        self.counts =
+            lent::extract(lists(&self.sample.graph), Options::default(), lent).expect("the graphs are walked");
+    }
+
+    /// Binding with all its checks, of what was extracted last.
+    pub fn bind(&mut self) {
+        let contours = self.counts.contours as usize;
+        let table = lent::Table {
+            points: &self.lent.points[..2 * self.counts.points as usize],
+            first: &self.lent.first[..contours],
+            len: &self.lent.len[..contours],
+            kind: &self.lent.kind[..contours],
+        };
+        lent::bind(table, ContourDirection::CounterClockwise, &mut self.owner).expect("the holes are bound");
+    }
+
+    /// The whole call of the safe interface: graph to shapes, in buffers that it allocates.
+    pub fn shapes(&self) -> Shapes {
+        self.graph.extract_shapes(Options::default()).expect("the graphs are walked")
+    }
+
+    pub fn kinds(&self) -> &[u8] {
+        &self.lent.kind[..self.counts.contours as usize]
+    }
+
+    fn points(&self) -> &[i32] {
+        &self.lent.points[..2 * self.counts.points as usize]
+    }
+
+    /// How many holes each shape has.
+    fn holes(&self) -> Vec<usize> {
+        let mut holes = vec![0; self.kinds().iter().filter(|&&kind| kind == 0).count()];
+        let owned = self.owner.iter().zip(self.kinds()).filter(|(_, kind)| **kind == 1);
+        owned.for_each(|(&owner, _)| holes[owner as usize] += 1);
+        holes
+    }
+}
+
+/// The sample as a graph of the safe interface.
+fn owned(sample: &Sample) -> Graph {
+    let mut graph = Graph::new();
+    for link in 0..sample.graph.links() {
+        let (a, b) = (sample.graph.a(link), sample.graph.b(link));
+        graph.push_link(Link {
+            a: [a.x, a.y],
+            b: [b.x, b.y],
+            a_id: sample.graph.a_id[link],
+            b_id: sample.graph.b_id[link],
+            fill_top: sample.graph.top[link] == 1,
+            skipped: sample.state[link] == 1,
+        });
+    }
+    for node in 0..sample.graph.nodes() {
+        graph.push_node(sample.graph.entries(node).map(|link| link as u32));
+    }
+    graph
+}
+
+/// The text on the graphs of a group, where it is at hand.
+pub fn texts(group: &Group) -> Option<Vec<Run>> {
+    let run = |sample: &Sample| Run::new(&sample.graph, &sample.state, SETTINGS, 0);
+    text::AT_HAND.then(|| group.samples.iter().map(run).collect())
+}
+
+/// What the text binds of each graph.
+pub fn unbound(ours: &[Library], theirs: &[Run]) -> Vec<Unbound> {
+    ours.iter().zip(theirs).map(|(ours, theirs)| theirs.unbound(ours.kinds())).collect()
+}
+
+/// Panics unless the safe interface says what the bare calls say.
+pub fn agree_with_safe_interface(name: &str, ours: &Library) {
+    let shapes = ours.shapes();
+    let points: Vec<i32> =
+        shapes.contours().iter().flat_map(|contour| contour.points().as_flattened().to_vec()).collect();
+    assert_eq!(points, ours.points(), "{name}: the whole call finds the same points");
+    let holes: Vec<usize> = shapes.iter().map(|shape| shape.holes().count()).collect();
+    assert_eq!(holes, ours.holes(), "{name}: the whole call binds alike");
+}
+
+/// Panics unless both found and bound the same, as they ran last.
+pub fn agree(name: &str, ours: &Library, theirs: &Run) {
+    let points: Vec<i32> = theirs.contours().concat().iter().flat_map(|point| [point.x, point.y]).collect();
+    assert_eq!(points, ours.points(), "{name}: both find the same points");
+    assert_eq!(ours.holes(), theirs.unbound(ours.kinds()).bind().holes(), "{name}: both bind alike");
+}
