@@ -11,13 +11,17 @@ const ARCHIVE: &str = "libguovdamas.a";
 
 fn main() {
     println!("cargo:rerun-if-env-changed=GUOVDAMAS_LIB_DIR");
+    // an archive that is built here is no input: naming it would have every build run this again
     let folder = match env::var_os("GUOVDAMAS_LIB_DIR") {
-        Some(folder) => PathBuf::from(folder),
+        Some(folder) => {
+            let folder = PathBuf::from(folder);
+            println!("cargo:rerun-if-changed={}", folder.join(ARCHIVE).display());
+            folder
+        }
         None => build_archive(),
     };
     let archive = folder.join(ARCHIVE);
     assert!(archive.is_file(), "{} is not there", archive.display());
-    println!("cargo:rerun-if-changed={}", archive.display());
     println!("cargo:rustc-link-search=native={}", folder.display());
     println!("cargo:rustc-link-lib=static=guovdamas");
 }
