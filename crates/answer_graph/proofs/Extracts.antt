@@ -16,7 +16,7 @@ use Rattle.walk.specs.Walk.{Walk, Scanned, stopped, walks, scan}
 use Rattle.walk.specs.Outcome.{kept, lens, firsts, kinds, allPoints, coordinates}
 use Rattle.walk.specs.Extract.{Buffers, Extracted, extractedAs, filled, afterScan, afterChecks, extracted}
 use Rattle.walk.specs.Ledger.{coordinates-length, all-points-length}
-use Rattle.answer_table.specs.Cuts.{cut}
+use Rattle.writing.specs.Cuts.{cut}
 use Rattle.answer_graph.specs.GraphText.{lentTable, extractedText}
 use Rattle.answer_table.specs.ExtractionText.{ExtractionFits, extractionText}
 
