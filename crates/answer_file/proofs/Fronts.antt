@@ -3,25 +3,14 @@ use Prim.Native.Nat.{ℕ, _+_, _-_, _≤_}
 use native.Mathlib.Omega.{arith}
 use mathlib.Core.Path.{_≡_, refl, sym, ap, _∙_, subst}
 use mathlib.Core.List.{List, [], _∷_, map}
-use lib.ListN.{length, take, drop, length-append, length-map}
-use lib.Seq.{take-at}
+use lib.ListN.{length, length-map}
 use Rattle.format.specs.declared.FileRead.{FileRead}
-use Rattle.writing.specs.Put.{put, atFront}
+use Rattle.writing.specs.Put.{front-long, front-cut}
 use Rattle.format_records.specs.Records.{Form, form, refused, formOf}
 use Rattle.format.specs.File.{Contents, holding, contentsOf, fileOf, fileFrom, startsOf, FileLists, Reading, reading, readInto}
-use Rattle.answer_table.specs.Cuts.{cut}
+use Rattle.writing.specs.Cuts.{cut}
 use Rattle.answer_read.specs.ReadText.{ReadFits, readText}
 use Rattle.answer_file.specs.FileText.{fileText}
-
--- ---- a list at the front of another
-module _ {A : Type 0} where
-  over-long : (t l : List A) → length t ≤ length (atFront t l)
-  unfolding put
-  over-long t l = omega (arith, length-append t (drop (0 + length t) l))
-
-  over-front : (n : ℕ) (t l : List A) → length t ≡ n → take n (atFront t l) ≡ t
-  unfolding put
-  over-front n t l e = take-at t (drop (0 + length t) l) n e
 
 starts-some : (nodes : List (List ℕ)) → 1 ≤ length (startsOf 0 nodes)
 unfolding startsOf
@@ -57,32 +46,32 @@ file-even s links nodes = record {
 module _ (g : Contents) (b : FileLists) (h : OneLength g) where
   graph-fronts : ReadFits (readInto (holding g) b .answer) (readInto (holding g) b .lent)
   graph-fronts = record {
-    ax = cut _ _ (omega (arith, over-long (g .ax) (b .ax), h .ax));
-    ay = cut _ _ (omega (arith, over-long (g .ay) (b .ay), h .ay));
-    bx = cut _ _ (omega (arith, over-long (g .bx) (b .bx), h .bx));
-    by = cut _ _ (omega (arith, over-long (g .by) (b .by), h .by));
-    aId = cut _ _ (omega (arith, over-long (g .aId) (b .aId)));
-    bId = cut _ _ (omega (arith, over-long (g .bId) (b .bId), h .bId));
-    top = cut _ _ (omega (arith, over-long (g .top) (b .top), h .top));
-    state = cut _ _ (omega (arith, over-long (g .state) (b .state), h .state));
-    start = cut _ _ (omega (arith, over-long (g .start) (b .start), h .start));
-    list = cut _ _ (omega (arith, over-long (g .list) (b .list)));
+    ax = cut _ _ (omega (arith, front-long (g .ax) (b .ax), h .ax));
+    ay = cut _ _ (omega (arith, front-long (g .ay) (b .ay), h .ay));
+    bx = cut _ _ (omega (arith, front-long (g .bx) (b .bx), h .bx));
+    by = cut _ _ (omega (arith, front-long (g .by) (b .by), h .by));
+    aId = cut _ _ (omega (arith, front-long (g .aId) (b .aId)));
+    bId = cut _ _ (omega (arith, front-long (g .bId) (b .bId), h .bId));
+    top = cut _ _ (omega (arith, front-long (g .top) (b .top), h .top));
+    state = cut _ _ (omega (arith, front-long (g .state) (b .state), h .state));
+    start = cut _ _ (omega (arith, front-long (g .start) (b .start), h .start));
+    list = cut _ _ (omega (arith, front-long (g .list) (b .list)));
   }
 
   graph-text : readText (readInto (holding g) b .answer) (readInto (holding g) b .lent) ≡ fileText (holding g)
   unfolding fileText
   graph-text =
       rw (
-        over-front (length (g .aId)) (g .ax) (b .ax) (h .ax),
-        over-front (length (g .aId)) (g .ay) (b .ay) (h .ay),
-        over-front (length (g .aId)) (g .bx) (b .bx) (h .bx),
-        over-front (length (g .aId)) (g .by) (b .by) (h .by),
-        over-front (length (g .aId)) (g .aId) (b .aId) refl,
-        over-front (length (g .aId)) (g .bId) (b .bId) (h .bId),
-        over-front (length (g .aId)) (g .top) (b .top) (h .top),
-        over-front (length (g .aId)) (g .state) (b .state) (h .state),
-        over-front (length (g .start) - 1 + 1) (g .start) (b .start) (omega (arith, h .start)),
-        over-front (length (g .list)) (g .list) (b .list) refl,
+        front-cut (length (g .aId)) (g .ax) (b .ax) (h .ax),
+        front-cut (length (g .aId)) (g .ay) (b .ay) (h .ay),
+        front-cut (length (g .aId)) (g .bx) (b .bx) (h .bx),
+        front-cut (length (g .aId)) (g .by) (b .by) (h .by),
+        front-cut (length (g .aId)) (g .aId) (b .aId) refl,
+        front-cut (length (g .aId)) (g .bId) (b .bId) (h .bId),
+        front-cut (length (g .aId)) (g .top) (b .top) (h .top),
+        front-cut (length (g .aId)) (g .state) (b .state) (h .state),
+        front-cut (length (g .start) - 1 + 1) (g .start) (b .start) (omega (arith, h .start)),
+        front-cut (length (g .list)) (g .list) (b .list) refl,
       )
 
 -- ---- what answering is asked, and what it then prints

@@ -13,7 +13,7 @@ use Rattle.turn.specs.declared.Checked.the-variants as check
 use Rattle.scan.specs.declared.Extraction.{Extraction}
 use Rattle.scan.specs.declared.Extraction.the-variants.{Refused}
 use Rattle.walk.specs.Walk.{Walk}
-use Rattle.answer_table.specs.Cuts.{cut}
+use Rattle.writing.specs.Cuts.{cut}
 use Rattle.answer_graph.specs.GraphText.{lentTable, extractedText}
 use Rattle.answer_table.specs.ExtractionText.{ExtractionFits, extractionText}
 use Rattle.scan.specs.Scan.{Scanned, stopped, walks, scan}

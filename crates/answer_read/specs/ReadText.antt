@@ -8,7 +8,7 @@ use Rattle.format.specs.declared.FileRead.{FileRead}
 use Rattle.format.specs.declared.FileRead.the-variants as answer
 use Rattle.format.specs.File.{FileLists}
 use Rattle.print.specs.Answer.{printedRefusal}
-use Rattle.answer_table.specs.Cuts.{Cut}
+use Rattle.writing.specs.Cuts.{Cut}
 use Rattle.answer_graph.specs.GraphText.{graphText}
 
 -- the lists are long enough to be cut so

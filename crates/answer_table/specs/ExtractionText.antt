@@ -8,7 +8,7 @@ use Rattle.keep.specs.declared.Counts.{Counts}
 use Rattle.scan.specs.declared.Extraction.{Extraction}
 use Rattle.scan.specs.declared.Extraction.the-variants.{Done, Refused}
 use Rattle.print.specs.Answer.{printedRefusal}
-use Rattle.answer_table.specs.Cuts.{Cut}
+use Rattle.writing.specs.Cuts.{Cut}
 use Rattle.answer_table.specs.BoundText.{boundText}
 
 abbrev pub keptPart : Counts → Table → Table

@@ -1,4 +1,3 @@
 -- What the program answers to a contour table and to what extraction gave, by the definitions of the crates below.
-pub mod Cuts
 pub mod BoundText
 pub mod ExtractionText

@@ -5,7 +5,8 @@ use print_lines::Totals;
 use turn::MAX_LINKS;
 ghost use Prim.Native.Nat.{_+_, _*_, _<_, _≤_};
 ghost use lib.ListN.{length};
-ghost use Rattle.writing.specs.Write.{Wrote, IsFront};
+ghost use Rattle.writing.specs.Cuts.{Cut};
+ghost use Rattle.writing.specs.Write.{Wrote};
 ghost use Rattle.print.specs.Room.{answerBytes, refusalBytes, RangesInside, Printable};
 ghost use Rattle.print.specs.Answer.{OwnedTable, pointLines, contourLines, contoursFrom, ownedTable, printed, printedRefusal};
 
@@ -103,7 +104,7 @@ pub fn write_answer(
         (let t : OwnedTable =
         ownedTable (now (points .entry)) (now (first .entry)) (now (len .entry)) (now (kind .entry)) (now (owner .entry)) in
         Wrote (now (out .entry)) (now (out .exit)) 0 r (printed t totals)) ⌝ }
-    ensures { λ r. ⌜ IsFront r (now (out .exit)) ⌝ }
+    ensures { λ r. ⌜ Cut r (now (out .exit)) ⌝ }
 {
     let contours = totals.contours;
     let next = print_lines::write_header(totals, out);
@@ -113,7 +114,7 @@ pub fn write_answer(
 pub fn write_refusal(number: u32, place: usize, out: &mut [u8]) -> usize
     requires { ⌜ refusalBytes ≤ length (now out) ⌝ }
     ensures { λ r. ⌜ Wrote (now (out .entry)) (now (out .exit)) 0 r (printedRefusal number place) ⌝ }
-    ensures { λ r. ⌜ IsFront r (now (out .exit)) ⌝ }
+    ensures { λ r. ⌜ Cut r (now (out .exit)) ⌝ }
 {
     let a = print_text::write_said(b"refused ", number as u64, out, 0);
     let b = print_text::write_said(b" at ", place as u64, out, a);

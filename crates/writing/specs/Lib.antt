@@ -1,3 +1,4 @@
 -- What is written into a lent buffer, leaves first.
+pub mod Cuts
 pub mod Put
 pub mod Write

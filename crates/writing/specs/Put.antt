@@ -65,3 +65,12 @@ module _ {A : Type 0} where
   -- a list is put element by element
   pub put-cons : (l : List A) (i : ℕ) (a : A) (t : List A) → i < length l → put (set l i a) (i + 1) t ≡ put l i (a ∷ t)
   put-cons l i a t h = ap (λ (m : List A). put m (i + 1) t) (set-put l i a h) ∙ put-put l i (a ∷ []) t (omega arith)
+
+  -- a list at the front of another fits it, and cut off it is itself
+  pub front-long : (t l : List A) → length t ≤ length (atFront t l)
+  unfolding put
+  front-long t l = omega (arith, length-append t (drop (0 + length t) l))
+
+  pub front-cut : (n : ℕ) (t l : List A) → length t ≡ n → take n (atFront t l) ≡ t
+  unfolding put
+  front-cut n t l e = take-at t (drop (0 + length t) l) n e

@@ -4,8 +4,8 @@ use mathlib.Core.Path.{_≡_, refl, sym, ap, ap₂, _∙_, subst}
 use mathlib.Core.List.{List, [], _∷_, _++_}
 use native.Mathlib.Nat.{add-assoc, add-zero}
 use native.Mathlib.Omega.{arith}
-use lib.ListN.{length, set, take, length-append}
-use lib.Seq.{length-take-le}
+use lib.ListN.{length, set, drop, length-append}
+use Rattle.writing.specs.Cuts.{Cut, cut}
 use Rattle.writing.specs.Put.{put, put-none, put-put, set-put, length-put}
 
 pub record Wrote (old new : List ℕ) (at after : ℕ) (t : List ℕ) : Type 0 where
@@ -36,15 +36,11 @@ wrote-long {a} {b} {p} {q} {t} h x = ap length (x .bytes) ∙ length-put a p t h
 pub wrote-as : {old new : List ℕ} {at after : ℕ} {t u : List ℕ} → t ≡ u → Wrote old new at after t → Wrote old new at after u
 wrote-as {old} {new} {at} {after} e w = subst (λ (x : List ℕ). Wrote old new at after x) e w
 
--- n counts bytes at the start of l; the second part follows from the first, and is stated so that a caller's `&out[..n]` needs no proof
-abbrev pub IsFront : ℕ → List ℕ → Type 0
-IsFront n l = (n ≤ length l) × (n ≡ length (take n l))
-
-pub is-front : {old new : List ℕ} {next : ℕ} {t : List ℕ} → length t ≤ length old → Wrote old new 0 next t → IsFront next new
-is-front {old} {new} {next} {t} h w =
-    let e = wrote-long {p = 0} (omega arith) w in
-    let k : next ≤ length new = omega (arith, w .next) in
-    (k, sym (length-take-le next new k))
+-- what was written from the start of a buffer may be cut off
+pub wrote-cut : {old new : List ℕ} {next : ℕ} {t : List ℕ} → Wrote old new 0 next t → Cut next new
+unfolding put
+wrote-cut {old} {new} {next} {t} w =
+    cut next new (omega (arith, w .next, ap length (w .bytes), length-append t (drop (0 + length t) old)))
 
 -- ---- writing piece after piece: what is written of `whole`, from `at` on, up to `next`, and what is left of it
 

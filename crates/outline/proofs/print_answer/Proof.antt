@@ -1,5 +1,5 @@
 -- `outline::print_answer` meets its contract: what is written is the front of the buffer.
-use Rattle.outline.proofs.Counted.{wrote-within, wrote-part}
+use Rattle.writing.specs.Write.{wrote-cut}
 use borrow.Author.Needs.{needs}
 use Rattle.outline.proofs.print_answer.Statement.{statement}
 use Rattle.outline.proofs.print_answer.Tie as tie
@@ -8,10 +8,10 @@ answer-requires : tie.Need-answer-requires
 answer-requires c κs = search needs
 
 slice-reshare-prefix-write-all : tie.Need-slice-reshare-prefix-write-all
-slice-reshare-prefix-write-all c = wrote-within (c .before .before .answer .ensures)
+slice-reshare-prefix-write-all c = wrote-cut (c .before .before .answer .ensures) .fits
 
 slice-aggregate-write-all : tie.Need-slice-aggregate-write-all
-slice-aggregate-write-all c = wrote-part (c .before .before .before .answer .ensures)
+slice-aggregate-write-all c = wrote-cut (c .before .before .before .answer .ensures) .long
 
 write-all-requires : tie.Need-write-all-requires
 write-all-requires c κs = search needs

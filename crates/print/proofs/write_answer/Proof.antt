@@ -3,7 +3,7 @@ use native.Mathlib.Nat.{le-trans}
 use native.Mathlib.Omega.{arith}
 use Rattle.print.specs.Answer.{ownedTable, contoursFrom, printed}
 use Rattle.print_lines.specs.Lines.{header}
-use Rattle.writing.specs.Write.{left-from-0, left-after, left-last, piece-fits, last-fits, is-front}
+use Rattle.writing.specs.Write.{left-from-0, left-after, left-last, piece-fits, last-fits, wrote-cut}
 use Rattle.print.proofs.Lengths.{answer-short}
 use borrow.Author.Needs.{needs}
 use Rattle.print.proofs.write_answer.Statement.{statement}
@@ -47,8 +47,7 @@ returns c =
     let w = left-last q (left-after p q l0 (c .before .before .before .before .before .before .write-header
     .ensures)) (c .before .before .write-contours .ensures) in (
       w,
-      is-front (le-trans (answer-short t (a .totals) (s .pre .0) (c .before .before .before .before .before
-          .before .before .before .before .shared-slice-known4 .given)) (s .pre .1)) w,
+      wrote-cut w,
     )
 
 pub write-answer-spec : {M : Type 1} → statement M

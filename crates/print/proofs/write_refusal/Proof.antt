@@ -5,7 +5,7 @@ use Rattle.print.proofs.Lengths.{refusal-short}
 use Rattle.print_text.specs.Text.{text}
 use Rattle.print_text.specs.Decimal.{said}
 use Rattle.print.specs.Answer.{printedRefusal}
-use Rattle.writing.specs.Write.{left-from-0, left-after, left-last, piece-fits, last-fits, is-front}
+use Rattle.writing.specs.Write.{left-from-0, left-after, left-last, piece-fits, last-fits, wrote-cut}
 use borrow.Author.Needs.{needs}
 use Rattle.print.proofs.write_refusal.Statement.{statement}
 use Rattle.print.proofs.write_refusal.Tie as tie
@@ -72,8 +72,7 @@ returns c =
     .before .before .before .before .before .before .before .write-said2 .ensures)) (c .before .before
     .write-text .ensures) in (
       w,
-      is-front (le-trans (refusal-short (a .number) (a .place) (s .fits .number .fits) (s .fits .place .fits))
-          (s .pre)) w,
+      wrote-cut w,
     )
 
 pub write-refusal-spec : {M : Type 1} → statement M
