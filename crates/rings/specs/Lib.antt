@@ -1,4 +1,4 @@
 -- Ends, their order round a node, the ring of a node, and the rules of walking read off it.
 pub mod Ends
-
--- pub mod RingOrder
+pub mod RingOrder
+pub mod Turning
