@@ -2,3 +2,7 @@
 pub mod Ends
 pub mod RingOrder
 pub mod Turning
+pub mod Sorted
+pub mod Rotation
+pub mod Rings
+pub mod NextByRing
