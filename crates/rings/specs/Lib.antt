@@ -6,3 +6,4 @@ pub mod Sorted
 pub mod Rotation
 pub mod Rings
 pub mod NextByRing
+pub mod Linked
