@@ -7,3 +7,5 @@ pub mod Rotation
 pub mod Rings
 pub mod NextByRing
 pub mod Linked
+pub mod Follow
+pub mod RingLoop

@@ -1,9 +1,18 @@
 -- Lists in an order: each element stands before all that follow it. Two such lists of the same elements are equal.
-use Prim.Native.Nat.{ℕ}
+use Prim.Native.Nat.{ℕ, _+_, _≤_, _<_}
+use native.Mathlib.Omega.{arith}
+use native.Mathlib.Decide.{decLe}
 use mathlib.Core.Path.{_≡_, refl, sym, ap₂, _∙_, subst}
 use mathlib.Core.Logic.{⊎-elim}
 use mathlib.Core.List.{List, [], _∷_, _++_, reverse, reverse-cons, List·Memᴰ·head, List·Memᴰ·tail, List·Memᴰ·cases-cons, List·Memᴰ·not-nil}
 use mathlib.Core.List.{Memᴰ·append-left, Memᴰ·append-right, List·Memᴰ·append-cases}
+use mathlib.Core.Bool.{Bool, true, false}
+use lib.Dec.{eqb}
+use lib.ListN.{length, getD}
+use borrow.Author.Tests.{eqb-true}
+use Rattle.laws.specs.Test.{pick}
+use Rattle.laws.specs.Lists.{member}
+use Rattle.laws.specs.Count.{count, counted-in, counted, sum-less, sum-const}
 use Rattle.next.specs.Choice.{Mem}
 
 abbrev pub Order : Type 1
@@ -110,3 +119,24 @@ module _ (R : Order) where
         asym = λ z w n o. s .asym z w (h z n) (h w o);
       } in
       ap₂ _∷_ e (sorted-unique l m (shorter x l s) (p .1) (q .1) (tails x y l m e s p f) (tails y x m l (sym e) t q h))
+
+-- ---- each element stands once, so a list of numbers below n is no longer than n
+module _ (R : Order) where
+  pub sorted-once : (l : List ℕ) → ((x : ℕ) → Mem x l → R x x → ⊥) → Sorted R l → (x : ℕ) → count x l ≤ 1
+  unfolding count
+  sorted-once [] irr p x = omega arith
+  sorted-once (y ∷ l) irr p x = at (eqb y x) refl (sorted-once l (λ z m. irr z (List·Memᴰ·tail m)) (p .1) x) (decLe 1 (count x l))
+    where
+      again : eqb y x ≡ true → Mem x l → ⊥
+      again e m = irr y (List·Memᴰ·head refl) (subst (R y) (sym (eqb-true y x e)) (p .0 x m))
+
+      at : (b : Bool) → eqb y x ≡ b → count x l ≤ 1 → Dec (1 ≤ count x l) → pick b 1 0 + count x l ≤ 1
+      at true e r (yes k) = absurd (again e (counted-in x l k))
+      at true e r (no k) = omega arith
+      at false e r d = omega arith
+
+  pub sorted-short : (l : List ℕ) (n : ℕ) → ((x : ℕ) → Mem x l → R x x → ⊥) → Sorted R l → ((x : ℕ) → Mem x l → x < n) → length l ≤ n
+  sorted-short l n irr p b =
+      let c = counted l n (λ k h. b (getD l k 0) (member 0 l k h)) in
+      let s = sum-less (λ i. count i l) (λ i. 1) n (λ i h. sorted-once l irr p i) in
+      omega (arith, sum-const 1 n)
