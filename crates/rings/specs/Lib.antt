@@ -9,3 +9,4 @@ pub mod NextByRing
 pub mod Linked
 pub mod Follow
 pub mod RingLoop
+pub mod FirstByRing
