@@ -10,3 +10,5 @@ pub mod Linked
 pub mod Follow
 pub mod RingLoop
 pub mod FirstByRing
+pub mod RingTest
+pub mod Examples
