@@ -7,6 +7,7 @@ use Rattle.laws.specs.Test.{pick}
 use Rattle.graph.specs.Graph.{Graph}
 use Rattle.next.specs.Choice.{Mem}
 use Rattle.rings.specs.Ends.{endOf}
+use Rattle.rings.specs.Rings.{Ring}
 use Rattle.rings.specs.Rotation.{after, ahead, onward, roundFrom, split}
 
 -- ---- a fact of neighbours
@@ -21,11 +22,11 @@ abbrev pub AllRound : (ℕ → ℕ → Type 0) → List ℕ → Type 0
 AllRound P [] = Unit
 AllRound P (x ∷ l) = Along P x x l
 
-along-join : (P : ℕ → ℕ → Type 0) (h p x : ℕ) (s t : List ℕ) → Along P x p s → Along P h x t → Along P h p (s ++ (x ∷ t))
+pub along-join : (P : ℕ → ℕ → Type 0) (h p x : ℕ) (s t : List ℕ) → Along P x p s → Along P h x t → Along P h p (s ++ (x ∷ t))
 along-join P h p x [] t a b = (a, b)
 along-join P h p x (y ∷ s) t a b = (a .0, along-join P h y x s t (a .1) b)
 
-along-part : (P : ℕ → ℕ → Type 0) (h p x : ℕ) (s t : List ℕ) → Along P h p (s ++ (x ∷ t)) → Along P x p s × Along P h x t
+pub along-part : (P : ℕ → ℕ → Type 0) (h p x : ℕ) (s t : List ℕ) → Along P h p (s ++ (x ∷ t)) → Along P x p s × Along P h x t
 along-part P h p x [] t a = a
 along-part P h p x (y ∷ s) t a = let r = along-part P h y x s t (a .1) in ((a .0, r .0), r .1)
 
@@ -34,19 +35,26 @@ along-back P h p [] a = a
 along-back P h p (x ∷ l) a =
     subst (Along (λ y z. P z y) p h) (sym (reverse-cons x l)) (along-join (λ y z. P z y) p h x (reverse l) [] (along-back P h x l (a .1)) (a .0))
 
--- all round a list is all round from any of its elements
+-- all round a list is all round it from another place
+pub turned-round : (P : ℕ → ℕ → Type 0) (s t : List ℕ) → AllRound P (s ++ t) → AllRound P (t ++ s)
+turned-round P [] t a = subst (AllRound P) (sym (append-nil t)) a
+turned-round P (x ∷ s) [] a = subst (AllRound P) (append-nil (x ∷ s)) a
+turned-round P (x ∷ s) (y ∷ t) a = let r = along-part P x x y s t a in along-join P y y x t s (r .1) (r .0)
+
 round-onward : (P : ℕ → ℕ → Type 0) (l : List ℕ) (e : ℕ) → Mem e l → AllRound P l → Along P e e (onward e l)
-round-onward P l e m a = by (ahead e l) (subst (AllRound P) (split e l m) a)
-  where
-    by : (s : List ℕ) → AllRound P (s ++ (e ∷ after e l)) → Along P e e (after e l ++ s)
-    by [] b = subst (Along P e e) (sym (append-nil (after e l))) b
-    by (x ∷ s) b = let r = along-part P x x e s (after e l) b in along-join P e e x (after e l) s (r .1) (r .0)
+round-onward P l e m a = turned-round P (ahead e l) (e ∷ after e l) (subst (AllRound P) (split e l m) a)
 
 -- ---- the linked ring
 -- `nxt` and `prv` lead from an end to an end: the code's lists, read at an end, whatever stands in them beside
 pub record Linked (g : Graph) (v : ℕ) (l : List ℕ) (nxt prv : ℕ → ℕ) : Type 0 where
   pub next : AllRound (λ e f. nxt (endOf g v e) ≡ endOf g v f) l
   pub back : AllRound (λ e f. prv (endOf g v f) ≡ endOf g v e) l
+
+-- node v has a ring, and it is linked
+pub record Ringed (g : Graph) (state : List ℕ) (v : ℕ) (nxt prv : ℕ → ℕ) : Type 0 where
+  pub links : List ℕ
+  pub ring : Ring g state v links
+  pub linked : Linked g v links nxt prv
 
 -- a step clockwise goes back, one counterclockwise on
 abbrev pub stepOf : Bool → (ℕ → ℕ) → (ℕ → ℕ) → ℕ → ℕ

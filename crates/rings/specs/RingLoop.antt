@@ -1,9 +1,9 @@
 -- Where the loop over a linked ring starts, and that what it ends with is the next link by rule 3.
-use Prim.Native.Nat.{ℕ, _<_}
+use Prim.Native.Nat.{ℕ, _≤_, _<_}
 use mathlib.Core.Path.{_≡_, refl, sym, ap, _∙_, subst}
 use mathlib.Core.Logic.{⊎-elim}
 use mathlib.Core.Bool.{Bool, true, false}
-use mathlib.Core.List.{List, _∷_, List·Memᴰ·cases-cons}
+use mathlib.Core.List.{List, _∷_, List·Memᴰ·tail, List·Memᴰ·cases-cons}
 use lib.ListN.{length}
 use Rattle.laws.specs.Test.{true-is, true≢false}
 use Rattle.turn.specs.Angular.{irreflexive}
@@ -16,30 +16,45 @@ use Rattle.next.specs.Known.{NamesUnvisited}
 use Rattle.next.specs.States.{is-unvisited}
 use Rattle.next.specs.Choice.{Mem, next-unvisited}
 use Rattle.rings.specs.Ends.{linkOf, endOf, end-link}
-use Rattle.rings.specs.RingOrder.{Spread}
+use Rattle.rings.specs.RingOrder.{Spoke, Spread}
 use Rattle.rings.specs.Sorted.{sorted-short}
 use Rattle.rings.specs.Rotation.{roundFrom, of-round}
 use Rattle.rings.specs.Rings.{Ring, round-met, not-round}
 use Rattle.rings.specs.NextByRing.{Marked, next-by-ring}
-use Rattle.rings.specs.Linked.{Linked, stepOf, linked-round}
+use Rattle.rings.specs.Linked.{Ringed, stepOf, linked-round}
 use Rattle.rings.specs.Follow.{Left, nextEnd, end-once, from-start}
 
--- at a `Cross` whose ring is linked, from a visited link e of it: the answer is the next link
-pub loop-start : {g : Graph} {state : List ℕ} {v n : ℕ} → Spread g state v → ((k : ℕ) → Mem k (g .entries v) → k < n) → (length (g .entries v) ≡ 2 → ⊥)
-    → {l : List ℕ} → Ring g state v l → {nxt prv : ℕ → ℕ} → Linked g v l nxt prv
-    → (st : List ℕ) → Marked g state v st → (e : ℕ) → Mem e l → isUnvisited st e ≡ false
-    → (sense : Bool) → Left g v e (stepOf sense nxt prv) n st (nextLink g sense st v e) (endOf g v e)
-loop-start {g} {state} {v} {n} sp below cross {l} r {nxt} {prv} k st marked e m o sense =
-    subst (λ (a : Next). Left g v e (stepOf sense nxt prv) n st a (endOf g v e)) (sym (next-by-ring sp r cross st marked e m o sense))
-    (from-start g v e (stepOf sense nxt prv) {rest = roundFrom sense e l} (linked-round k e m sense) (not-round sp r e m sense) inside
-    (sorted-short (λ x y. metFirst g sense v e x y ≡ true) (roundFrom sense e l) n
-    (λ x _ t. irreflexive sense (awayFrom g v e) (awayFrom g v x) (true-is t)) (round-met sp r e m sense) (λ x i. of-ring x (of-round sense e l i))))
-  where
-    of-ring : (x : ℕ) → Mem x l → x < n
-    of-ring x i = below x (r .only x i .listed)
+-- at a `Cross` whose ring is linked, from the end of a visited link e of it: the answer is the next link
+module _ {g : Graph} {state : List ℕ} {v n : ℕ} (sp : Spread g state v) (below : (k : ℕ) → Mem k (g .entries v) → k < n)
+    (cross : length (g .entries v) ≡ 2 → ⊥) {nxt prv : ℕ → ℕ} (at-node : Ringed g state v nxt prv)
+    (st : List ℕ) (marked : Marked g state v st) (e : ℕ) (spoke : Spoke g state v e) (visited : isUnvisited st e ≡ false) (sense : Bool) where
+  abbrev l : List ℕ
+  l = at-node .links
 
-    inside : (x : ℕ) → Mem x (e ∷ roundFrom sense e l) → x < n
-    inside x i = ⊎-elim (λ (q : x ≡ e). of-ring x (subst (λ y. Mem y l) (sym q) m)) (λ j. of-ring x (of-round sense e l j)) (List·Memᴰ·cases-cons i)
+  abbrev round : List ℕ
+  round = roundFrom sense e l
+
+  r : Ring g state v l
+  r = at-node .ring
+
+  m : Mem e l
+  m = r .every e spoke
+
+  of-ring : (x : ℕ) → Mem x l → x < n
+  of-ring x i = below x (r .only x i .listed)
+
+  inside : (x : ℕ) → Mem x (e ∷ round) → x < n
+  inside x i =
+      ⊎-elim (λ (q : x ≡ e). of-ring x (subst (λ y. Mem y l) (sym q) m)) (λ j. of-ring x (of-round sense e l j)) (List·Memᴰ·cases-cons i)
+
+  short : length round ≤ n
+  short = sorted-short (λ x y. metFirst g sense v e x y ≡ true) round n
+      (λ x _ t. irreflexive sense (awayFrom g v e) (awayFrom g v x) (true-is t)) (round-met sp r e m sense) (λ x i. inside x (List·Memᴰ·tail i))
+
+  pub loop-start : Left g v e (stepOf sense nxt prv) n st (nextLink g sense st v e) (endOf g v e)
+  loop-start =
+      subst (λ (a : Next). Left g v e (stepOf sense nxt prv) n st a (endOf g v e)) (sym (next-by-ring sp r cross st marked e m visited sense))
+      (from-start g v e (stepOf sense nxt prv) {rest = round} (linked-round (at-node .linked) e m sense) (not-round sp r e m sense) inside short)
 
 -- the end that the loop gives back tells whether there is a next link, and which
 pub at-home : (g : Graph) (sense : Bool) (st : List ℕ) (v e : ℕ) → isUnvisited st e ≡ false
