@@ -12,3 +12,4 @@ pub mod RingLoop
 pub mod FirstByRing
 pub mod RingTest
 pub mod Examples
+pub mod Making

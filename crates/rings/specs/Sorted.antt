@@ -3,7 +3,7 @@ use Prim.Native.Nat.{ℕ, _+_, _≤_, _<_}
 use native.Mathlib.Omega.{arith}
 use native.Mathlib.Decide.{decLe}
 use mathlib.Core.Path.{_≡_, refl, sym, ap₂, _∙_, subst}
-use mathlib.Core.Logic.{⊎-elim}
+use mathlib.Core.Logic.{_⊎_, inl, inr, ⊎-elim}
 use mathlib.Core.List.{List, [], _∷_, _++_, reverse, reverse-cons, List·Memᴰ·head, List·Memᴰ·tail, List·Memᴰ·cases-cons, List·Memᴰ·not-nil}
 use mathlib.Core.List.{Memᴰ·append-left, Memᴰ·append-right, List·Memᴰ·append-cases}
 use mathlib.Core.Bool.{Bool, true, false}
@@ -57,6 +57,17 @@ module _ (R : Order) where
       let r = sorted-parts s t p in
       sorted-append s (q ∷ t) (r .left) (ht, r .right)
       (λ x m y n. ⊎-elim (λ (e : y ≡ q). subst (R x) (sym e) (hs x m)) (λ k. r .between x m y k) (List·Memᴰ·cases-cons n))
+
+-- of two different elements one stands before the other
+pub sorted-two : (R : Order) (l : List ℕ) → Sorted R l → (x y : ℕ) → Mem x l → Mem y l → (x ≡ y → ⊥) → R x y ⊎ R y x
+sorted-two R [] p x y m n d = absurd (List·Memᴰ·not-nil m)
+sorted-two R (z ∷ l) p x y m n d = by (List·Memᴰ·cases-cons m) (List·Memᴰ·cases-cons n) (λ i j. sorted-two R l (p .1) x y i j d)
+  where
+    by : (x ≡ z) ⊎ Mem x l → (y ≡ z) ⊎ Mem y l → (Mem x l → Mem y l → R x y ⊎ R y x) → R x y ⊎ R y x
+    by (inl e) (inl f) rest = absurd (d (e ∙ sym f))
+    by (inl e) (inr j) rest = inl (subst (λ w. R w y) (sym e) (p .0 y j))
+    by (inr i) (inl f) rest = inr (subst (λ w. R w x) (sym f) (p .0 x i))
+    by (inr i) (inr j) rest = rest i j
 
 -- ---- the order of another
 pub sorted-by : (R S : Order) (l : List ℕ) → ((x y : ℕ) → Mem x l → Mem y l → R x y → S x y) → Sorted R l → Sorted S l
