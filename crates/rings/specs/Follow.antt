@@ -17,7 +17,7 @@ use Rattle.next.specs.Next.{isUnvisited}
 use Rattle.next.specs.Choice.{Mem}
 use Rattle.rings.specs.Ends.{linkOf, endOf, startsAt, aEnd, bEnd, end-link}
 use Rattle.rings.specs.Rotation.{firstUnvisited, first-found, first-later}
-use Rattle.rings.specs.Linked.{Along}
+use Rattle.rings.specs.Linked.{Along, Leads}
 
 -- the end that a walk goes on from, where it arrives at end `home` of node v: that of the next link, or `home` where there is none
 abbrev pub nextEnd : Graph → ℕ → ℕ → Next → ℕ
@@ -125,7 +125,7 @@ module _ (g : Graph) (v e : ℕ) (step : ℕ → ℕ) where
           omega arith
 
   -- ---- the start: at e's own end, with all of the round before it
-  pub from-start : {n : ℕ} {st rest : List ℕ} → Along (λ x y. step (endOf g v x) ≡ endOf g v y) e e rest → ((x : ℕ) → Mem x rest → x ≡ e → ⊥)
+  pub from-start : {n : ℕ} {st rest : List ℕ} → Along (Leads g v step) e e rest → ((x : ℕ) → Mem x rest → x ≡ e → ⊥)
       → ((x : ℕ) → Mem x (e ∷ rest) → x < n) → length rest ≤ n → Left n st (firstUnvisited st rest) (endOf g v e)
   from-start {n} {st} {rest} a o b s = record {
     here = end-below g v e n (b e (List·Memᴰ·head refl));
@@ -137,6 +137,6 @@ module _ (g : Graph) (v e : ℕ) (step : ℕ → ℕ) where
     is = refl;
   }
     where
-      along : (p : ℕ) (l : List ℕ) → Along (λ x y. step (endOf g v x) ≡ endOf g v y) e p l → Follows (endOf g v p) l
+      along : (p : ℕ) (l : List ℕ) → Along (Leads g v step) e p l → Follows (endOf g v p) l
       along p [] a = a
       along p (x ∷ l) a = (a .0, along x l (a .1))

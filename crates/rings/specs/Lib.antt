@@ -13,3 +13,6 @@ pub mod FirstByRing
 pub mod RingTest
 pub mod Examples
 pub mod Making
+pub mod Linking
+pub mod LinkOne
+pub mod Climb

@@ -45,10 +45,15 @@ round-onward : (P : ℕ → ℕ → Type 0) (l : List ℕ) (e : ℕ) → Mem e l
 round-onward P l e m a = turned-round P (ahead e l) (e ∷ after e l) (subst (AllRound P) (split e l m) a)
 
 -- ---- the linked ring
--- `nxt` and `prv` lead from an end to an end: the code's lists, read at an end, whatever stands in them beside
+-- `nxt` and `prv` lead from an end to an end: the code's lists, read at an end, whatever stands in them beside.
+-- At node v e's end leads to f's
+abbrev pub Leads : Graph → ℕ → (ℕ → ℕ) → ℕ → ℕ → Type 0
+Leads g v to e f = to (endOf g v e) ≡ endOf g v f
+
+-- `nxt` leads from each link to the next, round the ring's end, and `prv` back
 pub record Linked (g : Graph) (v : ℕ) (l : List ℕ) (nxt prv : ℕ → ℕ) : Type 0 where
-  pub next : AllRound (λ e f. nxt (endOf g v e) ≡ endOf g v f) l
-  pub back : AllRound (λ e f. prv (endOf g v f) ≡ endOf g v e) l
+  pub next : AllRound (Leads g v nxt) l
+  pub back : AllRound (λ e f. Leads g v prv f e) l
 
 -- node v has a ring, and it is linked
 pub record Ringed (g : Graph) (state : List ℕ) (v : ℕ) (nxt prv : ℕ → ℕ) : Type 0 where
@@ -61,7 +66,7 @@ abbrev pub stepOf : Bool → (ℕ → ℕ) → (ℕ → ℕ) → ℕ → ℕ
 stepOf sense nxt prv = pick sense prv nxt
 
 pub linked-round : {g : Graph} {v : ℕ} {l : List ℕ} {nxt prv : ℕ → ℕ} → Linked g v l nxt prv → (e : ℕ) → Mem e l → (sense : Bool)
-    → Along (λ x y. stepOf sense nxt prv (endOf g v x) ≡ endOf g v y) e e (roundFrom sense e l)
-linked-round {g} {v} {l} {nxt} {prv} k e m false = round-onward (λ x y. nxt (endOf g v x) ≡ endOf g v y) l e m (k .next)
-linked-round {g} {v} {l} {nxt} {prv} k e m true =
-    along-back (λ x y. prv (endOf g v y) ≡ endOf g v x) e e (onward e l) (round-onward (λ x y. prv (endOf g v y) ≡ endOf g v x) l e m (k .back))
+    → Along (Leads g v (stepOf sense nxt prv)) e e (roundFrom sense e l)
+linked-round {g} {v} {l} {nxt} k e m false = round-onward (Leads g v nxt) l e m (k .next)
+linked-round {g} {v} {l} {prv = prv} k e m true =
+    along-back (λ x y. Leads g v prv y x) e e (onward e l) (round-onward (λ x y. Leads g v prv y x) l e m (k .back))

@@ -13,7 +13,7 @@ use Rattle.next.specs.Next.{metFirst}
 use Rattle.next.specs.Choice.{Mem}
 use Rattle.rings.specs.RingOrder.{ringBefore, Forward, Spoke, Spread, ring-irreflexive, ring-asymmetric}
 use Rattle.rings.specs.Turning.{met-from-first, met-from-second, met-from-third, met-reversed}
-use Rattle.rings.specs.Sorted.{Sorted, Parts, Strict, sorted-append, sorted-parts, sorted-by, sorted-reverse, sorted-unique, of-reverse}
+use Rattle.rings.specs.Sorted.{Sorted, Parts, Strict, Once, sorted-once, sorted-append, sorted-parts, sorted-by, sorted-reverse, sorted-unique, of-reverse}
 use Rattle.rings.specs.Rotation.{after, ahead, onward, roundFrom, split, of-after, of-ahead, of-onward, parted}
 
 -- link e stands before link f at node v, as a fact
@@ -40,6 +40,10 @@ module _ {g : Graph} {state : List ℕ} {v : ℕ} (sp : Spread g state v) where
   pub ring-unique : (l m : List ℕ) → Ring g state v l → Ring g state v m → l ≡ m
   ring-unique l m r s =
       sorted-unique (InOrder g v) l m (ring-strict r) (r .sorted) (s .sorted) (λ k i. s .every k (r .only k i)) (λ k i. r .every k (s .only k i))
+
+  -- no link stands in it twice
+  pub ring-once : (l : List ℕ) → Ring g state v l → Once l
+  ring-once l r = sorted-once (InOrder g v) l (ring-strict r .irr) (r .sorted)
 
   -- ---- read round from a link e of it
   module _ {l : List ℕ} (r : Ring g state v l) (e : ℕ) (m : Mem e l) where

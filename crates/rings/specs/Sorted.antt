@@ -132,8 +132,11 @@ module _ (R : Order) where
       ap₂ _∷_ e (sorted-unique l m (shorter x l s) (p .1) (q .1) (tails x y l m e s p f) (tails y x m l (sym e) t q h))
 
 -- ---- each element stands once, so a list of numbers below n is no longer than n
+abbrev pub Once : List ℕ → Type 0
+Once l = (x : ℕ) → count x l ≤ 1
+
 module _ (R : Order) where
-  pub sorted-once : (l : List ℕ) → ((x : ℕ) → Mem x l → R x x → ⊥) → Sorted R l → (x : ℕ) → count x l ≤ 1
+  pub sorted-once : (l : List ℕ) → ((x : ℕ) → Mem x l → R x x → ⊥) → Sorted R l → Once l
   unfolding count
   sorted-once [] irr p x = omega arith
   sorted-once (y ∷ l) irr p x = at (eqb y x) refl (sorted-once l (λ z m. irr z (List·Memᴰ·tail m)) (p .1) x) (decLe 1 (count x l))
