@@ -16,3 +16,4 @@ pub mod Making
 pub mod Linking
 pub mod LinkOne
 pub mod Climb
+pub mod FirstLoop
