@@ -12,10 +12,9 @@ use Rattle.next.specs.declared.Next.{Next}
 use Rattle.next.specs.declared.Next.the-variants.{Link}
 use Rattle.next.specs.Next.{isUnvisited}
 use Rattle.next.specs.Choice.{Mem}
-use Rattle.rings.specs.Ends.{linkOf, endOf, end-link}
+use Rattle.rings.specs.Ends.{linkOf, endOf, end-link, end-below}
 use Rattle.rings.specs.Rotation.{after, ahead, split, firstUnvisited, lastUnvisited}
 use Rattle.rings.specs.Linked.{Along, AllRound, along-part, Leads}
-use Rattle.rings.specs.Follow.{end-below}
 
 -- c, or the last unvisited link of a list
 abbrev pub lastOr : List ℕ → ℕ → List ℕ → ℕ

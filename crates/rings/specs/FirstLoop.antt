@@ -10,14 +10,13 @@ use Rattle.graph.specs.Graph.{Graph}
 use Rattle.graph.specs.Fine.{FineLinks, FineLists, OnePoint}
 use Rattle.next.specs.Next.{isUnvisited, firstLink}
 use Rattle.next.specs.Choice.{Mem}
-use Rattle.rings.specs.Ends.{aEnd, bEnd, endOf}
+use Rattle.rings.specs.Ends.{aEnd, bEnd, endOf, end-below}
 use Rattle.rings.specs.RingOrder.{Spread, ring-irreflexive}
 use Rattle.rings.specs.Sorted.{Sorted, sorted-short, sorted-parts}
 use Rattle.rings.specs.Rotation.{after, ahead, split, of-after}
 use Rattle.rings.specs.Rings.{InOrder, Ring}
 use Rattle.rings.specs.NextByRing.{Marked}
 use Rattle.rings.specs.Linked.{Ringed}
-use Rattle.rings.specs.Follow.{end-below}
 use Rattle.rings.specs.FirstByRing.{first-by-ring, none-ends}
 use Rattle.rings.specs.Climb.{AtLast, Above, last-from, climb-start}
 

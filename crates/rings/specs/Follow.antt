@@ -3,23 +3,22 @@ use Prim.Native.Nat.{ℕ, zero, suc, _+_, _*_, _≤_, _<_}
 use native.Mathlib.Nat.{not-suc-le-zero, le-of-suc-le-suc}
 use native.Mathlib.Omega.{arith}
 use mathlib.Core.Path.{_≡_, refl, sym, ap, _∙_, subst}
-use mathlib.Core.Logic.{⊎-elim}
 use mathlib.Core.Bool.{Bool, true, false}
-use mathlib.Core.List.{List, [], _∷_, List·Memᴰ·head, List·Memᴰ·tail, List·Memᴰ·cases-cons}
+use mathlib.Core.List.{List, [], _∷_, List·Memᴰ·head, List·Memᴰ·tail}
 use lib.Dec.{eqb}
 use lib.ListN.{length}
 use borrow.Author.Tests.{eq-eqb, ne-eqb}
-use Rattle.laws.specs.Test.{pick, pick-true, pick-false, pick-ind}
+use Rattle.laws.specs.Test.{pick, pick-true, pick-false}
 use Rattle.graph.specs.Graph.{Graph}
 use Rattle.next.specs.declared.Next.{Next}
 use Rattle.next.specs.declared.Next.the-variants.{Link, Nothing}
 use Rattle.next.specs.Next.{isUnvisited}
 use Rattle.next.specs.Choice.{Mem}
-use Rattle.rings.specs.Ends.{linkOf, endOf, startsAt, aEnd, bEnd, end-link}
+use Rattle.rings.specs.Ends.{linkOf, endOf, end-link, end-once, end-below}
 use Rattle.rings.specs.Rotation.{firstUnvisited, first-found, first-later}
 use Rattle.rings.specs.Linked.{Along, Leads}
 
--- the end that a walk goes on from, where it arrives at end `home` of node v: that of the next link, or `home` where there is none
+-- where a walk that arrives at end `home` of node v goes on: the next link's end there, or `home` where there is none
 abbrev pub nextEnd : Graph → ℕ → ℕ → Next → ℕ
 nextEnd g v home Nothing = home
 nextEnd g v home (Link k) = endOf g v k
@@ -29,26 +28,24 @@ abbrev pub toGo : (ℕ → ℕ) → ℕ → ℕ → ℕ → ℕ
 toGo step home zero at = 0
 toGo step home (suc n) at = pick (eqb (step at) home) 0 (suc (toGo step home n (step at)))
 
--- a link of n has its end below 2 n, and two links have two ends
-pub end-below : (g : Graph) (v k n : ℕ) → k < n → endOf g v k < 2 * n
-end-below g v k n l = pick-ind (startsAt g v k) (aEnd k) (bEnd k) (λ h. h < 2 * n) (λ _. omega arith) (λ _. omega arith)
+-- the ends at node v of some links are not `home`
+abbrev Others : Graph → ℕ → ℕ → List ℕ → Type 0
+Others g v home l = (x : ℕ) → Mem x l → endOf g v x ≡ home → ⊥
 
-pub end-once : (g : Graph) (v j k : ℕ) → endOf g v j ≡ endOf g v k → j ≡ k
-end-once g v j k q = sym (end-link g v j) ∙ ap linkOf q ∙ end-link g v k
-
-module _ (g : Graph) (v e : ℕ) (step : ℕ → ℕ) where
-  -- from end `at` the steps lead along the ends of `rest`, and then to e's own
+module _ (g : Graph) (v home : ℕ) (step : ℕ → ℕ) where
+  -- from end `at` the steps lead along the ends of `rest`, and then home
   abbrev Follows : ℕ → List ℕ → Type 0
-  Follows at [] = step at ≡ endOf g v e
+  Follows at [] = step at ≡ home
   Follows at (x ∷ rest) = (step at ≡ endOf g v x) × Follows (endOf g v x) rest
 
-  -- what the loop knows at end `at`, of n links: `rest` is what is left of the ring up to e; its first unvisited link is the answer
+  -- What the loop knows at end `at`, of n links: `rest` is what is left of the ring on the way home, and its first unvisited link is the answer.
   pub record Left (n : ℕ) (st : List ℕ) (answer : Next) (at : ℕ) : Type 0 where
     pub here : at < 2 * n
+    pub at-home : home < 2 * n
     pub rest : List ℕ
     pub follows : Follows at rest
-    pub others : (x : ℕ) → Mem x rest → x ≡ e → ⊥
-    pub below : (x : ℕ) → Mem x (e ∷ rest) → x < n
+    pub others : Others g v home rest
+    pub below : (x : ℕ) → Mem x rest → x < n
     pub short : length rest ≤ n
     pub is : firstUnvisited st rest ≡ answer
 
@@ -57,86 +54,85 @@ module _ (g : Graph) (v e : ℕ) (step : ℕ → ℕ) where
     pub step-below : Left n st answer at → step at < 2 * n
     step-below k = by (k .rest) (k .follows) (k .below)
       where
-        by : (rest : List ℕ) → Follows at rest → ((x : ℕ) → Mem x (e ∷ rest) → x < n) → step at < 2 * n
-        by [] f b = subst (λ h. h < 2 * n) (sym f) (end-below g v e n (b e (List·Memᴰ·head refl)))
-        by (x ∷ rest) f b = subst (λ h. h < 2 * n) (sym (f .0)) (end-below g v x n (b x (List·Memᴰ·tail (List·Memᴰ·head refl))))
+        by : (rest : List ℕ) → Follows at rest → ((x : ℕ) → Mem x rest → x < n) → step at < 2 * n
+        by [] f b = subst (λ h. h < 2 * n) (sym f) (k .at-home)
+        by (x ∷ rest) f b = subst (λ h. h < 2 * n) (sym (f .0)) (end-below g v x n (b x (List·Memᴰ·head refl)))
 
-    -- back at e: there is none
-    pub came-back : Left n st answer at → step at ≡ endOf g v e → endOf g v e ≡ nextEnd g v (endOf g v e) answer
+    -- it leads home: there is none
+    pub came-back : Left n st answer at → step at ≡ home → home ≡ nextEnd g v home answer
     came-back k q = by (k .rest) (k .follows) (k .others) (k .is)
       where
-        by : (rest : List ℕ) → Follows at rest → ((x : ℕ) → Mem x rest → x ≡ e → ⊥) → firstUnvisited st rest ≡ answer
-            → endOf g v e ≡ nextEnd g v (endOf g v e) answer
-        by [] f o i = ap (nextEnd g v (endOf g v e)) i
-        by (x ∷ rest) f o i = absurd (o x (List·Memᴰ·head refl) (end-once g v x e (sym (f .0) ∙ q)))
+        by : (rest : List ℕ) → Follows at rest → Others g v home rest → firstUnvisited st rest ≡ answer → home ≡ nextEnd g v home answer
+        by [] f o i = ap (nextEnd g v home) i
+        by (x ∷ rest) f o i = absurd (o x (List·Memᴰ·head refl) (sym (f .0) ∙ q))
 
-    -- at an unvisited link: it is the answer
-    pub found : Left n st answer at → (step at ≡ endOf g v e → ⊥) → isUnvisited st (linkOf (step at)) ≡ true
-        → step at ≡ nextEnd g v (endOf g v e) answer
+    -- to an unvisited link: it is the answer
+    pub found : Left n st answer at → (step at ≡ home → ⊥) → isUnvisited st (linkOf (step at)) ≡ true → step at ≡ nextEnd g v home answer
     found k d t = by (k .rest) (k .follows) (k .is)
       where
-        by : (rest : List ℕ) → Follows at rest → firstUnvisited st rest ≡ answer → step at ≡ nextEnd g v (endOf g v e) answer
+        by : (rest : List ℕ) → Follows at rest → firstUnvisited st rest ≡ answer → step at ≡ nextEnd g v home answer
         by [] f i = absurd (d f)
         by (x ∷ rest) f i =
             let o : isUnvisited st x ≡ true = subst (λ y. isUnvisited st y ≡ true) (ap linkOf (f .0) ∙ end-link g v x) t in
-            f .0 ∙ ap (nextEnd g v (endOf g v e)) (sym (first-found st x rest o) ∙ i)
+            f .0 ∙ ap (nextEnd g v home) (sym (first-found st x rest o) ∙ i)
 
-    -- past a visited link: it goes on, with less to go
-    pub passed : Left n st answer at → (step at ≡ endOf g v e → ⊥) → isUnvisited st (linkOf (step at)) ≡ false → Left n st answer (step at)
+    -- to a visited one: the loop goes on from there
+    pub passed : Left n st answer at → (step at ≡ home → ⊥) → isUnvisited st (linkOf (step at)) ≡ false → Left n st answer (step at)
     passed k d t = by (k .rest) (k .follows) (k .others) (k .below) (k .short) (k .is)
       where
-        by : (rest : List ℕ) → Follows at rest → ((x : ℕ) → Mem x rest → x ≡ e → ⊥) → ((x : ℕ) → Mem x (e ∷ rest) → x < n)
-            → length rest ≤ n → firstUnvisited st rest ≡ answer → Left n st answer (step at)
+        by : (rest : List ℕ) → Follows at rest → Others g v home rest → ((x : ℕ) → Mem x rest → x < n) → length rest ≤ n
+            → firstUnvisited st rest ≡ answer → Left n st answer (step at)
         by [] f o b s i = absurd (d f)
         by (x ∷ rest) f o b s i =
             let u : isUnvisited st x ≡ false = subst (λ y. isUnvisited st y ≡ false) (ap linkOf (f .0) ∙ end-link g v x) t in
             record {
               here = step-below k;
+              at-home = k .at-home;
               rest = rest;
               follows = subst (λ h. Follows h rest) (sym (f .0)) (f .1);
               others = λ y m. o y (List·Memᴰ·tail m);
-              below = λ y m. b y (⊎-elim List·Memᴰ·head (λ j. List·Memᴰ·tail (List·Memᴰ·tail j)) (List·Memᴰ·cases-cons m));
+              below = λ y m. b y (List·Memᴰ·tail m);
               short = omega arith;
               is = sym (first-later st x rest u) ∙ i;
             }
 
   -- ---- the measure is the length of what is left
-  to-go : (n at : ℕ) (rest : List ℕ) → Follows at rest → ((x : ℕ) → Mem x rest → x ≡ e → ⊥) → length rest ≤ n
-      → toGo step (endOf g v e) n at ≡ length rest
+  to-go : (n at : ℕ) (rest : List ℕ) → Follows at rest → Others g v home rest → length rest ≤ n → toGo step home n at ≡ length rest
   to-go zero at [] f o s = refl
   to-go zero at (x ∷ rest) f o s = absurd (not-suc-le-zero s)
-  to-go (suc n) at [] f o s = pick-true 0 (suc (toGo step (endOf g v e) n (step at))) (eq-eqb (step at) (endOf g v e) f)
+  to-go (suc n) at [] f o s = pick-true 0 (suc (toGo step home n (step at))) (eq-eqb (step at) home f)
   to-go (suc n) at (x ∷ rest) f o s =
-      pick-false 0 (suc (toGo step (endOf g v e) n (step at)))
-      (ne-eqb (step at) (endOf g v e) (λ q. o x (List·Memᴰ·head refl) (end-once g v x e (sym (f .0) ∙ q))))
-      ∙ ap (λ (h : ℕ). suc (toGo step (endOf g v e) n h)) (f .0)
+      pick-false 0 (suc (toGo step home n (step at))) (ne-eqb (step at) home (λ q. o x (List·Memᴰ·head refl) (sym (f .0) ∙ q)))
+      ∙ ap (λ (h : ℕ). suc (toGo step home n h)) (f .0)
       ∙ ap suc (to-go n (endOf g v x) rest (f .1) (λ y m. o y (List·Memᴰ·tail m)) (le-of-suc-le-suc s))
 
-  pub nearer : {n : ℕ} {st : List ℕ} {answer : Next} {at : ℕ} → Left n st answer at → (step at ≡ endOf g v e → ⊥)
-      → toGo step (endOf g v e) n (step at) < toGo step (endOf g v e) n at
+  pub nearer : {n : ℕ} {st : List ℕ} {answer : Next} {at : ℕ} → Left n st answer at → (step at ≡ home → ⊥)
+      → toGo step home n (step at) < toGo step home n at
   nearer {n} {at = at} k d = by (k .rest) (k .follows) (k .others) (k .short)
     where
-      by : (rest : List ℕ) → Follows at rest → ((x : ℕ) → Mem x rest → x ≡ e → ⊥) → length rest ≤ n
-          → toGo step (endOf g v e) n (step at) < toGo step (endOf g v e) n at
+      by : (rest : List ℕ) → Follows at rest → Others g v home rest → length rest ≤ n → toGo step home n (step at) < toGo step home n at
       by [] f o s = absurd (d f)
       by (x ∷ rest) f o s =
           let a = to-go n at (x ∷ rest) f o s in
           let b = to-go n (step at) rest (subst (λ h. Follows h rest) (sym (f .0)) (f .1)) (λ y m. o y (List·Memᴰ·tail m)) (omega arith) in
           omega arith
 
-  -- ---- the start: at e's own end, with all of the round before it
-  pub from-start : {n : ℕ} {st rest : List ℕ} → Along (Leads g v step) e e rest → ((x : ℕ) → Mem x rest → x ≡ e → ⊥)
-      → ((x : ℕ) → Mem x (e ∷ rest) → x < n) → length rest ≤ n → Left n st (firstUnvisited st rest) (endOf g v e)
-  from-start {n} {st} {rest} a o b s = record {
-    here = end-below g v e n (b e (List·Memᴰ·head refl));
-    rest = rest;
-    follows = along e rest a;
-    others = o;
-    below = b;
-    short = s;
-    is = refl;
-  }
+  -- ---- the start: home is the end of a link e, and all of the round from e is left
+  pub from-start : (e : ℕ) → endOf g v e ≡ home → {n : ℕ} {st rest : List ℕ} → Along (Leads g v step) e e rest → ((x : ℕ) → Mem x rest → x ≡ e → ⊥)
+      → e < n → ((x : ℕ) → Mem x rest → x < n) → length rest ≤ n → Left n st (firstUnvisited st rest) home
+  from-start e is-home {n} {st} {rest} a o en b s =
+      let h : home < 2 * n = subst (λ h. h < 2 * n) is-home (end-below g v e n en) in
+      record {
+        here = h;
+        at-home = h;
+        rest = rest;
+        follows = subst (λ h. Follows h rest) is-home (along e rest a);
+        others = λ x m q. o x m (end-once g v x e (q ∙ sym is-home));
+        below = b;
+        short = s;
+        is = refl;
+      }
     where
       along : (p : ℕ) (l : List ℕ) → Along (Leads g v step) e p l → Follows (endOf g v p) l
-      along p [] a = a
+      along p [] a = a ∙ is-home
       along p (x ∷ l) a = (a .0, along x l (a .1))
