@@ -9,7 +9,6 @@ use Rattle.laws.specs.Count.{count}
 use Rattle.turn.specs.declared.Checked.the-variants.{Fine}
 use Rattle.graph.specs.Graph.{Lent, lent, Graph, graphOf}
 use Rattle.graph.specs.Checks.{room, nodesChecked, eachChecked, linksChecked, checked}
-use Rattle.next.specs.declared.Next.{Next}
 use Rattle.next.specs.declared.Next.the-variants.{Link, Nothing}
 use Rattle.next.specs.Next.{nextLink, firstLink}
 use Rattle.rings.specs.Ends.{endOf}

@@ -1,6 +1,6 @@
 -- Rule 1 by the ring: at a `Cross` where no unvisited link ends, as at the scan's, the first link is the last unvisited one of the ring.
 use Prim.Native.Nat.{ℕ, _≤_, _<_}
-use mathlib.Core.Path.{_≡_, refl, sym, ap, ap₂, _∙_, subst}
+use mathlib.Core.Path.{_≡_, refl, sym, ap, _∙_, subst}
 use mathlib.Core.Logic.{_⊎_, inl, inr, ⊎-elim}
 use mathlib.Core.Bool.{Bool, true, false}
 use mathlib.Core.List.{List, [], _∷_, reverse, List·Memᴰ·head, List·Memᴰ·tail, List·Memᴰ·cases-cons, List·Memᴰ·not-nil}
@@ -12,15 +12,14 @@ use Rattle.laws.specs.Test.{pick, true≢false}
 use Rattle.turn.specs.declared.Point.{Point}
 use Rattle.turn.specs.Points.{before, fromTo, cross}
 use Rattle.graph.specs.Graph.{Graph}
-use Rattle.graph.specs.Checks.{awayFrom}
 use Rattle.graph.specs.Fine.{FineLinks, FineLists, OnePoint}
 use Rattle.next.specs.declared.Next.the-variants.{Link}
 use Rattle.next.specs.Next.{isUnvisited, topmost, firstLink}
 use Rattle.next.specs.Choice.{Mem}
 use Rattle.next.specs.Topmost.{Starts, Topmost, counterclockwise, first-at-cross, first-among, first-topmost}
 use Rattle.rings.specs.Ends.{startsAt}
-use Rattle.rings.specs.RingOrder.{inTurn, ringBefore}
-use Rattle.rings.specs.Sorted.{Order, Sorted, of-reverse, in-reverse, sorted-by, sorted-reverse}
+use Rattle.rings.specs.RingOrder.{inTurn}
+use Rattle.rings.specs.Sorted.{Order, Sorted, of-reverse, in-reverse, sorted-reverse}
 use Rattle.rings.specs.Rotation.{firstUnvisited, lastUnvisited, first-found, first-later}
 use Rattle.rings.specs.Rings.{InOrder, Ring}
 use Rattle.rings.specs.NextByRing.{Marked}

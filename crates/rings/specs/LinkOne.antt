@@ -1,5 +1,5 @@
 -- One more end is put between two neighbours of a linked ring, by four stores: after the last, before the first, or between two others.
-use Prim.Native.Nat.{ℕ, _+_, _≤_}
+use Prim.Native.Nat.{ℕ, _≤_}
 use native.Mathlib.Omega.{arith}
 use mathlib.Core.Path.{_≡_, refl, sym, ap, _∙_, subst}
 use mathlib.Core.Logic.{⊎-elim}
@@ -11,7 +11,7 @@ use Rattle.graph.specs.Graph.{Graph}
 use Rattle.next.specs.Choice.{Mem}
 use Rattle.rings.specs.Ends.{endOf}
 use Rattle.rings.specs.Sorted.{Once}
-use Rattle.rings.specs.Linked.{Along, AllRound, along-join, along-part, turned-round, Leads, Linked}
+use Rattle.rings.specs.Linked.{along-join, along-part, turned-round, Leads, Linked}
 use Rattle.rings.specs.Linking.{along-kept}
 
 -- a link alone is its own neighbour

@@ -6,15 +6,14 @@ use mathlib.Core.Logic.{⊎-elim}
 use mathlib.Core.Bool.{Bool, true, false}
 use mathlib.Core.List.{List, [], _∷_, List·Memᴰ·head, List·Memᴰ·tail, List·Memᴰ·cases-cons, List·Memᴰ·not-nil}
 use lib.ListN.{length, getD}
-use Rattle.laws.specs.Test.{Is, is-true, true-is, true≢false}
+use Rattle.laws.specs.Test.{Is, true-is, true≢false}
 use Rattle.turn.specs.Angular.{irreflexive, transitive}
 use Rattle.graph.specs.Graph.{Graph}
 use Rattle.graph.specs.Checks.{awayFrom}
-use Rattle.next.specs.declared.Next.{Next}
 use Rattle.next.specs.declared.Next.the-variants.{Link, Nothing}
 use Rattle.next.specs.Next.{isUnvisited, unvisitedIn, metFirst, best, firstMet, nextLink}
 use Rattle.next.specs.Choice.{Mem, unvisited-in-in, unvisited-in-of, first-met, next-met}
-use Rattle.rings.specs.RingOrder.{Spoke, Spread}
+use Rattle.rings.specs.RingOrder.{Spread}
 use Rattle.rings.specs.Sorted.{Sorted}
 use Rattle.rings.specs.Rotation.{roundFrom, firstUnvisited, of-round, in-round, first-found, first-later}
 use Rattle.rings.specs.Rings.{Ring, round-met}

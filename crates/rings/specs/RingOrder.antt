@@ -1,17 +1,16 @@
 -- The ring order of the links at a node: those that end there (b), counterclockwise, then those that start there (a), counterclockwise.
 -- Since a is before b, it is the order by angle, counterclockwise from just after straight up to straight up itself, a full turn.
 use Prim.Native.Nat.{ℕ}
-use mathlib.Core.Path.{_≡_, refl, sym, ap, ap₂, _∙_, subst}
+use mathlib.Core.Path.{_≡_, refl, sym, ap, ap₂, _∙_}
 use mathlib.Core.Logic.{_⊎_, inl, inr, ⊎-elim}
 use mathlib.Core.Bool.{Bool, true, false, not, _&&_}
 use mathlib.Core.List.{List, [], _∷_}
-use lib.IntN.{ℤ, pos, negℤ, _-ℤ_, _*ℤ_}
+use lib.IntN.{ℤ, pos, negℤ, _-ℤ_}
 use lib.ListN.{getD}
 use lib.Signed.{ltZ}
-use Rattle.laws.specs.Test.{pick-ind, Is, yes!, is-true, true-is, true≢false, not-true, _⇒_, _⇔_, ⇔-eq, mp}
+use Rattle.laws.specs.Test.{pick-ind, Is, yes!, is-true, true-is, true≢false, _⇒_, _⇔_, ⇔-eq, mp}
 use Rattle.laws.specs.Ring.{ring, var, con, _:+_, _:-_, _:*_, neg}
 use Rattle.laws.specs.Sign.{Sgn, mns, zer, pls, sgn, flip, _⊗_, eqS, plusOk, all6, sgn-neg, gtZ-sgn}
-use Rattle.turn.specs.declared.Point.{Point}
 use Rattle.turn.specs.declared.Vector.{Vector}
 use Rattle.turn.specs.Points.{before, fromTo, cross, dot}
 use Rattle.turn.specs.Angle.{halfTurn, sooner, metBefore, sameDirection, nonzero}

@@ -1,8 +1,7 @@
 -- Whether a list is the ring of a node, as a test.
-use Prim.Native.Nat.{ℕ, _≤_}
-use native.Mathlib.Decide.{decLe}
-use mathlib.Core.Path.{_≡_, refl, sym, ap, _∙_, subst}
-use mathlib.Core.Logic.{_⊎_, inl, inr, ⊎-elim}
+use Prim.Native.Nat.{ℕ}
+use mathlib.Core.Path.{_≡_, refl, sym, subst}
+use mathlib.Core.Logic.{⊎-elim}
 use mathlib.Core.Bool.{Bool, true, false, not, _&&_, _||_}
 use mathlib.Core.List.{List, [], _∷_, List·Memᴰ·head, List·Memᴰ·tail, List·Memᴰ·cases-cons, List·Memᴰ·not-nil}
 use lib.Dec.{eqb}
@@ -11,9 +10,9 @@ use Rattle.laws.specs.Test.{true≢false, not-is, and-true, or-true}
 use Rattle.graph.specs.Graph.{Graph}
 use Rattle.graph.specs.Checks.{skipped}
 use Rattle.next.specs.Choice.{Mem}
-use Rattle.rings.specs.RingOrder.{ringBefore, Spoke}
+use Rattle.rings.specs.RingOrder.{ringBefore}
 use Rattle.rings.specs.Sorted.{Sorted}
-use Rattle.rings.specs.Rings.{InOrder, Ring}
+use Rattle.rings.specs.Rings.{Ring}
 
 -- a test passes at each element of a list; x is one of them; each stands before all that follow it
 abbrev pub each : (ℕ → Bool) → List ℕ → Bool

@@ -3,7 +3,7 @@ use Prim.Native.Nat.{ℕ}
 use mathlib.Core.Path.{_≡_, refl, sym, _∙_, subst}
 use mathlib.Core.Logic.{⊎-elim}
 use mathlib.Core.Bool.{Bool, true, false}
-use mathlib.Core.List.{List, _∷_, _++_, List·Memᴰ·head, List·Memᴰ·append-cases}
+use mathlib.Core.List.{List, _∷_, List·Memᴰ·head, List·Memᴰ·append-cases}
 use Rattle.laws.specs.Test.{true-is}
 use Rattle.turn.specs.Angle.{sameDirection}
 use Rattle.turn.specs.Angular.{irreflexive, asymmetric}
