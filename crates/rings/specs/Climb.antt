@@ -1,4 +1,5 @@
--- Rule 1 by a loop over the linked ring: from the scan's link onward to the ring's end, keeping the last unvisited link met.
+-- Rule 1 by a loop over the linked ring: from the scan's link onward
+-- to the ring's end, keeping the last unvisited link met.
 use Prim.Native.Nat.{ℕ, zero, suc, _*_, _≤_, _<_}
 use native.Mathlib.Nat.{not-suc-le-zero, le-of-suc-le-suc}
 use native.Mathlib.Omega.{arith}
@@ -36,7 +37,8 @@ toTop step wraps zero at = 0
 toTop step wraps (suc n) at = pick (wraps at) 0 (suc (toTop step wraps n (step at)))
 
 -- ---- the last unvisited link of a list with an unvisited k in it is found from k on
-last-aux : (st : List ℕ) (c : ℕ) (t r : List ℕ) → firstUnvisited st r ≡ Link c → firstUnvisited st (reverseAux t r) ≡ Link (lastOr st c t)
+last-aux : (st : List ℕ) (c : ℕ) (t r : List ℕ) → firstUnvisited st r ≡ Link c
+    → firstUnvisited st (reverseAux t r) ≡ Link (lastOr st c t)
 last-aux st c [] r e = e
 last-aux st c (x ∷ t) r e = last-aux st (pick (isUnvisited st x) x c) t (x ∷ r) (by (isUnvisited st x))
   where
@@ -44,10 +46,12 @@ last-aux st c (x ∷ t) r e = last-aux st (pick (isUnvisited st x) x c) t (x ∷
     by true = refl
     by false = e
 
-pub last-from : (st l : List ℕ) (k : ℕ) → Mem k l → isUnvisited st k ≡ true → lastUnvisited st l ≡ Link (lastOr st k (after k l))
+pub last-from : (st l : List ℕ) (k : ℕ) → Mem k l → isUnvisited st k ≡ true
+    → lastUnvisited st l ≡ Link (lastOr st k (after k l))
 last-from st l k m o =
     ap (lastUnvisited st) (split k l m) ∙ ap (firstUnvisited st) (reverseAux-append (ahead k l) (k ∷ after k l) [])
-    ∙ last-aux st k (after k l) (k ∷ reverse (ahead k l)) (pick-true (Link k) (firstUnvisited st (reverse (ahead k l))) o)
+    ∙ last-aux st k (after k l) (k ∷ reverse (ahead k l))
+    (pick-true (Link k) (firstUnvisited st (reverse (ahead k l))) o)
 
 -- ---- what the loop knows
 module _ (g : Graph) (v : ℕ) (step : ℕ → ℕ) (wraps : ℕ → Bool) where
@@ -87,7 +91,8 @@ module _ (g : Graph) (v : ℕ) (step : ℕ → ℕ) (wraps : ℕ → Bool) where
         → Above n st answer (step at) (pick (isUnvisited st (linkOf (step at))) (linkOf (step at)) s)
     climbed k w = by (k .rest) (k .climbs) (k .below) (k .short) (k .is)
       where
-        by : (rest : List ℕ) → Climbs at rest → ((x : ℕ) → Mem x rest → x < n) → length rest ≤ n → Link (lastOr st s rest) ≡ answer
+        by : (rest : List ℕ) → Climbs at rest → ((x : ℕ) → Mem x rest → x < n) → length rest ≤ n
+            → Link (lastOr st s rest) ≡ answer
             → Above n st answer (step at) (pick (isUnvisited st (linkOf (step at))) (linkOf (step at)) s)
         by [] c b z i = absurd (true≢false c w)
         by (x ∷ rest) c b z i = record {
@@ -96,7 +101,9 @@ module _ (g : Graph) (v : ℕ) (step : ℕ → ℕ) (wraps : ℕ → Bool) where
           climbs = subst (λ h. Climbs h rest) (sym (c .1)) (c .2);
           below = λ y m. b y (List·Memᴰ·tail m);
           short = omega arith;
-          is = ap (λ (y : ℕ). Link (lastOr st (pick (isUnvisited st y) y s) rest)) (ap linkOf (c .1) ∙ end-link g v x) ∙ i;
+          is =
+              ap (λ (y : ℕ). Link (lastOr st (pick (isUnvisited st y) y s) rest)) (ap linkOf (c .1) ∙ end-link g v x)
+              ∙ i;
         }
 
   -- ---- the measure
@@ -120,7 +127,8 @@ module _ (g : Graph) (v : ℕ) (step : ℕ → ℕ) (wraps : ℕ → Bool) where
           omega arith
 
   -- ---- the start: at the end of a link k of the ring
-  climbs-from : (h p : ℕ) (t : List ℕ) → Along (Leads g v step) h p t → LastAlone (λ x. wraps (endOf g v x)) p t → Climbs (endOf g v p) t
+  climbs-from : (h p : ℕ) (t : List ℕ) → Along (Leads g v step) h p t → LastAlone (λ x. wraps (endOf g v x)) p t
+      → Climbs (endOf g v p) t
   climbs-from h p [] a w = w
   climbs-from h p (x ∷ t) a w = (w .0, a .0, climbs-from h x t (a .1) (w .1))
 
@@ -135,9 +143,11 @@ module _ (g : Graph) (v : ℕ) (step : ℕ → ℕ) (wraps : ℕ → Bool) where
   pub climb-start : (l : List ℕ) → AllRound (Leads g v step) l → AtLast (λ x. wraps (endOf g v x)) l → (k : ℕ) → Mem k l
       → Climbs (endOf g v k) (after k l)
   climb-start l a w k m = by (ahead k l) (subst (AllRound (Leads g v step)) (split k l m) a)
-      (alone-from (λ x. wraps (endOf g v x)) (ahead k l) k (after k l) (subst (AtLast (λ x. wraps (endOf g v x))) (split k l m) w))
+      (alone-from (λ x. wraps (endOf g v x)) (ahead k l) k (after k l)
+      (subst (AtLast (λ x. wraps (endOf g v x))) (split k l m) w))
     where
-      by : (s : List ℕ) → AllRound (Leads g v step) (s ++ (k ∷ after k l)) → LastAlone (λ x. wraps (endOf g v x)) k (after k l)
+      by : (s : List ℕ) → AllRound (Leads g v step) (s ++ (k ∷ after k l))
+          → LastAlone (λ x. wraps (endOf g v x)) k (after k l)
           → Climbs (endOf g v k) (after k l)
       by [] a w = climbs-from k k (after k l) a w
       by (x ∷ s) a w = climbs-from x k (after k l) (along-part (Leads g v step) x x k s (after k l) a .1) w

@@ -1,4 +1,5 @@
--- An end of a link: number 2 k is link k's a, number 2 k + 1 its b. Its link, its node, the far end, and link k's end at a node.
+-- An end of a link: number 2 k is link k's a, number 2 k + 1 its b.
+-- Its link, its node, the far end, and link k's end at a node.
 use Prim.Native.Nat.{ℕ, _+_, _*_, _-_, _/_, _%_, _<_}
 use native.Mathlib.Omega.{arith}
 use mathlib.Core.Path.{_≡_, refl, sym, ap, ap₂, _∙_, subst}
@@ -102,7 +103,9 @@ module _ (g : Graph) (v k : ℕ) where
   end-link = pick-ind (startsAt g v k) (aEnd k) (bEnd k) (λ h. linkOf h ≡ k) (λ _. a-link k) (λ _. b-link k)
 
   pub end-sort : isA (endOf g v k) ≡ startsAt g v k
-  end-sort = pick-ind (startsAt g v k) (aEnd k) (bEnd k) (λ h. isA h ≡ startsAt g v k) (λ e. a-is-a k ∙ sym e) (λ e. b-is-b k ∙ sym e)
+  end-sort =
+      pick-ind (startsAt g v k) (aEnd k) (bEnd k) (λ h. isA h ≡ startsAt g v k) (λ e. a-is-a k ∙ sym e)
+      (λ e. b-is-b k ∙ sym e)
 
   -- it is at node v where k has an end there
   pub end-node : (g .aNode k ≡ v) ⊎ (g .bNode k ≡ v) → nodeOfEnd g (endOf g v k) ≡ v
@@ -130,13 +133,16 @@ pub entry-end : {g : Graph} {m : ℕ} → FineLists g m → (v k : ℕ) → Mem 
 entry-end {g} h v k e = end-node g v k (h .only v k e)
 
 -- every end is the end at its node of its link
-pub end-of-node : {g : Graph} {m : ℕ} → FineLinks g m → (h : ℕ) → linkOf h < g .n → endOf g (nodeOfEnd g h) (linkOf h) ≡ h
+pub end-of-node : {g : Graph} {m : ℕ} → FineLinks g m → (h : ℕ) → linkOf h < g .n
+    → endOf g (nodeOfEnd g h) (linkOf h) ≡ h
 end-of-node {g} f = by-end (λ h. linkOf h < g .n → endOf g (nodeOfEnd g h) (linkOf h) ≡ h) at-a at-b
   where
     at-a : (k : ℕ) → linkOf (aEnd k) < g .n → endOf g (nodeOfEnd g (aEnd k)) (linkOf (aEnd k)) ≡ aEnd k
-    at-a k l = ap₂ (endOf g) (a-node g k) (a-link k) ∙ pick-true (aEnd k) (bEnd k) (eq-eqb (g .aNode k) (g .aNode k) refl)
+    at-a k l =
+        ap₂ (endOf g) (a-node g k) (a-link k) ∙ pick-true (aEnd k) (bEnd k) (eq-eqb (g .aNode k) (g .aNode k) refl)
 
     at-b : (k : ℕ) → linkOf (bEnd k) < g .n → endOf g (nodeOfEnd g (bEnd k)) (linkOf (bEnd k)) ≡ bEnd k
     at-b k l =
         ap₂ (endOf g) (b-node g k) (b-link k) ∙
-        pick-false (aEnd k) (bEnd k) (ne-eqb (g .aNode k) (g .bNode k) (f .two-nodes k (subst (λ i. i < g .n) (b-link k) l)))
+        pick-false (aEnd k) (bEnd k) (ne-eqb (g .aNode k) (g .bNode k)
+        (f .two-nodes k (subst (λ i. i < g .n) (b-link k) l)))

@@ -1,4 +1,5 @@
--- Worked examples: a `Cross` of four links, and one of six of which one is skipped, one runs straight up and one straight down.
+-- Worked examples: a `Cross` of four links, and one of six of which
+-- one is skipped, one runs straight up and one straight down.
 use Prim.Native.Nat.{ℕ}
 use mathlib.Core.Path.{_≡_, refl}
 use mathlib.Core.Bool.{true, false}
@@ -57,12 +58,14 @@ bow-round : (onward 1 bowRing ≡ 3 ∷ 4 ∷ 2 ∷ []) × (backward 1 bowRing �
 bow-round = (refl, refl)
 
 -- link 1 was just walked, counterclockwise and clockwise
-bow-next : (nextLink bowGraph false (0 ∷ 3 ∷ 0 ∷ 0 ∷ 0 ∷ 0 ∷ []) 2 1 ≡ Link 3) × (nextLink bowGraph true (0 ∷ 3 ∷ 0 ∷ 0 ∷ 0 ∷ 0 ∷ []) 2 1 ≡ Link 2)
+bow-next : (nextLink bowGraph false (0 ∷ 3 ∷ 0 ∷ 0 ∷ 0 ∷ 0 ∷ []) 2 1 ≡ Link 3) × (nextLink bowGraph true
+    (0 ∷ 3 ∷ 0 ∷ 0 ∷ 0 ∷ 0 ∷ []) 2 1 ≡ Link 2)
 unfolding nextLink
 bow-next = (refl, refl)
 
 -- and then 4, from which the round goes past the ring's end and past visited links; and where all are visited
-bow-later : (nextLink bowGraph false (0 ∷ 3 ∷ 0 ∷ 0 ∷ 3 ∷ 0 ∷ []) 2 4 ≡ Link 2) × (nextLink bowGraph false (0 ∷ 3 ∷ 3 ∷ 0 ∷ 3 ∷ 0 ∷ []) 2 4 ≡ Link 3)
+bow-later : (nextLink bowGraph false (0 ∷ 3 ∷ 0 ∷ 0 ∷ 3 ∷ 0 ∷ []) 2 4 ≡ Link 2) × (nextLink bowGraph false
+    (0 ∷ 3 ∷ 3 ∷ 0 ∷ 3 ∷ 0 ∷ []) 2 4 ≡ Link 3)
     × (nextLink bowGraph true (0 ∷ 3 ∷ 3 ∷ 3 ∷ 3 ∷ 0 ∷ []) 2 4 ≡ Nothing)
 unfolding nextLink
 bow-later = (refl, refl, refl)
@@ -73,11 +76,13 @@ bow-by-ring : (firstUnvisited (0 ∷ 3 ∷ 0 ∷ 0 ∷ 3 ∷ 0 ∷ []) (roundFro
 bow-by-ring = (refl, refl, refl)
 
 -- the scan stands at link 3, the lowest unvisited one
-bow-first : (firstLink bowGraph (3 ∷ 3 ∷ 3 ∷ 0 ∷ 0 ∷ 0 ∷ []) 3 ≡ Link 4) × (lastUnvisited (3 ∷ 3 ∷ 3 ∷ 0 ∷ 0 ∷ 0 ∷ []) bowRing ≡ Link 4)
+bow-first : (firstLink bowGraph (3 ∷ 3 ∷ 3 ∷ 0 ∷ 0 ∷ 0 ∷ []) 3 ≡ Link 4) × (lastUnvisited (3 ∷ 3 ∷ 3 ∷ 0 ∷ 0 ∷ 0 ∷ [])
+    bowRing ≡ Link 4)
 unfolding firstLink
 bow-first = (refl, refl)
 
--- ---- six links at (0,0), node 2: from (-2,0) and (0,-2); to (0,2), (2,-2), (2,0), (2,2); that to (2,0), link 7, is skipped
+-- ---- six links at (0,0), node 2: from (-2,0) and (0,-2); to (0,2),
+-- (2,-2), (2,0), (2,2); that to (2,0), link 7, is skipped
 abbrev fan : Lent
 fan = lent
     (m 2 ∷ m 2 ∷ m 2 ∷ p 0 ∷ p 0 ∷ p 0 ∷ p 0 ∷ p 0 ∷ p 0 ∷ p 0 ∷ p 2 ∷ p 2 ∷ [])
@@ -116,13 +121,16 @@ only8 = 0 ∷ 2 ∷ 0 ∷ 3 ∷ 0 ∷ 2 ∷ 3 ∷ 1 ∷ 0 ∷ 0 ∷ 0 ∷ 0 ∷ 
 abbrev not6 : List ℕ
 not6 = 0 ∷ 0 ∷ 0 ∷ 3 ∷ 0 ∷ 0 ∷ 3 ∷ 1 ∷ 0 ∷ 0 ∷ 0 ∷ 0 ∷ []
 
-fan-next : (nextLink fanGraph false not6 2 6 ≡ Link 8) × (nextLink fanGraph true not6 2 6 ≡ Link 1) × (nextLink fanGraph false only8 2 5 ≡ Link 8)
+fan-next : (nextLink fanGraph false not6 2 6 ≡ Link 8) × (nextLink fanGraph true not6 2 6 ≡ Link 1) × (nextLink
+    fanGraph false only8 2 5 ≡ Link 8)
     × (nextLink fanGraph true only8 2 5 ≡ Link 8)
 unfolding nextLink
 fan-next = (refl, refl, refl, refl)
 
-fan-by-ring : (firstUnvisited not6 (roundFrom false 6 fanRing) ≡ Link 8) × (firstUnvisited not6 (roundFrom true 6 fanRing) ≡ Link 1)
-    × (firstUnvisited only8 (roundFrom false 5 fanRing) ≡ Link 8) × (firstUnvisited only8 (roundFrom true 5 fanRing) ≡ Link 8)
+fan-by-ring : (firstUnvisited not6 (roundFrom false 6 fanRing) ≡ Link 8) × (firstUnvisited not6
+    (roundFrom true 6 fanRing) ≡ Link 1)
+    × (firstUnvisited only8 (roundFrom false 5 fanRing) ≡ Link 8)
+    × (firstUnvisited only8 (roundFrom true 5 fanRing) ≡ Link 8)
 fan-by-ring = (refl, refl, refl, refl)
 
 -- straight up is the last, so it is the first link while it is unvisited

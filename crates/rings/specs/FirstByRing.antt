@@ -1,4 +1,5 @@
--- Rule 1 by the ring: at a `Cross` where no unvisited link ends, as at the scan's, the first link is the last unvisited one of the ring.
+-- Rule 1 by the ring: at a `Cross` where no unvisited link ends, as at the
+-- scan's, the first link is the last unvisited one of the ring.
 use Prim.Native.Nat.{ℕ, _≤_, _<_}
 use mathlib.Core.Path.{_≡_, refl, sym, ap, _∙_, subst}
 use mathlib.Core.Logic.{_⊎_, inl, inr, ⊎-elim}
@@ -29,9 +30,11 @@ first-of : (R : Order) (st l : List ℕ) (r : ℕ) → Sorted R l → Mem r l �
     → ((x : ℕ) → Mem x l → isUnvisited st x ≡ true → R x r → ⊥) → firstUnvisited st l ≡ Link r
 first-of R st [] r s m o h = absurd (List·Memᴰ·not-nil m)
 first-of R st (x ∷ l) r s m o h =
-    at (isUnvisited st x) refl (List·Memᴰ·cases-cons m) (λ k. first-of R st l r (s .1) k o (λ y i. h y (List·Memᴰ·tail i)))
+    at (isUnvisited st x) refl (List·Memᴰ·cases-cons m)
+    (λ k. first-of R st l r (s .1) k o (λ y i. h y (List·Memᴰ·tail i)))
   where
-    at : (b : Bool) → isUnvisited st x ≡ b → (r ≡ x) ⊎ Mem r l → (Mem r l → firstUnvisited st l ≡ Link r) → firstUnvisited st (x ∷ l) ≡ Link r
+    at : (b : Bool) → isUnvisited st x ≡ b → (r ≡ x) ⊎ Mem r l → (Mem r l → firstUnvisited st l ≡ Link r)
+        → firstUnvisited st (x ∷ l) ≡ Link r
     at true t (inl q) rest = first-found st x l t ∙ ap Link (sym q)
     at true t (inr k) rest = absurd (h x (List·Memᴰ·head refl) t (s .0 r k))
     at false n (inl q) rest = absurd (true≢false o (subst (λ y. isUnvisited st y ≡ false) (sym q) n))
@@ -56,7 +59,8 @@ in-order g v r x nr nx p h =
 abbrev pub NoneEnds : Graph → List ℕ → ℕ → Type 0
 NoneEnds g st v = (x : ℕ) → Mem x (g .entries v) → isUnvisited st x ≡ true → g .bNode x ≡ v → ⊥
 
-module _ {g : Graph} {m : ℕ} (links : FineLinks g m) (lists : FineLists g m) (point : OnePoint g) (k : ℕ) (below : k < g .n)
+module _ {g : Graph} {m : ℕ} (links : FineLinks g m) (lists : FineLists g m) (point : OnePoint g) (k : ℕ)
+    (below : k < g .n)
     (st : List ℕ) (o : isUnvisited st k ≡ true) where
   abbrev v : ℕ
   v = g .aNode k
@@ -74,7 +78,8 @@ module _ {g : Graph} {m : ℕ} (links : FineLinks g m) (lists : FineLists g m) (
         → firstLink g st k ≡ lastUnvisited st l
     first-by-ring cross {state} {l} ring marked =
         first-at-cross g st k cross ∙ sym (first-of (λ x y. InOrder g v y x) st (reverse l) r
-        (sorted-reverse (λ x y. InOrder g v y x) l (ring .sorted)) (in-reverse l (ring .every r (record { listed = among; unskipped = marked r among (top .unvisited) })))
+        (sorted-reverse (λ x y. InOrder g v y x) l (ring .sorted))
+        (in-reverse l (ring .every r (record { listed = among; unskipped = marked r among (top .unvisited) })))
         (top .unvisited)
         (λ x i t h. let j = ring .only x (of-reverse l i) .listed in
         top .none-above x j t (in-order g v r x (starts r among (top .unvisited)) (starts x j t)
@@ -93,4 +98,5 @@ module _ {g : Graph} {m : ℕ} (links : FineLinks g m) (lists : FineLists g m) (
   pub none-ends : ((x : ℕ) → isUnvisited st x ≡ true → k ≤ x) → NoneEnds g st v
   none-ends lowest x i t q =
       let b = lists .below v x i in
-      true≢false (subst (λ (p : Point). before (g .a x) p ≡ true) (sym (point .ab k x below b (sym q))) (links .strict x b)) (links .order k x (lowest x t) b)
+      true≢false (subst (λ (p : Point). before (g .a x) p ≡ true) (sym (point .ab k x below b (sym q)))
+      (links .strict x b)) (links .order k x (lowest x t) b)

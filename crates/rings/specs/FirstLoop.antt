@@ -1,4 +1,5 @@
--- Where the loop for rule 1 starts: at the a end of the scan's link, with that link in hand; what it ends with is the first link.
+-- Where the loop for rule 1 starts: at the a end of the scan's link,
+-- with that link in hand; what it ends with is the first link.
 use Prim.Native.Nat.{ℕ, _≤_, _<_}
 use mathlib.Core.Path.{_≡_, refl, sym, _∙_, subst}
 use mathlib.Core.Bool.{Bool, true}
@@ -20,12 +21,15 @@ use Rattle.rings.specs.Linked.{Ringed}
 use Rattle.rings.specs.FirstByRing.{first-by-ring, none-ends}
 use Rattle.rings.specs.Climb.{AtLast, Above, last-from, climb-start}
 
--- k is the lowest unvisited link, and its a is at a `Cross` whose ring is linked; `wraps` tells the ring's last end from the others
-module _ {g : Graph} {m : ℕ} (links : FineLinks g m) (lists : FineLists g m) (point : OnePoint g) {state : List ℕ} (k : ℕ) (below : k < g .n)
+-- k is the lowest unvisited link, and its a is at a `Cross` whose ring
+-- is linked; `wraps` tells the ring's last end from the others
+module _ {g : Graph} {m : ℕ} (links : FineLinks g m) (lists : FineLists g m) (point : OnePoint g) {state : List ℕ}
+    (k : ℕ) (below : k < g .n)
     (sp : Spread g state (g .aNode k)) {nxt prv : ℕ → ℕ} (at-node : Ringed g state (g .aNode k) nxt prv)
     (wraps : ℕ → Bool) (last : AtLast (λ x. wraps (endOf g (g .aNode k) x)) (at-node .links))
     (cross : length (g .entries (g .aNode k)) ≡ 2 → ⊥)
-    (st : List ℕ) (marked : Marked g state (g .aNode k) st) (o : isUnvisited st k ≡ true) (lowest : (x : ℕ) → isUnvisited st x ≡ true → k ≤ x) where
+    (st : List ℕ) (marked : Marked g state (g .aNode k) st) (o : isUnvisited st k ≡ true)
+    (lowest : (x : ℕ) → isUnvisited st x ≡ true → k ≤ x) where
   abbrev v : ℕ
   v = g .aNode k
 
@@ -47,7 +51,8 @@ module _ {g : Graph} {m : ℕ} (links : FineLinks g m) (lists : FineLists g m) (
   short : length (after k l) ≤ g .n
   short = sorted-short (InOrder g v) (after k l) (g .n)
       (λ x i. ring-irreflexive g v x (sp .strict x (r .only x (of-after k l i))))
-      (sorted-parts (InOrder g v) (ahead k l) (k ∷ after k l) (subst (Sorted (InOrder g v)) (split k l in-ring) (r .sorted)) .right .1)
+      (sorted-parts (InOrder g v) (ahead k l) (k ∷ after k l)
+      (subst (Sorted (InOrder g v)) (split k l in-ring) (r .sorted)) .right .1)
       (λ x i. of-ring x (of-after k l i))
 
   pub first-start : Above g v nxt wraps (g .n) st (firstLink g st k) (aEnd k) k
@@ -57,5 +62,7 @@ module _ {g : Graph} {m : ℕ} (links : FineLinks g m) (lists : FineLists g m) (
     climbs = climb-start g v nxt wraps l (at-node .linked .next) last k in-ring;
     below = λ x i. of-ring x (of-after k l i);
     short = short;
-    is = sym (first-by-ring links lists point k below st o (none-ends links lists point k below st o lowest) cross r marked ∙ last-from st l k in-ring o);
+    is =
+        sym (first-by-ring links lists point k below st o (none-ends links lists point k below st o lowest) cross r
+        marked ∙ last-from st l k in-ring o);
   })

@@ -1,9 +1,11 @@
--- One more end is put between two neighbours of a linked ring, by four stores: after the last, before the first, or between two others.
+-- One more end is put between two neighbours of a linked ring, by four
+-- stores: after the last, before the first, or between two others.
 use Prim.Native.Nat.{ℕ, _≤_}
 use native.Mathlib.Omega.{arith}
 use mathlib.Core.Path.{_≡_, refl, sym, ap, _∙_, subst}
 use mathlib.Core.Logic.{⊎-elim}
-use mathlib.Core.List.{List, [], _∷_, _++_, append-assoc, List·Memᴰ·head, List·Memᴰ·tail, List·Memᴰ·cases-cons, List·Memᴰ·not-nil}
+use mathlib.Core.List.{List, [], _∷_, _++_, append-assoc, List·Memᴰ·head, List·Memᴰ·tail, List·Memᴰ·cases-cons}
+use mathlib.Core.List.{List·Memᴰ·not-nil}
 use mathlib.Core.List.{Memᴰ·append-left, Memᴰ·append-right, List·Memᴰ·append-cases}
 use borrow.Author.Tests.{eq-eqb}
 use Rattle.laws.specs.Count.{count, count-append}
@@ -15,7 +17,8 @@ use Rattle.rings.specs.Linked.{along-join, along-part, turned-round, Lea
 use Rattle.rings.specs.Linking.{along-kept}
 
 -- a link alone is its own neighbour
-pub linked-one : {g : Graph} {v q : ℕ} {nxt prv : ℕ → ℕ} → Leads g v nxt q q → Leads g v prv q q → Linked g v (q ∷ []) nxt prv
+pub linked-one : {g : Graph} {v q : ℕ} {nxt prv : ℕ → ℕ} → Leads g v nxt q q → Leads g v prv q q
+    → Linked g v (q ∷ []) nxt prv
 linked-one n p = record { next = n; back = p }
 
 -- q is put between r and a, and what leads from the other links of l is left
@@ -31,7 +34,9 @@ pub record Put (g : Graph) (v : ℕ) (l : List ℕ) (r q a : ℕ) (nxt prv nxt�
 mem-count : (x : ℕ) (l : List ℕ) → Mem x l → 1 ≤ count x l
 unfolding count
 mem-count x [] m = absurd (List·Memᴰ·not-nil m)
-mem-count x (y ∷ l) m = ⊎-elim (λ (q : x ≡ y). rw (eq-eqb y x (sym q)) (omega arith)) (λ k. omega (arith, mem-count x l k)) (List·Memᴰ·cases-cons m)
+mem-count x (y ∷ l) m =
+    ⊎-elim (λ (q : x ≡ y). rw (eq-eqb y x (sym q)) (omega arith)) (λ k. omega (arith, mem-count x l k))
+    (List·Memᴰ·cases-cons m)
 
 once-apart : (s t : List ℕ) → Once (s ++ t) → (x y : ℕ) → Mem x s → Mem y t → x ≡ y → ⊥
 once-apart s t o x y m n q =
@@ -52,12 +57,14 @@ module _ {g : Graph} {v q a : ℕ} {nxt prv nxt′ prv′ : ℕ → ℕ} where
     put-last m o k p = record {
       next = along-join (Leads g v nxt′) a a r m (q ∷ [])
           (along-kept (Leads g v nxt) (Leads g v nxt′) r a m
-          (λ x y i j e. p .next-kept x (early x i) (λ d. once-apart (a ∷ m) (r ∷ []) o x r i (List·Memᴰ·head refl) d) ∙ e)
+          (λ x y i j e. p .next-kept x (early x i) (λ d. once-apart (a ∷ m) (r ∷ []) o x r i (List·Memᴰ·head refl) d)
+          ∙ e)
           (along-part (Leads g v nxt) a a r m [] (k .next) .0))
           (p .next-r, p .next-q);
       back = along-join (λ x y. Leads g v prv′ y x) a a r m (q ∷ [])
           (along-kept (λ x y. Leads g v prv y x) (λ x y. Leads g v prv′ y x) r a m
-          (λ x y i j e. p .back-kept y (late y j) (λ d. once-apart (a ∷ []) (m ++ (r ∷ [])) o a y (List·Memᴰ·head refl) (late′ y j) (sym d)) ∙ e)
+          (λ x y i j e. p .back-kept y (late y j) (λ d. once-apart (a ∷ []) (m ++ (r ∷ [])) o a y (List·Memᴰ·head refl)
+          (late′ y j) (sym d)) ∙ e)
           (along-part (λ x y. Leads g v prv y x) a a r m [] (k .back) .0))
           (p .back-q, p .back-a);
     }
@@ -66,13 +73,16 @@ module _ {g : Graph} {v q a : ℕ} {nxt prv nxt′ prv′ : ℕ → ℕ} where
         early x i = Memᴰ·append-left {s = a ∷ m} (r ∷ []) i
 
         late′ : (y : ℕ) → Mem y (r ∷ m) → Mem y (m ++ (r ∷ []))
-        late′ y j = ⊎-elim (λ e. Memᴰ·append-right m (List·Memᴰ·head e)) (λ i. Memᴰ·append-left (r ∷ []) i) (List·Memᴰ·cases-cons j)
+        late′ y j =
+            ⊎-elim (λ e. Memᴰ·append-right m (List·Memᴰ·head e)) (λ i. Memᴰ·append-left (r ∷ []) i)
+            (List·Memᴰ·cases-cons j)
 
         late : (y : ℕ) → Mem y (r ∷ m) → Mem y (a ∷ (m ++ (r ∷ [])))
         late y j = List·Memᴰ·tail (late′ y j)
 
 -- ---- a linked ring may be read from another place
-pub linked-turned : {g : Graph} {v : ℕ} {nxt prv : ℕ → ℕ} (s t : List ℕ) → Linked g v (s ++ t) nxt prv → Linked g v (t ++ s) nxt prv
+pub linked-turned : {g : Graph} {v : ℕ} {nxt prv : ℕ → ℕ} (s t : List ℕ) → Linked g v (s ++ t) nxt prv
+    → Linked g v (t ++ s) nxt prv
 linked-turned {g} {v} {nxt} {prv} s t k = record {
   next = turned-round (Leads g v nxt) s t (k .next);
   back = turned-round (λ x y. Leads g v prv y x) s t (k .back);
@@ -94,7 +104,8 @@ module _ {g : Graph} {v q a : ℕ} {nxt prv nxt′ prv′ : ℕ → ℕ} (r : �
       (linked-turned (a ∷ t) (s ++ (r ∷ (q ∷ [])))
       (subst (λ l. Linked g v (a ∷ l) nxt′ prv′) (append-assoc t s (r ∷ (q ∷ [])))
       (put-last r (t ++ s) (subst Once turned (once-turned (s ++ (r ∷ [])) (a ∷ t) (subst Once (sym parted) o)))
-      (subst (λ l. Linked g v l nxt prv) turned (linked-turned (s ++ (r ∷ [])) (a ∷ t) (subst (λ l. Linked g v l nxt prv) (sym parted) k)))
+      (subst (λ l. Linked g v l nxt prv) turned
+      (linked-turned (s ++ (r ∷ [])) (a ∷ t) (subst (λ l. Linked g v l nxt prv) (sym parted) k)))
       (record {
         next-r = p .next-r;
         next-q = p .next-q;

@@ -1,4 +1,5 @@
--- The ring as the code keeps it: each end leads to the next and to the one before, all round. Followed from a link's end it is the ring read round from there.
+-- The ring as the code keeps it: each end leads to the next and to the one before,
+-- all round. Followed from a link's end it is the ring read round from there.
 use Prim.Native.Nat.{ℕ}
 use mathlib.Core.Path.{_≡_, sym, subst}
 use mathlib.Core.Bool.{Bool, true, false}
@@ -22,18 +23,21 @@ abbrev pub AllRound : (ℕ → ℕ → Type 0) → List ℕ → Type 0
 AllRound P [] = Unit
 AllRound P (x ∷ l) = Along P x x l
 
-pub along-join : (P : ℕ → ℕ → Type 0) (h p x : ℕ) (s t : List ℕ) → Along P x p s → Along P h x t → Along P h p (s ++ (x ∷ t))
+pub along-join : (P : ℕ → ℕ → Type 0) (h p x : ℕ) (s t : List ℕ) → Along P x p s → Along P h x t
+    → Along P h p (s ++ (x ∷ t))
 along-join P h p x [] t a b = (a, b)
 along-join P h p x (y ∷ s) t a b = (a .0, along-join P h y x s t (a .1) b)
 
-pub along-part : (P : ℕ → ℕ → Type 0) (h p x : ℕ) (s t : List ℕ) → Along P h p (s ++ (x ∷ t)) → Along P x p s × Along P h x t
+pub along-part : (P : ℕ → ℕ → Type 0) (h p x : ℕ) (s t : List ℕ) → Along P h p (s ++ (x ∷ t))
+    → Along P x p s × Along P h x t
 along-part P h p x [] t a = a
 along-part P h p x (y ∷ s) t a = let r = along-part P h y x s t (a .1) in ((a .0, r .0), r .1)
 
 along-back : (P : ℕ → ℕ → Type 0) (h p : ℕ) (l : List ℕ) → Along P h p l → Along (λ x y. P y x) p h (reverse l)
 along-back P h p [] a = a
 along-back P h p (x ∷ l) a =
-    subst (Along (λ y z. P z y) p h) (sym (reverse-cons x l)) (along-join (λ y z. P z y) p h x (reverse l) [] (along-back P h x l (a .1)) (a .0))
+    subst (Along (λ y z. P z y) p h) (sym (reverse-cons x l))
+    (along-join (λ y z. P z y) p h x (reverse l) [] (along-back P h x l (a .1)) (a .0))
 
 -- all round a list is all round it from another place
 pub turned-round : (P : ℕ → ℕ → Type 0) (s t : List ℕ) → AllRound P (s ++ t) → AllRound P (t ++ s)
@@ -65,7 +69,8 @@ pub record Ringed (g : Graph) (state : List ℕ) (v : ℕ) (nxt prv : ℕ → �
 abbrev pub stepOf : Bool → (ℕ → ℕ) → (ℕ → ℕ) → ℕ → ℕ
 stepOf sense nxt prv = pick sense prv nxt
 
-pub linked-round : {g : Graph} {v : ℕ} {l : List ℕ} {nxt prv : ℕ → ℕ} → Linked g v l nxt prv → (e : ℕ) → Mem e l → (sense : Bool)
+pub linked-round : {g : Graph} {v : ℕ} {l : List ℕ} {nxt prv : ℕ → ℕ} → Linked g v l nxt prv → (e : ℕ) → Mem e l
+    → (sense : Bool)
     → Along (Leads g v (stepOf sense nxt prv)) e e (roundFrom sense e l)
 linked-round {g} {v} {l} {nxt} k e m false = round-onward (Leads g v nxt) l e m (k .next)
 linked-round {g} {v} {l} {prv = prv} k e m true =

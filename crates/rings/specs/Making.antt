@@ -1,9 +1,11 @@
--- How a ring is made: the entries are taken in their order, and each unskipped one is put at its place, looked for from the back.
+-- How a ring is made: the entries are taken in their order, and each
+-- unskipped one is put at its place, looked for from the back.
 use Prim.Native.Nat.{ℕ}
 use mathlib.Core.Path.{_≡_, refl, sym, ap, _∙_, subst}
 use mathlib.Core.Logic.{⊎-elim}
 use mathlib.Core.Bool.{Bool, true, false}
-use mathlib.Core.List.{List, [], _∷_, _++_, append-assoc, List·Memᴰ·head, List·Memᴰ·tail, List·Memᴰ·cases-cons, List·Memᴰ·not-nil}
+use mathlib.Core.List.{List, [], _∷_, _++_, append-assoc, List·Memᴰ·head, List·Memᴰ·tail, List·Memᴰ·cases-cons}
+use mathlib.Core.List.{List·Memᴰ·not-nil}
 use mathlib.Core.List.{Memᴰ·append-left, Memᴰ·append-right, List·Memᴰ·append-cases}
 use lib.IntN.{ℤ, pos, _-ℤ_, _*ℤ_}
 use lib.ListN.{getD}
@@ -19,7 +21,8 @@ use Rattle.graph.specs.Graph.{Graph}
 use Rattle.graph.specs.Checks.{awayFrom}
 use Rattle.next.specs.Choice.{Mem}
 use Rattle.rings.specs.Ends.{startsAt}
-use Rattle.rings.specs.RingOrder.{inTurn, ringBefore, Forward, Spoke, Spread, ring-transitive, ring-total, ring-apart}
+use Rattle.rings.specs.RingOrder.{inTurn, ringBefore, Forward, Spoke, Spread, ring-transitive, ring-total}
+use Rattle.rings.specs.RingOrder.{ring-apart}
 use Rattle.rings.specs.Sorted.{Sorted, BeforeAll, sorted-insert, sorted-parts, sorted-two}
 use Rattle.rings.specs.Rings.{InOrder, Ring}
 
@@ -58,10 +61,12 @@ module _ (g : Graph) (v e f : ℕ) where
       ∙ sym (less (u .y *ℤ w .x) (u .x *ℤ w .y))
     where
       other-way : (a b c d : ℤ) → a *ℤ d -ℤ b *ℤ c ≡ d *ℤ a -ℤ c *ℤ b
-      other-way a b c d = ring (a ∷ b ∷ c ∷ d ∷ []) (var 0 :* var 3 :- var 1 :* var 2) (var 3 :* var 0 :- var 2 :* var 1) tt
+      other-way a b c d =
+          ring (a ∷ b ∷ c ∷ d ∷ []) (var 0 :* var 3 :- var 1 :* var 2) (var 3 :* var 0 :- var 2 :* var 1) tt
 
   -- neither turn: one direction, which check 7 refuses of unskipped links
-  pub like-alike : startsAt g v e ≡ startsAt g v f → Forward g e → Forward g f → u .x *ℤ w .y ≡ u .y *ℤ w .x → sameDirection u w ≡ true
+  pub like-alike : startsAt g v e ≡ startsAt g v f → Forward g e → Forward g f → u .x *ℤ w .y ≡ u .y *ℤ w .x
+      → sameDirection u w ≡ true
   like-alike q se sf p = by (sameDirection u w) refl
     where
       none : (z : ℤ) → ltZ z z ≡ true → ⊥
@@ -81,7 +86,12 @@ pub record RingOf (g : Graph) (state : List ℕ) (v : ℕ) (taken l : List ℕ) 
   pub every : (k : ℕ) → Mem k taken → (getD state k 0 ≡ 1 → ⊥) → Mem k l
 
 pub none-taken : (g : Graph) (state : List ℕ) (v : ℕ) → RingOf g state v [] []
-none-taken g state v = record { sorted = tt; only = λ k m. absurd (List·Memᴰ·not-nil m); every = λ k m. absurd (List·Memᴰ·not-nil m) }
+none-taken g state v = record {
+  sorted = tt;
+  only = λ k m. absurd (List·Memᴰ·not-nil m);
+  every = λ k m. absurd
+      (List·Memᴰ·not-nil m);
+}
 
 -- all entries are taken
 pub all-taken : {g : Graph} {state : List ℕ} {v : ℕ} {l : List ℕ} → RingOf g state v (g .entries v) l → Ring g state v l
@@ -93,26 +103,34 @@ all-taken r = record {
 
 module _ {g : Graph} {state : List ℕ} {v : ℕ} {taken : List ℕ} (q : ℕ) where
   -- a skipped entry is left out
-  pub take-skipped : {l : List ℕ} → RingOf g state v taken l → getD state q 0 ≡ 1 → RingOf g state v (taken ++ (q ∷ [])) l
+  pub take-skipped : {l : List ℕ} → RingOf g state v taken l → getD state q 0 ≡ 1
+      → RingOf g state v (taken ++ (q ∷ [])) l
   take-skipped r s = record {
     sorted = r .sorted;
     only = λ k m. let t = r .only k m in (Memᴰ·append-left (q ∷ []) (t .0), t .1);
     every = λ k m d. ⊎-elim (λ i. r .every k i d)
-        (λ i. ⊎-elim (λ (p : k ≡ q). absurd (d (subst (λ x. getD state x 0 ≡ 1) (sym p) s))) (λ j. absurd (List·Memᴰ·not-nil j)) (List·Memᴰ·cases-cons i))
+        (λ i. ⊎-elim (λ (p : k ≡ q). absurd (d (subst (λ x. getD state x 0 ≡ 1) (sym p) s)))
+        (λ j. absurd (List·Memᴰ·not-nil j)) (List·Memᴰ·cases-cons i))
         (List·Memᴰ·append-cases taken m);
   }
 
   -- an unskipped one is put between what stands before it and what stands after
-  pub take-between : (s t : List ℕ) → RingOf g state v taken (s ++ t) → (getD state q 0 ≡ 1 → ⊥) → ((x : ℕ) → Mem x s → InOrder g v x q)
+  pub take-between : (s t : List ℕ) → RingOf g state v taken (s ++ t) → (getD state q 0 ≡ 1 → ⊥)
+      → ((x : ℕ) → Mem x s → InOrder g v x q)
       → BeforeAll (InOrder g v) q t → RingOf g state v (taken ++ (q ∷ [])) (s ++ (q ∷ t))
   take-between s t r u hs ht = record {
     sorted = sorted-insert (InOrder g v) s t q (r .sorted) hs ht;
     only = λ k m. ⊎-elim (λ i. old k (Memᴰ·append-left t i))
-        (λ i. ⊎-elim (λ (p : k ≡ q). (Memᴰ·append-right taken (List·Memᴰ·head p), λ e. u (subst (λ x. getD state x 0 ≡ 1) p e)))
+        (λ i. ⊎-elim (λ (p : k ≡ q). (
+          Memᴰ·append-right taken (List·Memᴰ·head p),
+          λ e. u
+              (subst (λ x. getD state x 0 ≡ 1) p e),
+        ))
         (λ j. old k (Memᴰ·append-right s j)) (List·Memᴰ·cases-cons i))
         (List·Memᴰ·append-cases s m);
     every = λ k m d. ⊎-elim (λ i. more k (r .every k i d))
-        (λ i. ⊎-elim (λ (p : k ≡ q). Memᴰ·append-right s (List·Memᴰ·head p)) (λ j. absurd (List·Memᴰ·not-nil j)) (List·Memᴰ·cases-cons i))
+        (λ i. ⊎-elim (λ (p : k ≡ q). Memᴰ·append-right s (List·Memᴰ·head p)) (λ j. absurd (List·Memᴰ·not-nil j))
+        (List·Memᴰ·cases-cons i))
         (List·Memᴰ·append-cases taken m);
   }
     where
@@ -120,7 +138,8 @@ module _ {g : Graph} {state : List ℕ} {v : ℕ} {taken : List ℕ} (q : ℕ) w
       old k m = let o = r .only k m in (Memᴰ·append-left (q ∷ []) (o .0), o .1)
 
       more : (k : ℕ) → Mem k (s ++ t) → Mem k (s ++ (q ∷ t))
-      more k m = ⊎-elim (Memᴰ·append-left (q ∷ t)) (λ i. Memᴰ·append-right s (List·Memᴰ·tail i)) (List·Memᴰ·append-cases s m)
+      more k m =
+          ⊎-elim (Memᴰ·append-left (q ∷ t)) (λ i. Memᴰ·append-right s (List·Memᴰ·tail i)) (List·Memᴰ·append-cases s m)
 
   -- looked for from the back: first of all, or just after an r that stands before it
   pub take-front : (t : List ℕ) → RingOf g state v taken t → (getD state q 0 ≡ 1 → ⊥) → BeforeAll (InOrder g v) q t
@@ -142,11 +161,13 @@ module _ {g : Graph} {state : List ℕ} {v : ℕ} {taken : List ℕ} (q : ℕ) w
 
       earlier : (x : ℕ) → Mem x (s ++ (r ∷ [])) → InOrder g v x q
       earlier x m = ⊎-elim (in-s x)
-          (λ i. ⊎-elim (λ (e : x ≡ r). subst (λ y. InOrder g v y q) (sym e) h) (λ j. absurd (List·Memᴰ·not-nil j)) (List·Memᴰ·cases-cons i))
+          (λ i. ⊎-elim (λ (e : x ≡ r). subst (λ y. InOrder g v y q) (sym e) h) (λ j. absurd (List·Memᴰ·not-nil j))
+          (List·Memᴰ·cases-cons i))
           (List·Memᴰ·append-cases s m)
 
 -- ---- where a ring was made no two unskipped entries run in one direction
-pub ring-spread : {g : Graph} {state : List ℕ} {v : ℕ} {l : List ℕ} → ((k : ℕ) → Spoke g state v k → Forward g k) → Ring g state v l → Spread g state v
+pub ring-spread : {g : Graph} {state : List ℕ} {v : ℕ} {l : List ℕ} → ((k : ℕ) → Spoke g state v k → Forward g k)
+    → Ring g state v l → Spread g state v
 ring-spread {g} {state} {v} {l} fw r = record {
   strict = fw;
   apart = λ j k sj sk d. not-true (sameDirection (awayFrom g v j) (awayFrom g v k)) (λ e. ⊎-elim

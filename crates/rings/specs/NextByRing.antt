@@ -1,5 +1,7 @@
--- Rule 3 by the ring: at a `Cross` the next link is the first unvisited one of the ring, read round from the link just walked.
+-- Rule 3 by the ring: at a `Cross` the next link is the first
+-- unvisited one of the ring, read round from the link just walked.
 use Prim.Native.Nat.{ℕ}
+use native.Mathlib.Omega.{arith}
 use native.Mathlib.Decide.{ℕ-discrete}
 use mathlib.Core.Path.{_≡_, refl, sym, ap, _∙_, subst}
 use mathlib.Core.Logic.{⊎-elim}
@@ -12,6 +14,7 @@ use Rattle.graph.specs.Graph.{Graph}
 use Rattle.graph.specs.Checks.{awayFrom}
 use Rattle.next.specs.declared.Next.the-variants.{Link, Nothing}
 use Rattle.next.specs.Next.{isUnvisited, unvisitedIn, metFirst, best, firstMet, nextLink}
+use Rattle.next.specs.States.{unvisited-read}
 use Rattle.next.specs.Choice.{Mem, unvisited-in-in, unvisited-in-of, first-met, next-met}
 use Rattle.rings.specs.RingOrder.{Spread}
 use Rattle.rings.specs.Sorted.{Sorted}
@@ -24,7 +27,8 @@ record Open (st o l : List ℕ) : Type 0 where
   into : (x : ℕ) → Mem x l → isUnvisited st x ≡ true → Mem x o
 
 -- ---- the first met of some links is the first of them in a list that is sorted so
-module _ (st : List ℕ) (lt : ℕ → ℕ → Bool) (irr : (x : ℕ) → Is (lt x x) → ⊥) (trans : (x y z : ℕ) → Is (lt x y) → Is (lt y z) → Is (lt x z)) where
+module _ (st : List ℕ) (lt : ℕ → ℕ → Bool) (irr : (x : ℕ) → Is (lt x x) → ⊥)
+    (trans : (x y z : ℕ) → Is (lt x y) → Is (lt y z) → Is (lt x z)) where
   none : (o : List ℕ) → ((x : ℕ) → Mem x o → ⊥) → firstMet lt o ≡ Nothing
   none [] h = refl
   none (x ∷ o) h = absurd (h x (List·Memᴰ·head refl))
@@ -54,12 +58,16 @@ module _ (st : List ℕ) (lt : ℕ → ℕ → Bool) (irr : (x : ℕ) → Is (lt
 
       rest : isUnvisited st x ≡ false → Open st o l
       rest n = record {
-        of = λ y m. let k = h .of y m in
-            (⊎-elim (λ (q : y ≡ x). absurd (true≢false (k .1) (subst (λ z. isUnvisited st z ≡ false) (sym q) n))) (λ i. i) (List·Memᴰ·cases-cons (k .0)), k .1);
+        of = λ y m. let k = h .of y m in (
+          ⊎-elim (λ (q : y ≡ x). absurd (true≢false (k .1) (subst (λ z. isUnvisited st z ≡ false) (sym q) n)))
+              (λ i. i) (List·Memᴰ·cases-cons (k .0)),
+          k .1,
+        );
         into = λ y m t. h .into y (List·Memᴰ·tail m) t;
       }
 
-      at : (b : Bool) → isUnvisited st x ≡ b → (Open st o l → firstMet lt o ≡ firstUnvisited st l) → firstMet lt o ≡ firstUnvisited st (x ∷ l)
+      at : (b : Bool) → isUnvisited st x ≡ b → (Open st o l → firstMet lt o ≡ firstUnvisited st l)
+          → firstMet lt o ≡ firstUnvisited st (x ∷ l)
       at true t ih = head-met t ∙ sym (first-found st x l t)
       at false n ih = ih (rest n) ∙ sym (first-later st x l n)
 
@@ -67,6 +75,18 @@ module _ (st : List ℕ) (lt : ℕ → ℕ → Bool) (irr : (x : ℕ) → Is (lt
 -- what is unvisited at node v was not skipped at entry: only unskipped links are ever marked
 abbrev pub Marked : Graph → List ℕ → ℕ → List ℕ → Type 0
 Marked g state v st = (k : ℕ) → Mem k (g .entries v) → isUnvisited st k ≡ true → getD state k 0 ≡ 1 → ⊥
+
+-- it is so where every unvisited link was unvisited at entry; fewer unvisited links leave it so
+pub marked-entry : (g : Graph) (state : List ℕ) (v : ℕ) (st : List ℕ)
+    → ((k : ℕ) → isUnvisited st k ≡ true → isUnvisited state k ≡ true) → Marked g state v st
+marked-entry g state v st h k m o e = zero-one (sym (unvisited-read state k (h k o)) ∙ e)
+  where
+    zero-one : _≡_ {A = ℕ} 0 1 → ⊥
+    zero-one e = omega arith
+
+pub marked-fewer : (g : Graph) (state : List ℕ) (v : ℕ) (st fewer : List ℕ)
+    → ((k : ℕ) → isUnvisited fewer k ≡ true → isUnvisited st k ≡ true) → Marked g state v st → Marked g state v fewer
+marked-fewer g state v st fewer h s k m o = s k m (h k o)
 
 pub next-by-ring : {g : Graph} {state : List ℕ} {v : ℕ} → Spread g state v → {l : List ℕ} → Ring g state v l
     → (length (g .entries v) ≡ 2 → ⊥)

@@ -23,7 +23,8 @@ use Rattle.rings.specs.NextByRing.{Marked, next-by-ring}
 use Rattle.rings.specs.Linked.{Ringed, stepOf, linked-round}
 use Rattle.rings.specs.Follow.{Left, nextEnd, from-start}
 
--- At a `Cross` whose ring is linked, from end `home` of a visited link e of it: the answer is the next link. (Rule 4 asks it of the opposite sense.)
+-- At a `Cross` whose ring is linked, from end `home` of a visited link e of it:
+-- the answer is the next link. (Rule 4 asks it of the opposite sense.)
 module _ {g : Graph} {state : List ℕ} {v n : ℕ} (sp : Spread g state v) (below : (k : ℕ) → Mem k (g .entries v) → k < n)
     (cross : length (g .entries v) ≡ 2 → ⊥) {nxt prv : ℕ → ℕ} (at-node : Ringed g state v nxt prv)
     (st : List ℕ) (marked : Marked g state v st) {home : ℕ} (e : ℕ) (is-home : endOf g v e ≡ home)
@@ -49,8 +50,10 @@ module _ {g : Graph} {state : List ℕ} {v n : ℕ} (sp : Spread g state v) (bel
 
   pub loop-start : Left g v home (stepOf sense nxt prv) n st (nextLink g sense st v e) home
   loop-start =
-      subst (λ (a : Next). Left g v home (stepOf sense nxt prv) n st a home) (sym (next-by-ring sp r cross st marked e m visited sense))
-      (from-start g v home (stepOf sense nxt prv) e is-home {rest = round} (linked-round (at-node .linked) e m sense) (not-round sp r e m sense)
+      subst (λ (a : Next). Left g v home (stepOf sense nxt prv) n st a home)
+      (sym (next-by-ring sp r cross st marked e m visited sense))
+      (from-start g v home (stepOf sense nxt prv) e is-home {rest = round} (linked-round (at-node .linked) e m sense)
+      (not-round sp r e m sense)
       (below e (spoke .listed)) inside short)
 
 -- ---- the end that the loop gives back tells whether there is a next link, and which
@@ -60,8 +63,11 @@ none-next g sense st v e home is-home o = by (nextLink g sense st v e) (next-unv
   where
     by : (a : Next) → NamesUnvisited st a → nextEnd g v home a ≡ home → a ≡ Nothing
     by Nothing u q = refl
-    by (Link k) u q = absurd (true≢false (is-unvisited st k u) (subst (λ x. isUnvisited st x ≡ false) (sym (end-once g v k e (q ∙ sym is-home))) o))
+    by (Link k) u q =
+        absurd (true≢false (is-unvisited st k u) (subst (λ x. isUnvisited st x ≡ false)
+        (sym (end-once g v k e (q ∙ sym is-home))) o))
 
-pub some-next : (g : Graph) (v home : ℕ) (a : Next) → (nextEnd g v home a ≡ home → ⊥) → a ≡ Link (linkOf (nextEnd g v home a))
+pub some-next : (g : Graph) (v home : ℕ) (a : Next) → (nextEnd g v home a ≡ home → ⊥)
+    → a ≡ Link (linkOf (nextEnd g v home a))
 some-next g v home Nothing d = absurd (d refl)
 some-next g v home (Link k) d = ap Link (sym (end-link g v k))

@@ -1,5 +1,5 @@
--- The ring order of the links at a node: those that end there (b), counterclockwise, then those that start there (a), counterclockwise.
--- Since a is before b, it is the order by angle, counterclockwise from just after straight up to straight up itself, a full turn.
+-- The ring order of the links at a node: those whose b is there, then those whose a is, each counterclockwise.
+-- As a is before b, it is the order by angle, counterclockwise from just after straight up to straight up itself.
 use Prim.Native.Nat.{ℕ}
 use mathlib.Core.Path.{_≡_, refl, sym, ap, ap₂, _∙_}
 use mathlib.Core.Logic.{_⊎_, inl, inr, ⊎-elim}
@@ -54,13 +54,16 @@ flip-flip mns = refl
 flip-flip zer = refl
 flip-flip pls = refl
 
+-- of the signs of two ways, not 0, and of their cross product
+abbrev agree : Sgn → Sgn → Sgn → Sgn → Sgn → Bool
+agree ax ay bx by s =
+    not (eqS ax zer && eqS ay zer) ⇒ not (eqS bx zer && eqS by zer) ⇒ plusOk (ax ⊗ by) (flip (ay ⊗ bx)) s
+    ⇒ (inTurn (right ax ay) (right bx by) (eqS s pls) ⇔ sooner (halfTurn ax ay) (halfTurn bx by) (flip s))
+
 by-signs : (ax ay bx by s : Sgn) → Is (not (eqS ax zer && eqS ay zer)) → Is (not (eqS bx zer && eqS by zer))
     → Is (plusOk (ax ⊗ by) (flip (ay ⊗ bx)) s)
     → inTurn (right ax ay) (right bx by) (eqS s pls) ≡ sooner (halfTurn ax ay) (halfTurn bx by) (flip s)
-by-signs ax ay bx by s p q r =
-    ⇔-eq (mp (mp (mp
-    (all6 (λ ax ay bx by s _. not (eqS ax zer && eqS ay zer) ⇒ not (eqS bx zer && eqS by zer) ⇒ plusOk (ax ⊗ by) (flip (ay ⊗ bx)) s
-    ⇒ (inTurn (right ax ay) (right bx by) (eqS s pls) ⇔ sooner (halfTurn ax ay) (halfTurn bx by) (flip s))) tt ax ay bx by s zer) p) q) r)
+by-signs ax ay bx by s p q r = ⇔-eq (mp (mp (mp (all6 (λ ax ay bx by s _. agree ax ay bx by s) tt ax ay bx by s zer) p) q) r)
 
 from-up : (e f : Vector) → Is (nonzero e) → Is (nonzero f)
     → inTurn (rightward e) (rightward f) (ltZ (pos 0) (cross e f)) ≡ metBefore false up e f
@@ -84,7 +87,8 @@ module _ (g : Graph) (v k : ℕ) (strict : Forward g k) where
   turned-back : rightward (fromTo (g .b k) (g .a k)) ≡ false
   turned-back =
       ap₂ right (back (g .a k .x) (g .b k .x)) (back (g .a k .y) (g .b k .y))
-      ∙ opposite (sgn (g .b k .x -ℤ g .a k .x)) (sgn (g .b k .y -ℤ g .a k .y)) (is-true (right-before (g .a k) (g .b k) strict))
+      ∙ opposite (sgn (g .b k .x -ℤ g .a k .x)) (sgn (g .b k .y -ℤ g .a k .y))
+      (is-true (right-before (g .a k) (g .b k) strict))
     where
       back : (p q : ℤ) → sgn (p -ℤ q) ≡ flip (sgn (q -ℤ p))
       back p q = ap sgn (ring (p ∷ q ∷ []) (var 0 :- var 1) (neg (var 1 :- var 0)) tt) ∙ sgn-neg (q -ℤ p)
@@ -97,7 +101,9 @@ module _ (g : Graph) (v k : ℕ) (strict : Forward g k) where
       opposite pls t e = refl
 
   way-side : rightward (awayFrom g v k) ≡ startsAt g v k
-  way-side = pick-ind (startsAt g v k) (fromTo (g .a k) (g .b k)) (fromTo (g .b k) (g .a k)) (λ u. rightward u ≡ startsAt g v k)
+  way-side =
+      pick-ind (startsAt g v k) (fromTo (g .a k) (g .b k)) (fromTo (g .b k) (g .a k))
+      (λ u. rightward u ≡ startsAt g v k)
       (λ e. is-true (right-before (g .a k) (g .b k) strict) ∙ sym e) (λ e. turned-back ∙ sym e)
 
 module _ (g : Graph) (v : ℕ) where
@@ -109,7 +115,8 @@ module _ (g : Graph) (v : ℕ) where
       ap₂ (λ s t. inTurn s t (ltZ (pos 0) (cross (way e) (way f)))) (sym (way-side g v e se)) (sym (way-side g v f sf))
       ∙ from-up (way e) (way f) (way-nonzero g v e se) (way-nonzero g v f sf)
 
-  pub to-turn : (e f : ℕ) → Forward g e → Forward g f → ringBefore g v e f ≡ true → Is (metBefore false up (way e) (way f))
+  pub to-turn : (e f : ℕ) → Forward g e → Forward g f → ringBefore g v e f ≡ true
+      → Is (metBefore false up (way e) (way f))
   to-turn e f se sf h = true-is (sym (ring-turns e f se sf) ∙ h)
 
   of-turn : (e f : ℕ) → Forward g e → Forward g f → Is (metBefore false up (way e) (way f)) → ringBefore g v e f ≡ true
@@ -119,7 +126,8 @@ module _ (g : Graph) (v : ℕ) where
   pub ring-irreflexive : (e : ℕ) → Forward g e → ringBefore g v e e ≡ true → ⊥
   ring-irreflexive e se h = irreflexive false up (way e) (to-turn e e se se h)
 
-  pub ring-asymmetric : (e f : ℕ) → Forward g e → Forward g f → ringBefore g v e f ≡ true → ringBefore g v f e ≡ true → ⊥
+  pub ring-asymmetric : (e f : ℕ) → Forward g e → Forward g f
+      → ringBefore g v e f ≡ true → ringBefore g v f e ≡ true → ⊥
   ring-asymmetric e f se sf h k = asymmetric false up (way e) (way f) (to-turn e f se sf h) (to-turn f e sf se k)
 
   pub ring-transitive : (e f h : ℕ) → Forward g e → Forward g f → Forward g h
@@ -130,30 +138,37 @@ module _ (g : Graph) (v : ℕ) where
   pub ring-total : (e f : ℕ) → Forward g e → Forward g f → sameDirection (way e) (way f) ≡ false
       → (ringBefore g v e f ≡ true) ⊎ (ringBefore g v f e ≡ true)
   ring-total e f se sf d =
-      ⊎-elim (λ h. inl (of-turn e f se sf h)) (⊎-elim (λ h. absurd (true≢false (is-true h) d)) (λ h. inr (of-turn f e sf se h)))
+      ⊎-elim (λ h. inl (of-turn e f se sf h))
+      (⊎-elim (λ h. absurd (true≢false (is-true h) d)) (λ h. inr (of-turn f e sf se h)))
       (total false up (way e) (way f) (yes! tt) (way-nonzero g v e se) (way-nonzero g v f sf))
 
   -- two of which one stands before the other run in different directions
-  pub ring-apart : (e f : ℕ) → Forward g e → Forward g f → ringBefore g v e f ≡ true → Is (sameDirection (way e) (way f)) → ⊥
-  ring-apart e f se sf h d = together false up (way e) (way f) (yes! tt) (way-nonzero g v e se) (way-nonzero g v f sf) d (to-turn e f se sf h)
+  pub ring-apart : (e f : ℕ) → Forward g e → Forward g f → ringBefore g v e f ≡ true
+      → Is (sameDirection (way e) (way f)) → ⊥
+  ring-apart e f se sf h d =
+      together false up (way e) (way f) (yes! tt) (way-nonzero g v e se) (way-nonzero g v f sf) d (to-turn e f se sf h)
 
 -- ---- an unskipped entry of node v
 pub record Spoke (g : Graph) (state : List ℕ) (v k : ℕ) : Type 0 where
   pub listed : Mem k (g .entries v)
   pub unskipped : getD state k 0 ≡ 1 → ⊥
 
--- What the ring asks of a node: the a of each unskipped entry is before its b (check 3), and no two of them run from it in one direction (check 7).
+-- What the ring asks of a node: the a of each unskipped entry is before its b
+-- (check 3), and no two of them run from it in one direction (check 7).
 pub record Spread (g : Graph) (state : List ℕ) (v : ℕ) : Type 0 where
   pub strict : (k : ℕ) → Spoke g state v k → Forward g k
-  pub apart : (j k : ℕ) → Spoke g state v j → Spoke g state v k → (j ≡ k → ⊥) → sameDirection (awayFrom g v j) (awayFrom g v k) ≡ false
+  pub apart : (j k : ℕ) → Spoke g state v j → Spoke g state v k → (j ≡ k → ⊥)
+      → sameDirection (awayFrom g v j) (awayFrom g v k) ≡ false
 
-pub spread-fine : {g : Graph} {m : ℕ} {top state : List ℕ} → FineLinks g m → FineLists g m → FineBand g top state → (v : ℕ) → Spread g state v
+pub spread-fine : {g : Graph} {m : ℕ} {top state : List ℕ} → FineLinks g m → FineLists g m → FineBand g top state
+    → (v : ℕ) → Spread g state v
 spread-fine links lists band v = record {
   strict = λ k s. links .strict k (lists .below v k (s .listed));
   apart = λ j k s t d. band .spread v j k (s .listed) (t .listed) d (s .unskipped) (t .unskipped);
 }
 
 -- of two different unskipped entries one stands before the other
-pub spokes-total : {g : Graph} {state : List ℕ} {v : ℕ} → Spread g state v → (e f : ℕ) → Spoke g state v e → Spoke g state v f → (e ≡ f → ⊥)
+pub spokes-total : {g : Graph} {state : List ℕ} {v : ℕ} → Spread g state v → (e f : ℕ) → Spoke g state v e
+    → Spoke g state v f → (e ≡ f → ⊥)
     → (ringBefore g v e f ≡ true) ⊎ (ringBefore g v f e ≡ true)
 spokes-total {g} {v = v} sp e f se sf d = ring-total g v e f (sp .strict e se) (sp .strict f sf) (sp .apart e f se sf d)

@@ -42,21 +42,31 @@ each-at test (y ∷ l) e x m =
 
 among-in : (x : ℕ) (l : List ℕ) → among x l ≡ true → Mem x l
 among-in x [] e = absurd (true≢false e refl)
-among-in x (y ∷ l) e = ⊎-elim (λ q. List·Memᴰ·head (eqb-true x y q)) (λ k. List·Memᴰ·tail (among-in x l k)) (or-true (eqb x y) (among x l) e)
+among-in x (y ∷ l) e =
+    ⊎-elim (λ q. List·Memᴰ·head (eqb-true x y q)) (λ k. List·Memᴰ·tail (among-in x l k))
+    (or-true (eqb x y) (among x l) e)
 
 sorted-in : (lt : ℕ → ℕ → Bool) (l : List ℕ) → isSorted lt l ≡ true → Sorted (λ x y. lt x y ≡ true) l
 sorted-in lt [] e = tt
-sorted-in lt (x ∷ l) e = let p = and-true (each (lt x) l) (isSorted lt l) e in (each-at (lt x) l (p .0), sorted-in lt l (p .1))
+sorted-in lt (x ∷ l) e =
+    let p = and-true (each (lt x) l) (isSorted lt l) e in (each-at (lt x) l (p .0), sorted-in lt l (p .1))
 
 pub ring-test : (g : Graph) (state : List ℕ) (v : ℕ) (l : List ℕ) → isRing g state v l ≡ true → Ring g state v l
 ring-test g state v l e =
     let p = and-true (isSorted (ringBefore g v) l && each (λ k. among k (g .entries v) && not (skipped state k)) l)
     (each (λ k. skipped state k || among k l) (g .entries v)) e in
-    let q = and-true (isSorted (ringBefore g v) l) (each (λ k. among k (g .entries v) && not (skipped state k)) l) (p .0) in
+    let q = and-true (isSorted (ringBefore g v) l) (each (λ k. among k (g .entries v) && not (skipped state k)) l)
+    (p .0) in
     record {
       sorted = sorted-in (ringBefore g v) l (q .0);
-      only = λ k m. let t = and-true (among k (g .entries v)) (not (skipped state k)) (each-at (λ k. among k (g .entries v) && not (skipped state k)) l (q .1) k m) in
-          record { listed = among-in k (g .entries v) (t .0); unskipped = λ s. true≢false (eq-eqb _ _ s) (not-is (skipped state k) (t .1)) };
+      only = λ k m. let t = and-true (among k (g .entries v)) (not (skipped state k))
+          (each-at (λ k. among k (g .entries v) && not (skipped state k)) l (q .1) k m) in
+          record {
+            listed = among-in k (g .entries v) (t .0);
+            unskipped = λ s. true≢false (eq-eqb _ _ s)
+                (not-is (skipped state k) (t .1));
+          };
       every = λ k s. ⊎-elim (λ t. absurd (s .unskipped (eqb-true _ _ t))) (among-in k l)
-          (or-true (skipped state k) (among k l) (each-at (λ k. skipped state k || among k l) (g .entries v) (p .1) k (s .listed)));
+          (or-true (skipped state k) (among k l) (each-at (λ k. skipped state k || among k l) (g .entries v) (p .1) k
+          (s .listed)));
     }

@@ -1,4 +1,5 @@
--- The ring of a node: its unskipped entries in ring order. There is one alone; read round from a link it is what turning from there meets.
+-- The ring of a node: its unskipped entries in ring order. There is one
+-- alone; read round from a link it is what turning from there meets.
 use Prim.Native.Nat.{ℕ}
 use mathlib.Core.Path.{_≡_, refl, sym, _∙_, subst}
 use mathlib.Core.Logic.{⊎-elim}
@@ -13,7 +14,8 @@ use Rattle.next.specs.Next.{metFirst}
 use Rattle.next.specs.Choice.{Mem}
 use Rattle.rings.specs.RingOrder.{ringBefore, Forward, Spoke, Spread, ring-irreflexive, ring-asymmetric}
 use Rattle.rings.specs.Turning.{met-from-first, met-from-second, met-from-third, met-reversed}
-use Rattle.rings.specs.Sorted.{Sorted, Parts, Strict, Once, sorted-once, sorted-append, sorted-parts, sorted-by, sorted-reverse, sorted-unique, of-reverse}
+use Rattle.rings.specs.Sorted.{Sorted, Parts, Strict, Once, sorted-once, sorted-append, sorted-parts, sorted-by}
+use Rattle.rings.specs.Sorted.{sorted-reverse, sorted-unique, of-reverse}
 use Rattle.rings.specs.Rotation.{after, ahead, onward, roundFrom, split, of-after, of-ahead, of-onward, parted}
 
 -- link e stands before link f at node v, as a fact
@@ -39,7 +41,8 @@ module _ {g : Graph} {state : List ℕ} {v : ℕ} (sp : Spread g state v) where
 
   pub ring-unique : (l m : List ℕ) → Ring g state v l → Ring g state v m → l ≡ m
   ring-unique l m r s =
-      sorted-unique (InOrder g v) l m (ring-strict r) (r .sorted) (s .sorted) (λ k i. s .every k (r .only k i)) (λ k i. r .every k (s .only k i))
+      sorted-unique (InOrder g v) l m (ring-strict r) (r .sorted) (s .sorted) (λ k i. s .every k (r .only k i))
+      (λ k i. r .every k (s .only k i))
 
   -- no link stands in it twice
   pub ring-once : (l : List ℕ) → Ring g state v l → Once l
@@ -52,7 +55,8 @@ module _ {g : Graph} {state : List ℕ} {v : ℕ} (sp : Spread g state v) where
 
     -- the parts of the ring behind e and before it
     parts : Parts (InOrder g v) (ahead e l) (e ∷ after e l)
-    parts = sorted-parts (InOrder g v) (ahead e l) (e ∷ after e l) (subst (Sorted (InOrder g v)) (split e l m) (r .sorted))
+    parts =
+        sorted-parts (InOrder g v) (ahead e l) (e ∷ after e l) (subst (Sorted (InOrder g v)) (split e l m) (r .sorted))
 
     before-e : (x : ℕ) → Mem x (ahead e l) → InOrder g v x e
     before-e x i = parts .between x i e (List·Memᴰ·head refl)
@@ -94,12 +98,14 @@ module _ {g : Graph} {state : List ℕ} {v : ℕ} (sp : Spread g state v) where
     round-met false = onward-met
     round-met true = sorted-reverse (λ x y. metFirst g true v e x y ≡ true) (onward e l)
         (sorted-by (λ x y. metFirst g false v e x y ≡ true) (λ x y. metFirst g true v e y x ≡ true) (onward e l)
-        (λ x y i j h. met-reversed g v e x y se (forward r x (of-onward e l i)) (forward r y (of-onward e l j)) (apart x i) (apart y j) ∙ h)
+        (λ x y i j h. met-reversed g v e x y se (forward r x (of-onward e l i)) (forward r y (of-onward e l j))
+        (apart x i) (apart y j) ∙ h)
         onward-met)
 
     -- so f is met before h exactly where h is among what follows f
     pub round-exact : (sense : Bool) (f h : ℕ) → Mem f (roundFrom sense e l) → Mem h (roundFrom sense e l)
-        → (Mem h (after f (roundFrom sense e l)) → metFirst g sense v e f h ≡ true) × (metFirst g sense v e f h ≡ true → Mem h (after f (roundFrom sense e l)))
+        → (Mem h (after f (roundFrom sense e l)) → metFirst g sense v e f h ≡ true)
+        × (metFirst g sense v e f h ≡ true → Mem h (after f (roundFrom sense e l)))
     round-exact sense f h i j = (λ k. follows .right .0 h k, back)
       where
         B : ℕ → ℕ → Type 0

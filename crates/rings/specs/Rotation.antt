@@ -1,9 +1,11 @@
--- A list read round from one of its elements: what follows it, then what stands before it; and the first unvisited link of a list.
+-- A list read round from one of its elements: what follows it, then what stands before it.
+-- The first and the last unvisited link of a list.
 use Prim.Native.Nat.{ℕ}
 use mathlib.Core.Path.{_≡_, refl, sym, ap, _∙_}
 use mathlib.Core.Logic.{_⊎_, inl, inr, ⊎-elim}
 use mathlib.Core.Bool.{Bool, true, false}
-use mathlib.Core.List.{List, [], _∷_, _++_, reverse, List·Memᴰ·head, List·Memᴰ·tail, List·Memᴰ·cases-cons, List·Memᴰ·not-nil}
+use mathlib.Core.List.{List, [], _∷_, _++_, reverse, List·Memᴰ·head, List·Memᴰ·tail, List·Memᴰ·cases-cons}
+use mathlib.Core.List.{List·Memᴰ·not-nil}
 use mathlib.Core.List.{Memᴰ·append-left, Memᴰ·append-right, List·Memᴰ·append-cases}
 use lib.Dec.{eqb}
 use borrow.Author.Tests.{eqb-true, eqb-false}
@@ -23,7 +25,7 @@ abbrev pub ahead : ℕ → List ℕ → List ℕ
 ahead e [] = []
 ahead e (x ∷ l) = pick (eqb x e) [] (x ∷ ahead e l)
 
--- from just after e, round the list's end, up to e; and the same way back
+-- from just after e, round the list's end, up to just before e; and from there back
 abbrev pub onward : ℕ → List ℕ → List ℕ
 onward e l = after e l ++ ahead e l
 
@@ -55,11 +57,14 @@ split e (x ∷ l) m = at (eqb x e) refl (split e l)
 -- ---- what is read round from e is the list without e
 pub of-after : {x : ℕ} (e : ℕ) (l : List ℕ) → Mem x (after e l) → Mem x l
 of-after e [] = λ m. m
-of-after {x} e (y ∷ l) = pick-ind (eqb y e) l (after e l) (λ r. Mem x r → Mem x (y ∷ l)) (λ _ m. List·Memᴰ·tail m) (λ _ m. List·Memᴰ·tail (of-after e l m))
+of-after {x} e (y ∷ l) =
+    pick-ind (eqb y e) l (after e l) (λ r. Mem x r → Mem x (y ∷ l)) (λ _ m. List·Memᴰ·tail m)
+    (λ _ m. List·Memᴰ·tail (of-after e l m))
 
 pub of-ahead : {x : ℕ} (e : ℕ) (l : List ℕ) → Mem x (ahead e l) → Mem x l
 of-ahead e [] = λ m. m
-of-ahead {x} e (y ∷ l) = pick-ind (eqb y e) [] (y ∷ ahead e l) (λ r. Mem x r → Mem x (y ∷ l)) (λ _ m. absurd (List·Memᴰ·not-nil m))
+of-ahead {x} e (y ∷ l) =
+    pick-ind (eqb y e) [] (y ∷ ahead e l) (λ r. Mem x r → Mem x (y ∷ l)) (λ _ m. absurd (List·Memᴰ·not-nil m))
     (λ _ m. ⊎-elim (λ q. List·Memᴰ·head q) (λ k. List·Memᴰ·tail (of-ahead e l k)) (List·Memᴰ·cases-cons m))
 
 pub of-onward : {x : ℕ} (e : ℕ) (l : List ℕ) → Mem x (onward e l) → Mem x l
@@ -77,7 +82,8 @@ parted {x} e (y ∷ l) m d = at (eqb y e) refl (λ k. parted e l k d)
         → Mem x (pick b [] (y ∷ ahead e l)) ⊎ Mem x (pick b l (after e l))
     at true q rest = ⊎-elim (λ (p : x ≡ y). absurd (d (p ∙ eqb-true y e q))) inr (List·Memᴰ·cases-cons m)
     at false q rest =
-        ⊎-elim (λ p. inl (List·Memᴰ·head p)) (λ k. ⊎-elim (λ n. inl (List·Memᴰ·tail n)) inr (rest k)) (List·Memᴰ·cases-cons m)
+        ⊎-elim (λ p. inl (List·Memᴰ·head p)) (λ k. ⊎-elim (λ n. inl (List·Memᴰ·tail n)) inr (rest k))
+        (List·Memᴰ·cases-cons m)
 
 in-onward : {x : ℕ} (e : ℕ) (l : List ℕ) → Mem x l → (x ≡ e → ⊥) → Mem x (onward e l)
 in-onward e l m d = ⊎-elim (Memᴰ·append-right (after e l)) (Memᴰ·append-left (ahead e l)) (parted e l m d)
@@ -90,5 +96,6 @@ in-round true e l m d = in-reverse (onward e l) (in-onward e l m d)
 pub first-found : (st : List ℕ) (x : ℕ) (l : List ℕ) → isUnvisited st x ≡ true → firstUnvisited st (x ∷ l) ≡ Link x
 first-found st x l o = rw o
 
-pub first-later : (st : List ℕ) (x : ℕ) (l : List ℕ) → isUnvisited st x ≡ false → firstUnvisited st (x ∷ l) ≡ firstUnvisited st l
+pub first-later : (st : List ℕ) (x : ℕ) (l : List ℕ) → isUnvisited st x ≡ false
+    → firstUnvisited st (x ∷ l) ≡ firstUnvisited st l
 first-later st x l n = rw n

@@ -4,7 +4,8 @@ use native.Mathlib.Omega.{arith}
 use native.Mathlib.Decide.{decLe}
 use mathlib.Core.Path.{_≡_, refl, sym, ap₂, _∙_, subst}
 use mathlib.Core.Logic.{_⊎_, inl, inr, ⊎-elim}
-use mathlib.Core.List.{List, [], _∷_, _++_, reverse, reverse-cons, List·Memᴰ·head, List·Memᴰ·tail, List·Memᴰ·cases-cons, List·Memᴰ·not-nil}
+use mathlib.Core.List.{List, [], _∷_, _++_, reverse, reverse-cons, List·Memᴰ·head, List·Memᴰ·tail, List·Memᴰ·cases-cons}
+use mathlib.Core.List.{List·Memᴰ·not-nil}
 use mathlib.Core.List.{Memᴰ·append-left, Memᴰ·append-right, List·Memᴰ·append-cases}
 use mathlib.Core.Bool.{Bool, true, false}
 use lib.Dec.{eqb}
@@ -28,7 +29,8 @@ Sorted R (x ∷ l) = BeforeAll R x l × Sorted R l
 
 -- ---- two lists, one after the other
 module _ (R : Order) where
-  pub sorted-append : (s t : List ℕ) → Sorted R s → Sorted R t → ((x : ℕ) → Mem x s → BeforeAll R x t) → Sorted R (s ++ t)
+  pub sorted-append : (s t : List ℕ) → Sorted R s → Sorted R t → ((x : ℕ) → Mem x s → BeforeAll R x t)
+      → Sorted R (s ++ t)
   sorted-append [] t p q h = q
   sorted-append (x ∷ s) t p q h = (
     λ y m. ⊎-elim (λ k. p .0 y k) (λ k. h x (List·Memᴰ·head refl) y k) (List·Memᴰ·append-cases s m),
@@ -47,21 +49,25 @@ module _ (R : Order) where
       record {
         left = (λ y m. p .0 y (Memᴰ·append-left t m), r .left);
         right = r .right;
-        between = λ y m. ⊎-elim (λ (q : y ≡ x). subst (λ z. BeforeAll R z t) (sym q) (λ z n. p .0 z (Memᴰ·append-right s n)))
+        between = λ y m. ⊎-elim (λ (q : y ≡ x). subst (λ z. BeforeAll R z t) (sym q)
+            (λ z n. p .0 z (Memᴰ·append-right s n)))
             (λ k. r .between y k) (List·Memᴰ·cases-cons m);
       }
 
   -- one more, at its place
-  pub sorted-insert : (s t : List ℕ) (q : ℕ) → Sorted R (s ++ t) → ((x : ℕ) → Mem x s → R x q) → BeforeAll R q t → Sorted R (s ++ (q ∷ t))
+  pub sorted-insert : (s t : List ℕ) (q : ℕ) → Sorted R (s ++ t) → ((x : ℕ) → Mem x s → R x q) → BeforeAll R q t
+      → Sorted R (s ++ (q ∷ t))
   sorted-insert s t q p hs ht =
       let r = sorted-parts s t p in
       sorted-append s (q ∷ t) (r .left) (ht, r .right)
-      (λ x m y n. ⊎-elim (λ (e : y ≡ q). subst (R x) (sym e) (hs x m)) (λ k. r .between x m y k) (List·Memᴰ·cases-cons n))
+      (λ x m y n. ⊎-elim (λ (e : y ≡ q). subst (R x) (sym e) (hs x m)) (λ k. r .between x m y k)
+      (List·Memᴰ·cases-cons n))
 
 -- of two different elements one stands before the other
 pub sorted-two : (R : Order) (l : List ℕ) → Sorted R l → (x y : ℕ) → Mem x l → Mem y l → (x ≡ y → ⊥) → R x y ⊎ R y x
 sorted-two R [] p x y m n d = absurd (List·Memᴰ·not-nil m)
-sorted-two R (z ∷ l) p x y m n d = by (List·Memᴰ·cases-cons m) (List·Memᴰ·cases-cons n) (λ i j. sorted-two R l (p .1) x y i j d)
+sorted-two R (z ∷ l) p x y m n d =
+    by (List·Memᴰ·cases-cons m) (List·Memᴰ·cases-cons n) (λ i j. sorted-two R l (p .1) x y i j d)
   where
     by : (x ≡ z) ⊎ Mem x l → (y ≡ z) ⊎ Mem y l → (Mem x l → Mem y l → R x y ⊎ R y x) → R x y ⊎ R y x
     by (inl e) (inl f) rest = absurd (d (e ∙ sym f))
@@ -81,19 +87,22 @@ sorted-by R S (x ∷ l) h p = (
 pub of-reverse : {x : ℕ} (l : List ℕ) → Mem x (reverse l) → Mem x l
 of-reverse [] m = m
 of-reverse {x} (y ∷ l) m =
-    ⊎-elim (λ k. List·Memᴰ·tail (of-reverse l k)) (λ k. ⊎-elim List·Memᴰ·head (λ n. absurd (List·Memᴰ·not-nil n)) (List·Memᴰ·cases-cons k))
+    ⊎-elim (λ k. List·Memᴰ·tail (of-reverse l k))
+    (λ k. ⊎-elim List·Memᴰ·head (λ n. absurd (List·Memᴰ·not-nil n)) (List·Memᴰ·cases-cons k))
     (List·Memᴰ·append-cases (reverse l) (subst (Mem x) (reverse-cons y l) m))
 
 pub in-reverse : {x : ℕ} (l : List ℕ) → Mem x l → Mem x (reverse l)
 in-reverse [] m = m
 in-reverse {x} (y ∷ l) m = subst (Mem x) (sym (reverse-cons y l))
-    (⊎-elim (λ q. Memᴰ·append-right (reverse l) (List·Memᴰ·head q)) (λ k. Memᴰ·append-left (y ∷ []) (in-reverse l k)) (List·Memᴰ·cases-cons m))
+    (⊎-elim (λ q. Memᴰ·append-right (reverse l) (List·Memᴰ·head q)) (λ k. Memᴰ·append-left (y ∷ []) (in-reverse l k))
+    (List·Memᴰ·cases-cons m))
 
 pub sorted-reverse : (R : Order) (l : List ℕ) → Sorted (λ x y. R y x) l → Sorted R (reverse l)
 sorted-reverse R [] p = tt
 sorted-reverse R (x ∷ l) p = subst (Sorted R) (sym (reverse-cons x l))
     (sorted-append R (reverse l) (x ∷ []) (sorted-reverse R l (p .1)) (λ y m. absurd (List·Memᴰ·not-nil m), tt)
-    (λ y m z n. ⊎-elim (λ (q : z ≡ x). subst (R y) (sym q) (p .0 y (of-reverse l m))) (λ k. absurd (List·Memᴰ·not-nil k)) (List·Memᴰ·cases-cons n)))
+    (λ y m z n. ⊎-elim (λ (q : z ≡ x). subst (R y) (sym q) (p .0 y (of-reverse l m)))
+    (λ k. absurd (List·Memᴰ·not-nil k)) (List·Memᴰ·cases-cons n)))
 
 -- ---- one list alone has given elements in a given order
 abbrev pub Within : List ℕ → List ℕ → Type 0
@@ -106,11 +115,16 @@ module _ (R : Order) where
     pub asym : (x y : ℕ) → Mem x l → Mem y l → R x y → R y x → ⊥
 
   shorter : (x : ℕ) (l : List ℕ) → Strict (x ∷ l) → Strict l
-  shorter x l s = record { irr = λ y m. s .irr y (List·Memᴰ·tail m); asym = λ y z m n. s .asym y z (List·Memᴰ·tail m) (List·Memᴰ·tail n) }
+  shorter x l s = record {
+    irr = λ y m. s .irr y (List·Memᴰ·tail m);
+    asym = λ y z m n. s .asym y z (List·Memᴰ·tail m) (List·Memᴰ·tail n);
+  }
 
-  heads : (x y : ℕ) (l m : List ℕ) → Strict (x ∷ l) → Sorted R (x ∷ l) → Sorted R (y ∷ m) → Within (x ∷ l) (y ∷ m) → Within (y ∷ m) (x ∷ l) → x ≡ y
+  heads : (x y : ℕ) (l m : List ℕ) → Strict (x ∷ l) → Sorted R (x ∷ l) → Sorted R (y ∷ m) → Within (x ∷ l) (y ∷ m)
+      → Within (y ∷ m) (x ∷ l) → x ≡ y
   heads x y l m s p q f h =
-      ⊎-elim (λ e. e) (λ yx. ⊎-elim (λ e. sym e) (λ xy. absurd (s .asym x y (List·Memᴰ·head refl) (List·Memᴰ·tail xy) (p .0 y xy) (q .0 x yx)))
+      ⊎-elim (λ e. e) (λ yx. ⊎-elim (λ e. sym e)
+      (λ xy. absurd (s .asym x y (List·Memᴰ·head refl) (List·Memᴰ·tail xy) (p .0 y xy) (q .0 x yx)))
       (List·Memᴰ·cases-cons (h y (List·Memᴰ·head refl)))) (List·Memᴰ·cases-cons (f x (List·Memᴰ·head refl)))
 
   -- what follows the common head
@@ -139,7 +153,8 @@ module _ (R : Order) where
   pub sorted-once : (l : List ℕ) → ((x : ℕ) → Mem x l → R x x → ⊥) → Sorted R l → Once l
   unfolding count
   sorted-once [] irr p x = omega arith
-  sorted-once (y ∷ l) irr p x = at (eqb y x) refl (sorted-once l (λ z m. irr z (List·Memᴰ·tail m)) (p .1) x) (decLe 1 (count x l))
+  sorted-once (y ∷ l) irr p x =
+      at (eqb y x) refl (sorted-once l (λ z m. irr z (List·Memᴰ·tail m)) (p .1) x) (decLe 1 (count x l))
     where
       again : eqb y x ≡ true → Mem x l → ⊥
       again e m = irr y (List·Memᴰ·head refl) (subst (R y) (sym (eqb-true y x e)) (p .0 x m))
@@ -149,7 +164,8 @@ module _ (R : Order) where
       at true e r (no k) = omega arith
       at false e r d = omega arith
 
-  pub sorted-short : (l : List ℕ) (n : ℕ) → ((x : ℕ) → Mem x l → R x x → ⊥) → Sorted R l → ((x : ℕ) → Mem x l → x < n) → length l ≤ n
+  pub sorted-short : (l : List ℕ) (n : ℕ) → ((x : ℕ) → Mem x l → R x x → ⊥) → Sorted R l → ((x : ℕ) → Mem x l → x < n)
+      → length l ≤ n
   sorted-short l n irr p b =
       let c = counted l n (λ k h. b (getD l k 0) (member 0 l k h)) in
       let s = sum-less (λ i. count i l) (λ i. 1) n (λ i h. sorted-once l irr p i) in

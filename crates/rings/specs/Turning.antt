@@ -1,4 +1,5 @@
--- Three ways in turn, cut from the round at a fourth: what stands in the order x, y, z from u is met so from each of the three.
+-- Three ways in turn, cut from the round at a fourth: what stands in
+-- the order x, y, z from u is met so from each of the three.
 use mathlib.Core.Path.{_≡_, ap}
 use mathlib.Core.Logic.{⊎-elim}
 use mathlib.Core.Bool.{Bool, true, false, not}
@@ -24,7 +25,8 @@ module _ (w : Bool) (x y z : Vector) (hx : Is (nonzero x)) (hy : Is (nonzero y))
   rotate : (Is (sameDirection x z) → ⊥) → Is (metBefore w x y z) → Is (metBefore w y z x)
   rotate d p =
       ⊎-elim (λ h. h)
-      (⊎-elim (λ h. absurd (d (same-sym z x h))) (λ h. absurd (own-last w x z (transitive-on w x y x hx hy hx z hz p h))))
+      (⊎-elim (λ h. absurd (d (same-sym z x h)))
+      (λ h. absurd (own-last w x z (transitive-on w x y x hx hy hx z hz p h))))
       (total w y z x hy hz hx)
 
 -- ---- links x, y, z in ring order at node v: turning counterclockwise from each, which of the others is met first
@@ -59,5 +61,6 @@ pub met-reversed : (g : Graph) (v e f h : ℕ) → Forward g e → Forward g f �
     → sameDirection (awayFrom g v e) (awayFrom g v f) ≡ false → sameDirection (awayFrom g v e) (awayFrom g v h) ≡ false
     → metFirst g true v e h f ≡ metFirst g false v e f h
 met-reversed g v e f h se sf sh df dh =
-    reversed false (awayFrom g v e) (awayFrom g v f) (awayFrom g v h) (way-nonzero g v e se) (way-nonzero g v f sf) (way-nonzero g v h sh)
+    reversed false (awayFrom g v e) (awayFrom g v f) (awayFrom g v h) (way-nonzero g v e se) (way-nonzero g v f sf)
+    (way-nonzero g v h sh)
     (true-is (ap not df)) (true-is (ap not dh))
