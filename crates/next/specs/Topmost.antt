@@ -80,7 +80,7 @@ unfolding firstLink
 first-at-bridge g st k x y two = rw two
 
 -- ---- directions to the right, or straight up
-abbrev right : Sgn → Sgn → Bool
+abbrev pub right : Sgn → Sgn → Bool
 right mns d = false
 right zer mns = false
 right zer zer = false
@@ -94,7 +94,7 @@ Right v = Is (right (sgn (v .x)) (sgn (v .y)))
 abbrev NotUp : Vector → Vector → Type 0
 NotUp u v = Is (not (eqS (sgn (cross u v)) pls))
 
-right-before : (p q : Point) → before p q ≡ true → Right (fromTo p q)
+pub right-before : (p q : Point) → before p q ≡ true → Right (fromTo p q)
 right-before p q e =
     ⊎-elim
     (λ (h : ltZ (p .x) (q .x) ≡ true). rw (rising (p .x) (q .x) h) (yes! tt))
@@ -115,7 +115,7 @@ right-before p q e =
     up pls n = yes! tt
 
 -- ---- within them "not counterclockwise of" goes on
-cross-sign : (u v : Vector) → Is (plusOk (sgn (u .x) ⊗ sgn (v .y)) (flip (sgn (u .y) ⊗ sgn (v .x))) (sgn (cross u v)))
+pub cross-sign : (u v : Vector) → Is (plusOk (sgn (u .x) ⊗ sgn (v .y)) (flip (sgn (u .y) ⊗ sgn (v .x))) (sgn (cross u v)))
 cross-sign u v = rw (sgn-mul (u .x) (v .y), sgn-neg (u .y *ℤ v .x), sgn-mul (u .y) (v .x)) at (sgn-add (u .x *ℤ v .y) (negℤ (u .y *ℤ v .x)))
 
 pluecker : (r x c : Vector) → Is (plusOk (sgn (r .x) ⊗ sgn (cross x c)) (sgn (c .x) ⊗ sgn (cross r x)) (sgn (x .x) ⊗ sgn (cross r c)))

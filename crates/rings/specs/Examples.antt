@@ -1,0 +1,145 @@
+-- Worked examples: a `Cross` of four links, and one of six of which
+-- one is skipped, one runs straight up and one straight down.
+use Prim.Native.Nat.{ℕ}
+use mathlib.Core.Path.{_≡_, refl}
+use mathlib.Core.Bool.{true, false}
+use mathlib.Core.List.{List, [], _∷_}
+use lib.IntN.{ℤ, pos, negℤ}
+use Rattle.laws.specs.Lowest.{lowest}
+use Rattle.laws.specs.Count.{count}
+use Rattle.turn.specs.declared.Checked.the-variants.{Fine}
+use Rattle.graph.specs.Graph.{Lent, lent, Graph, graphOf}
+use Rattle.graph.specs.Checks.{room, nodesChecked, eachChecked, linksChecked, checked}
+use Rattle.next.specs.declared.Next.the-variants.{Link, Nothing}
+use Rattle.next.specs.Next.{nextLink, firstLink}
+use Rattle.rings.specs.Ends.{endOf}
+use Rattle.rings.specs.Rotation.{onward, backward, roundFrom, firstUnvisited, lastUnvisited}
+use Rattle.rings.specs.RingTest.{isRing}
+
+abbrev p : ℕ → ℤ
+p = pos
+
+abbrev m : ℕ → ℤ
+m n = negℤ (pos n)
+
+-- ---- two triangles that touch in (0,0): (-2,-1) (-2,1) on its left, (2,-1) (2,1) on its right
+abbrev bow : Lent
+bow = lent
+    (m 2 ∷ m 2 ∷ m 2 ∷ p 0 ∷ p 0 ∷ p 2 ∷ [])
+    (m 1 ∷ m 1 ∷ p 1 ∷ p 0 ∷ p 0 ∷ m 1 ∷ [])
+    (m 2 ∷ p 0 ∷ p 0 ∷ p 2 ∷ p 2 ∷ p 2 ∷ [])
+    (p 1 ∷ p 0 ∷ p 0 ∷ m 1 ∷ p 1 ∷ p 1 ∷ [])
+    (0 ∷ 0 ∷ 1 ∷ 2 ∷ 2 ∷ 3 ∷ [])
+    (1 ∷ 2 ∷ 2 ∷ 3 ∷ 4 ∷ 4 ∷ [])
+    (0 ∷ 2 ∷ 4 ∷ 8 ∷ 10 ∷ 12 ∷ [])
+    (0 ∷ 1 ∷ 0 ∷ 2 ∷ 1 ∷ 2 ∷ 3 ∷ 4 ∷ 3 ∷ 5 ∷ 4 ∷ 5 ∷ [])
+
+abbrev bowTops : List ℕ
+bowTops = 0 ∷ 1 ∷ 0 ∷ 1 ∷ 0 ∷ 1 ∷ []
+
+abbrev unvisited6 : List ℕ
+unvisited6 = 0 ∷ 0 ∷ 0 ∷ 0 ∷ 0 ∷ 0 ∷ []
+
+abbrev bowGraph : Graph
+bowGraph = graphOf bow bowTops
+
+bow-fine : checked bow bowTops unvisited6 (room 12 2 2 2) ≡ Fine
+unfolding checked linksChecked eachChecked nodesChecked lowest count
+bow-fine = refl
+
+-- links 1 and 2 end at node 2, links 3 and 4 start there
+abbrev bowRing : List ℕ
+bowRing = 2 ∷ 1 ∷ 3 ∷ 4 ∷ []
+
+bow-ring : isRing bowGraph unvisited6 2 bowRing ≡ true
+bow-ring = refl
+
+bow-round : (onward 1 bowRing ≡ 3 ∷ 4 ∷ 2 ∷ []) × (backward 1 bowRing ≡ 2 ∷ 4 ∷ 3 ∷ [])
+bow-round = (refl, refl)
+
+-- link 1 was just walked, counterclockwise and clockwise
+bow-next : (nextLink bowGraph false (0 ∷ 3 ∷ 0 ∷ 0 ∷ 0 ∷ 0 ∷ []) 2 1 ≡ Link 3) × (nextLink bowGraph true
+    (0 ∷ 3 ∷ 0 ∷ 0 ∷ 0 ∷ 0 ∷ []) 2 1 ≡ Link 2)
+unfolding nextLink
+bow-next = (refl, refl)
+
+-- and then 4, from which the round goes past the ring's end and past visited links; and where all are visited
+bow-later : (nextLink bowGraph false (0 ∷ 3 ∷ 0 ∷ 0 ∷ 3 ∷ 0 ∷ []) 2 4 ≡ Link 2) × (nextLink bowGraph false
+    (0 ∷ 3 ∷ 3 ∷ 0 ∷ 3 ∷ 0 ∷ []) 2 4 ≡ Link 3)
+    × (nextLink bowGraph true (0 ∷ 3 ∷ 3 ∷ 3 ∷ 3 ∷ 0 ∷ []) 2 4 ≡ Nothing)
+unfolding nextLink
+bow-later = (refl, refl, refl)
+
+bow-by-ring : (firstUnvisited (0 ∷ 3 ∷ 0 ∷ 0 ∷ 3 ∷ 0 ∷ []) (roundFrom false 4 bowRing) ≡ Link 2)
+    × (firstUnvisited (0 ∷ 3 ∷ 3 ∷ 0 ∷ 3 ∷ 0 ∷ []) (roundFrom false 4 bowRing) ≡ Link 3)
+    × (firstUnvisited (0 ∷ 3 ∷ 3 ∷ 3 ∷ 3 ∷ 0 ∷ []) (roundFrom true 4 bowRing) ≡ Nothing)
+bow-by-ring = (refl, refl, refl)
+
+-- the scan stands at link 3, the lowest unvisited one
+bow-first : (firstLink bowGraph (3 ∷ 3 ∷ 3 ∷ 0 ∷ 0 ∷ 0 ∷ []) 3 ≡ Link 4) × (lastUnvisited (3 ∷ 3 ∷ 3 ∷ 0 ∷ 0 ∷ 0 ∷ [])
+    bowRing ≡ Link 4)
+unfolding firstLink
+bow-first = (refl, refl)
+
+-- ---- six links at (0,0), node 2: from (-2,0) and (0,-2); to (0,2),
+-- (2,-2), (2,0), (2,2); that to (2,0), link 7, is skipped
+abbrev fan : Lent
+fan = lent
+    (m 2 ∷ m 2 ∷ m 2 ∷ p 0 ∷ p 0 ∷ p 0 ∷ p 0 ∷ p 0 ∷ p 0 ∷ p 0 ∷ p 2 ∷ p 2 ∷ [])
+    (p 0 ∷ p 0 ∷ p 0 ∷ m 2 ∷ m 2 ∷ p 0 ∷ p 0 ∷ p 0 ∷ p 0 ∷ p 2 ∷ m 2 ∷ p 0 ∷ [])
+    (p 0 ∷ p 0 ∷ p 0 ∷ p 0 ∷ p 2 ∷ p 0 ∷ p 2 ∷ p 2 ∷ p 2 ∷ p 2 ∷ p 2 ∷ p 2 ∷ [])
+    (m 2 ∷ p 0 ∷ p 2 ∷ p 0 ∷ m 2 ∷ p 2 ∷ m 2 ∷ p 0 ∷ p 2 ∷ p 2 ∷ p 0 ∷ p 2 ∷ [])
+    (0 ∷ 0 ∷ 0 ∷ 1 ∷ 1 ∷ 2 ∷ 2 ∷ 2 ∷ 2 ∷ 3 ∷ 4 ∷ 5 ∷ [])
+    (1 ∷ 2 ∷ 3 ∷ 2 ∷ 4 ∷ 3 ∷ 4 ∷ 5 ∷ 6 ∷ 6 ∷ 5 ∷ 6 ∷ [])
+    (0 ∷ 3 ∷ 6 ∷ 12 ∷ 15 ∷ 18 ∷ 21 ∷ 24 ∷ [])
+    (0 ∷ 1 ∷ 2 ∷ 0 ∷ 3 ∷ 4 ∷ 1 ∷ 3 ∷ 5 ∷ 6 ∷ 7 ∷ 8 ∷ 2 ∷ 5 ∷ 9 ∷ 4 ∷ 6 ∷ 10 ∷ 7 ∷ 10 ∷ 11 ∷ 8 ∷ 9 ∷ 11 ∷ [])
+
+abbrev fanTops : List ℕ
+fanTops = 0 ∷ 0 ∷ 0 ∷ 0 ∷ 0 ∷ 0 ∷ 0 ∷ 0 ∷ 0 ∷ 0 ∷ 0 ∷ 0 ∷ []
+
+abbrev fanStates : List ℕ
+fanStates = 0 ∷ 0 ∷ 0 ∷ 0 ∷ 0 ∷ 0 ∷ 0 ∷ 1 ∷ 0 ∷ 0 ∷ 0 ∷ 0 ∷ []
+
+abbrev fanGraph : Graph
+fanGraph = graphOf fan fanTops
+
+fan-fine : checked fan fanTops fanStates (room 24 4 4 4) ≡ Fine
+unfolding checked linksChecked eachChecked nodesChecked lowest count
+fan-fine = refl
+
+-- left, down, then right and down, right and up, up
+abbrev fanRing : List ℕ
+fanRing = 1 ∷ 3 ∷ 6 ∷ 8 ∷ 5 ∷ []
+
+fan-ring : isRing fanGraph fanStates 2 fanRing ≡ true
+fan-ring = refl
+
+-- all visited at node 2 but what each line says
+abbrev only8 : List ℕ
+only8 = 0 ∷ 2 ∷ 0 ∷ 3 ∷ 0 ∷ 2 ∷ 3 ∷ 1 ∷ 0 ∷ 0 ∷ 0 ∷ 0 ∷ []
+
+abbrev not6 : List ℕ
+not6 = 0 ∷ 0 ∷ 0 ∷ 3 ∷ 0 ∷ 0 ∷ 3 ∷ 1 ∷ 0 ∷ 0 ∷ 0 ∷ 0 ∷ []
+
+fan-next : (nextLink fanGraph false not6 2 6 ≡ Link 8) × (nextLink fanGraph true not6 2 6 ≡ Link 1) × (nextLink
+    fanGraph false only8 2 5 ≡ Link 8)
+    × (nextLink fanGraph true only8 2 5 ≡ Link 8)
+unfolding nextLink
+fan-next = (refl, refl, refl, refl)
+
+fan-by-ring : (firstUnvisited not6 (roundFrom false 6 fanRing) ≡ Link 8) × (firstUnvisited not6
+    (roundFrom true 6 fanRing) ≡ Link 1)
+    × (firstUnvisited only8 (roundFrom false 5 fanRing) ≡ Link 8)
+    × (firstUnvisited only8 (roundFrom true 5 fanRing) ≡ Link 8)
+fan-by-ring = (refl, refl, refl, refl)
+
+-- straight up is the last, so it is the first link while it is unvisited
+fan-first : (firstLink fanGraph (2 ∷ 2 ∷ 2 ∷ 2 ∷ 2 ∷ 0 ∷ 0 ∷ 1 ∷ 0 ∷ 0 ∷ 0 ∷ 0 ∷ []) 5 ≡ Link 5)
+    × (firstLink fanGraph (2 ∷ 2 ∷ 2 ∷ 2 ∷ 2 ∷ 3 ∷ 0 ∷ 1 ∷ 0 ∷ 0 ∷ 0 ∷ 0 ∷ []) 6 ≡ Link 8)
+    × (lastUnvisited (2 ∷ 2 ∷ 2 ∷ 2 ∷ 2 ∷ 3 ∷ 0 ∷ 1 ∷ 0 ∷ 0 ∷ 0 ∷ 0 ∷ []) fanRing ≡ Link 8)
+unfolding firstLink
+fan-first = (refl, refl, refl)
+
+-- the ends at node 2: b's are odd, a's even
+fan-ends : (endOf fanGraph 2 3 ≡ 7) × (endOf fanGraph 2 6 ≡ 12)
+fan-ends = (refl, refl)
