@@ -68,19 +68,6 @@ returns-3 c =
     (c .before .if2 .left) (s .pre .2) (c .before-last .ensures)
 
 pub anchor-fault-spec : {M : Type 1} → statement M
-anchor-fault-spec =
-    tie.close
-    (tie.spec
-    shared-slice-read-if1
-    returns
-    mul-wide
-    shared-slice-read-wide
-    wide-requires
-    anchor-point-requires
-    mul-wide-2
-    shared-slice-read-wide-2
-    wide-requires-2
-    not-least-requires
-    returns-2
-    before-last-requires
-    returns-3)
+anchor-fault-spec = tie.close (tie.spec shared-slice-read-if1 returns mul-wide shared-slice-read-wide wide-requires
+    anchor-point-requires mul-wide-2 shared-slice-read-wide-2 wide-requires-2 not-least-requires returns-2
+    before-last-requires returns-3)

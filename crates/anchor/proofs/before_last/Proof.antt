@@ -44,14 +44,5 @@ returns-2 c =
     c .before2 .ensures ∙ ap (before (s .anchor)) at ∙ sym (and-rest _ _ (lt-ltb 0 (s .last) (omega arith)))
 
 pub before-last-spec : {M : Type 1} → statement M
-before-last-spec =
-    tie.close
-    (tie.spec
-    returns
-    sub-c
-    mul-wide
-    shared-slice-read-wide
-    wide-requires
-    anchor-point-requires
-    before-requires
-    returns-2)
+before-last-spec = tie.close (tie.spec returns sub-c mul-wide shared-slice-read-wide wide-requires
+    anchor-point-requires before-requires returns-2)

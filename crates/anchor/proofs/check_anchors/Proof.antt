@@ -59,17 +59,5 @@ returns-2 : tie.Need-returns-2 Inv-loop μ-loop
 returns-2 c = let l = c .before .loop in anchors-fine _ (c .before .before .before .before .before .args .clockwise) (λ k m. l .inv .2 k (omega arith))
 
 pub check-anchors-spec : {M : Type 1} → statement M
-check-anchors-spec =
-    tie.close
-    (tie.spec
-    Inv-loop
-    μ-loop
-    loop-holds
-    anchor-fault-requires
-    returns
-    shared-slice-read-hole-up-to
-    hole-up-to-requires
-    add-c
-    loop-less
-    loop-again
-    returns-2)
+check-anchors-spec = tie.close (tie.spec Inv-loop μ-loop loop-holds anchor-fault-requires returns
+    shared-slice-read-hole-up-to hole-up-to-requires add-c loop-less loop-again returns-2)

@@ -52,14 +52,5 @@ returns c =
     (c .before .before .before .before .before .anchor-point .ensures) next previous (c .lower-end .ensures)
 
 pub left-bottom-segment-from-spec : {M : Type 1} → statement M
-left-bottom-segment-from-spec =
-    tie.close
-    (tie.spec
-    anchor-point-requires
-    anchor-position-requires
-    add-point-in
-    point-in-requires
-    before-anchor-requires
-    point-in-requires-2
-    lower-end-requires
-    returns)
+left-bottom-segment-from-spec = tie.close (tie.spec anchor-point-requires anchor-position-requires add-point-in
+    point-in-requires before-anchor-requires point-in-requires-2 lower-end-requires returns)

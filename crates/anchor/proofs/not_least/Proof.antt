@@ -58,17 +58,5 @@ returns-2 c =
     sym (some-no (λ i. before (pointIn (now (a .points)) (a .from + i)) (a .anchor)) (a .len) (λ k l. c .before .loop .inv .1 k (omega arith)))
 
 pub not-least-spec : {M : Type 1} → statement M
-not-least-spec =
-    tie.close
-    (tie.spec
-    Inv-loop
-    μ-loop
-    loop-holds
-    add-point-in
-    point-in-requires
-    before-requires
-    returns
-    add-k
-    loop-less
-    loop-again
-    returns-2)
+not-least-spec = tie.close (tie.spec Inv-loop μ-loop loop-holds add-point-in point-in-requires before-requires returns
+    add-k loop-less loop-again returns-2)

@@ -99,20 +99,6 @@ returns c =
     (c .before .before .before .before .answer-read .ensures)
 
 pub answer-file-spec : {M : Type 1} → statement M
-answer-file-spec =
-    tie.close
-    (tie.spec
-    read-graph-requires
-    answer-read-requires
-    same-length
-    same-length-2
-    same-length-3
-    same-length-4
-    same-length-5
-    same-length-6
-    same-length-7
-    same-length-8
-    same-length-9
-    same-length-10
-    same-length-11
-    returns)
+answer-file-spec = tie.close (tie.spec read-graph-requires answer-read-requires same-length same-length-2
+    same-length-3 same-length-4 same-length-5 same-length-6 same-length-7 same-length-8 same-length-9 same-length-10
+    same-length-11 returns)

@@ -79,15 +79,5 @@ returns c =
     (c .before .before .answer-extraction .ensures)
 
 pub answer-contours-spec : {M : Type 1} → statement M
-answer-contours-spec =
-    tie.close
-    (tie.spec
-    extract-requires
-    answer-extraction-requires
-    same-length
-    same-length-2
-    same-length-3
-    same-length-4
-    same-length-5
-    same-length-6
-    returns)
+answer-contours-spec = tie.close (tie.spec extract-requires answer-extraction-requires same-length same-length-2
+    same-length-3 same-length-4 same-length-5 same-length-6 returns)

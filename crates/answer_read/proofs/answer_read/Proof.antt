@@ -55,15 +55,5 @@ returns-2 c =
     (c .before .before .before .before .answer-fronts .ensures)
 
 pub answer-read-spec : {M : Type 1} → statement M
-answer-read-spec =
-    tie.close
-    (tie.spec
-    enum-known-read
-    write-refusal-requires
-    enum-known-read-2
-    answer-fronts-requires
-    same-length
-    returns
-    same-length-2
-    same-length-3
-    returns-2)
+answer-read-spec = tie.close (tie.spec enum-known-read write-refusal-requires enum-known-read-2 answer-fronts-requires
+    same-length returns same-length-2 same-length-3 returns-2)

@@ -48,14 +48,5 @@ returns-2 c =
     (c .before .before .answer-kept .ensures)
 
 pub answer-extraction-spec : {M : Type 1} → statement M
-answer-extraction-spec =
-    tie.close
-    (tie.spec
-    enum-known-extraction
-    write-refusal-requires
-    enum-known-extraction-2
-    answer-kept-requires
-    same-length
-    returns
-    same-length-2
-    returns-2)
+answer-extraction-spec = tie.close (tie.spec enum-known-extraction write-refusal-requires enum-known-extraction-2
+    answer-kept-requires same-length returns same-length-2 returns-2)

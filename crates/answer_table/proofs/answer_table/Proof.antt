@@ -82,20 +82,6 @@ returns-2 c =
     (c .before .before .before .before .before .before .shapes .given .1)) (c .before .before .write-answer .ensures .0)
 
 pub answer-table-spec : {M : Type 1} → statement M
-answer-table-spec =
-    tie.close
-    (tie.spec
-    slice-aggregate-bind
-    bind-requires
-    enum-known-number
-    cast-write-refusal
-    write-refusal-requires
-    enum-known-shapes
-    cast-t21
-    cast-t24
-    slice-aggregate-write-answer
-    write-answer-requires
-    same-length
-    returns
-    same-length-2
-    returns-2)
+answer-table-spec = tie.close (tie.spec slice-aggregate-bind bind-requires enum-known-number cast-write-refusal
+    write-refusal-requires enum-known-shapes cast-t21 cast-t24 slice-aggregate-write-answer write-answer-requires
+    same-length returns same-length-2 returns-2)

@@ -51,14 +51,5 @@ returns-2 c =
     bound-at (t s) (s .args .clockwise) (s .args .owner .now) _ _ (sym (c .before .before .before .check .ensures) ∙ c .before .number .given .1)
 
 pub bind-spec : {M : Type 1} → statement M
-bind-spec =
-    tie.close
-    (tie.spec
-    check-requires
-    enum-told
-    bind-sound-requires
-    enum-known-number
-    cast-t14
-    same-length
-    returns
-    returns-2)
+bind-spec = tie.close (tie.spec check-requires enum-told bind-sound-requires enum-known-number cast-t14 same-length
+    returns returns-2)

@@ -33,6 +33,5 @@ returns : tie.Need-returns
 returns c = search needs
 
 pub bind-holes-spec : {M : Type 1} → statement M
-bind-holes-spec =
-    tie.close
-    (tie.spec array-borrow-prefix-own slice-aggregate-bind-in bind-in-requires same-length returns)
+bind-holes-spec = tie.close (tie.spec array-borrow-prefix-own slice-aggregate-bind-in bind-in-requires same-length
+    returns)

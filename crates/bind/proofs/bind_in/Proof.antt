@@ -58,16 +58,5 @@ returns-2 c =
     (o .ensures) (k .last .1 .0) (c .before .before .before .before .before .enum-told .given .1) (k .ensures)
 
 pub bind-in-spec : {M : Type 1} → statement M
-bind-in-spec =
-    tie.close
-    (tie.spec
-    number-hulls-requires
-    search-owners-requires
-    enum-known-c
-    enum-told
-    copy-requires
-    same-length
-    returns
-    same-length-2
-    same-length-3
-    returns-2)
+bind-in-spec = tie.close (tie.spec number-hulls-requires search-owners-requires enum-known-c enum-told copy-requires
+    same-length returns same-length-2 same-length-3 returns-2)

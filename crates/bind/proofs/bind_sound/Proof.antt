@@ -82,22 +82,6 @@ returns-4 c =
     (c .before .before .before .before .before .before .before .if2 .left) (o .result) (o .ensures) _ (c .before .c .given .1)
 
 pub bind-sound-spec : {M : Type 1} → statement M
-bind-sound-spec =
-    tie.close
-    (tie.spec
-    hulls-before-requires
-    fill-requires
-    cast-t14
-    same-length
-    returns
-    fill-requires-2
-    same-length-2
-    returns-2
-    bind-holes-requires
-    enum-told
-    cast-t22
-    enum-known-c
-    same-length-3
-    returns-3
-    same-length-4
+bind-sound-spec = tie.close (tie.spec hulls-before-requires fill-requires cast-t14 same-length returns fill-requires-2
+    same-length-2 returns-2 bind-holes-requires enum-told cast-t22 enum-known-c same-length-3 returns-3 same-length-4
     returns-4)

@@ -36,12 +36,5 @@ returns-2 c =
     both-at (t s) (s .args .owners) (s .args .clockwise) _ _ (sym (c .before .before .before .check-table .ensures) ∙ c .before .number .given .1)
 
 pub check-spec : {M : Type 1} → statement M
-check-spec =
-    tie.close
-    (tie.spec
-    check-table-requires
-    enum-told
-    check-anchors-requires
-    enum-known-number
-    returns
+check-spec = tie.close (tie.spec check-table-requires enum-told check-anchors-requires enum-known-number returns
     returns-2)

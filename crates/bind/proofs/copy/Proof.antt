@@ -45,18 +45,5 @@ returns : tie.Need-returns Inv-loop μ-loop
 returns c = let l = c .before .loop in copy-end _ (l .to) _ (l .i) (l .inv) (c .loop-test .left)
 
 pub copy-spec : {M : Type 1} → statement M
-copy-spec =
-    tie.close
-    (tie.spec
-    Inv-loop
-    μ-loop
-    loop-holds
-    mul-to
-    shared-slice-read-to
-    mul-to-2
-    slice-write-to
-    add-i
-    loop-less
-    loop-again
-    same-length
-    returns)
+copy-spec = tie.close (tie.spec Inv-loop μ-loop loop-holds mul-to shared-slice-read-to mul-to-2 slice-write-to add-i
+    loop-less loop-again same-length returns)

@@ -39,16 +39,5 @@ returns c =
     copy-end _ (l .owner) _ (l .i) (l .inv) (rw (length-replicate (s .args .n) (s .args .number)) (c .loop-test .left))
 
 pub fill-spec : {M : Type 1} → statement M
-fill-spec =
-    tie.close
-    (tie.spec
-    Inv-loop
-    μ-loop
-    loop-holds
-    mul-owner
-    slice-write-owner
-    add-i
-    loop-less
-    loop-again
-    same-length
-    returns)
+fill-spec = tie.close (tie.spec Inv-loop μ-loop loop-holds mul-owner slice-write-owner add-i loop-less loop-again
+    same-length returns)

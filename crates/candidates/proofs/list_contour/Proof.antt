@@ -50,20 +50,5 @@ returns : tie.Need-returns Inv-loop μ-loop
 returns c = let l = c .before .loop in listing-end _ _ _ _ _ (l .next) (l .of) (l .k) (l .inv) (c .loop-test .left)
 
 pub list-contour-spec : {M : Type 1} → statement M
-list-contour-spec =
-    tie.close
-    (tie.spec
-    Inv-loop
-    μ-loop
-    loop-holds
-    mul-of
-    slice-write-of
-    follows-requires
-    mul-next
-    slice-write-next
-    add-k
-    loop-less
-    loop-again
-    same-length
-    same-length-2
-    returns)
+list-contour-spec = tie.close (tie.spec Inv-loop μ-loop loop-holds mul-of slice-write-of follows-requires mul-next
+    slice-write-next add-k loop-less loop-again same-length same-length-2 returns)

@@ -82,24 +82,6 @@ returns c =
     rw e at (l .inv .3)
 
 pub list-edges-spec : {M : Type 1} → statement M
-list-edges-spec =
-    tie.close
-    (tie.spec
-    Inv-loop
-    μ-loop
-    loop-holds
-    mul-from
-    shared-slice-read-from
-    cast-from
-    mul-to
-    shared-slice-read-to
-    cast-to
-    add-to
-    cast-list-contour
-    list-contour-requires
-    add-c
-    loop-less
-    loop-again
-    same-length
-    same-length-2
-    returns)
+list-edges-spec = tie.close (tie.spec Inv-loop μ-loop loop-holds mul-from shared-slice-read-from cast-from mul-to
+    shared-slice-read-to cast-to add-to cast-list-contour list-contour-requires add-c loop-less loop-again same-length
+    same-length-2 returns)

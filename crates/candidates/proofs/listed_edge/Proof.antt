@@ -63,17 +63,5 @@ returns-2 c =
     (edge-left (g s) _ (p .result) (q .result) (p .ensures) (q .ensures) (c .if1 .left), there s (q .result) (q .ensures), here s (p .result) (p .ensures))
 
 pub listed-edge-spec : {M : Type 1} → statement M
-listed-edge-spec =
-    tie.close
-    (tie.spec
-    mul-c
-    shared-slice-read-c
-    cast-t
-    shared-slice-read-t
-    mul-j
-    shared-slice-read-j
-    cast-j
-    point-in-requires
-    point-in-requires-2
-    returns
-    returns-2)
+listed-edge-spec = tie.close (tie.spec mul-c shared-slice-read-c cast-t shared-slice-read-t mul-j shared-slice-read-j
+    cast-j point-in-requires point-in-requires-2 returns returns-2)

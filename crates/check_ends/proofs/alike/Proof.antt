@@ -55,17 +55,5 @@ returns-3 c =
     (c .before .before .before .if2 .left))
 
 pub alike-spec : {M : Type 1} → statement M
-alike-spec =
-    tie.close
-    (tie.spec
-    along-requires
-    along-requires-2
-    cross-product-requires
-    returns
-    shared-slice-read-if2
-    shared-slice-read-if2-2
-    returns-2
-    away-requires
-    away-requires-2
-    same-direction-requires
-    returns-3)
+alike-spec = tie.close (tie.spec along-requires along-requires-2 cross-product-requires returns shared-slice-read-if2
+    shared-slice-read-if2-2 returns-2 away-requires away-requires-2 same-direction-requires returns-3)

@@ -156,35 +156,7 @@ returns-2 c =
     (c .before .before .before .before .before .loop2 .inv .1) (sym (pair (c .before)) ∙ c .if1 .taken))))
 
 pub alike-node-spec : {M : Type 1} → statement M
-alike-node-spec =
-    tie.close
-    (tie.spec
-    Inv-loop2
-    μ-loop2
-    Inv-loop
-    μ-loop
-    Inv-search
-    μ-search
-    sub-m
-    search-holds
-    entries-requires
-    loop-holds
-    mul-wide
-    shared-slice-read-wide
-    wide-requires
-    loop2-holds
-    mul-wide-2
-    shared-slice-read-wide-2
-    wide-requires-2
-    alike-requires
-    add-i
-    loop2-less
-    loop2-again
-    add-j
-    loop-less
-    loop-again
-    add-v
-    search-less
-    search-again
-    returns
-    returns-2)
+alike-node-spec = tie.close (tie.spec Inv-loop2 μ-loop2 Inv-loop μ-loop Inv-search μ-search sub-m search-holds
+    entries-requires loop-holds mul-wide shared-slice-read-wide wide-requires loop2-holds mul-wide-2
+    shared-slice-read-wide-2 wide-requires-2 alike-requires add-i loop2-less loop2-again add-j loop-less loop-again
+    add-v search-less search-again returns returns-2)

@@ -102,23 +102,6 @@ returns-3 c =
     (λ k l. c .before .loop .inv .1 .1 k (omega arith)))
 
 pub apart-in-spec : {M : Type 1} → statement M
-apart-in-spec =
-    tie.close
-    (tie.spec
-    Inv-loop
-    μ-loop
-    returns
-    shared-slice-read-wide
-    wide-requires
-    end-at-requires
-    loop-holds
-    mul-wide
-    shared-slice-read-wide-2
-    wide-requires-2
-    end-at-requires-2
-    differ-requires
-    returns-2
-    add-i
-    loop-less
-    loop-again
-    returns-3)
+apart-in-spec = tie.close (tie.spec Inv-loop μ-loop returns shared-slice-read-wide wide-requires end-at-requires
+    loop-holds mul-wide shared-slice-read-wide-2 wide-requires-2 end-at-requires-2 differ-requires returns-2 add-i
+    loop-less loop-again returns-3)

@@ -52,17 +52,5 @@ returns-2 : tie.Need-returns-2 Inv-loop μ-loop
 returns-2 c = sym (none _ _ (λ k l. c .before .loop .inv .1 k (omega arith)))
 
 pub apart-node-spec : {M : Type 1} → statement M
-apart-node-spec =
-    tie.close
-    (tie.spec
-    Inv-loop
-    μ-loop
-    sub-m
-    loop-holds
-    entries-requires
-    apart-in-requires
-    returns
-    add-v
-    loop-less
-    loop-again
-    returns-2)
+apart-node-spec = tie.close (tie.spec Inv-loop μ-loop sub-m loop-holds entries-requires apart-in-requires returns
+    add-v loop-less loop-again returns-2)

@@ -39,15 +39,5 @@ returns-2 : tie.Need-returns-2 Inv-loop μ-loop
 returns-2 c = sym (some-no _ _ (λ k l. c .before .loop .inv .1 k (omega arith)))
 
 pub any-clash-spec : {M : Type 1} → statement M
-any-clash-spec =
-    tie.close
-    (tie.spec
-    Inv-loop
-    μ-loop
-    loop-holds
-    clashes-requires
-    returns
-    add-j
-    loop-less
-    loop-again
+any-clash-spec = tie.close (tie.spec Inv-loop μ-loop loop-holds clashes-requires returns add-j loop-less loop-again
     returns-2)

@@ -59,17 +59,5 @@ returns-2 : tie.Need-returns-2 Inv-loop μ-loop
 returns-2 c = sym (some-no _ _ (λ k l. c .before .loop .inv .1 k (omega arith)))
 
 pub any-node-wrong-spec : {M : Type 1} → statement M
-any-node-wrong-spec =
-    tie.close
-    (tie.spec
-    Inv-loop
-    μ-loop
-    sub-m
-    loop-holds
-    entries-requires
-    node-wrong-requires
-    returns
-    add-v
-    loop-less
-    loop-again
-    returns-2)
+any-node-wrong-spec = tie.close (tie.spec Inv-loop μ-loop sub-m loop-holds entries-requires node-wrong-requires
+    returns add-v loop-less loop-again returns-2)

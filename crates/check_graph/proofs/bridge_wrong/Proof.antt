@@ -57,14 +57,5 @@ returns-2 c =
     (c .alike .ensures) ∙ sym (pick-false _ _ (sym (listed (c .before .before .before .before .before)) ∙ c .before .before .before .before .if1 .left))
 
 pub bridge-wrong-spec : {M : Type 1} → statement M
-bridge-wrong-spec =
-    tie.close
-    (tie.spec
-    stray-requires
-    stray-requires-2
-    returns
-    end-at-requires
-    end-at-requires-2
-    differ-requires
-    alike-requires
-    returns-2)
+bridge-wrong-spec = tie.close (tie.spec stray-requires stray-requires-2 returns end-at-requires end-at-requires-2
+    differ-requires alike-requires returns-2)

@@ -52,12 +52,5 @@ returns-2 c =
     ∙ c .before .enum-told .given .1))
 
 pub check-graph-spec : {M : Type 1} → statement M
-check-graph-spec =
-    tie.close
-    (tie.spec
-    check-links-requires
-    enum-known-number
-    enum-told
-    check-nodes-requires
-    returns
+check-graph-spec = tie.close (tie.spec check-links-requires enum-known-number enum-told check-nodes-requires returns
     returns-2)

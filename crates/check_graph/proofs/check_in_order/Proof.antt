@@ -79,14 +79,5 @@ returns-4 c =
     )
 
 pub check-in-order-spec : {M : Type 1} → statement M
-check-in-order-spec =
-    tie.close
-    (tie.spec
-    bad-nodes-requires
-    returns
-    sub-m
-    apart-node-requires
-    returns-2
-    alike-node-requires
-    returns-3
-    returns-4)
+check-in-order-spec = tie.close (tie.spec bad-nodes-requires returns sub-m apart-node-requires returns-2
+    alike-node-requires returns-3 returns-4)

@@ -74,13 +74,5 @@ returns-3 : tie.Need-returns-3
 returns-3 c = search needs
 
 pub check-nodes-spec : {M : Type 1} → statement M
-check-nodes-spec =
-    tie.close
-    (tie.spec
-    bad-starts-requires
-    mul-if1
-    returns
-    any-node-wrong-requires
-    returns-2
-    check-in-order-requires
-    returns-3)
+check-nodes-spec = tie.close (tie.spec bad-starts-requires mul-if1 returns any-node-wrong-requires returns-2
+    check-in-order-requires returns-3)

@@ -73,17 +73,6 @@ returns c =
     (x .state .now) (x .here .now) (x .v) (x .j)) f)
 
 pub clashes-spec : {M : Type 1} → statement M
-clashes-spec =
-    tie.close
-    (tie.spec
-    mul-wide
-    shared-slice-read-wide
-    wide-requires
-    stands-before-requires
-    shared-slice-read-wide-2
-    wide-requires-2
-    end-at-requires
-    end-at-requires-2
-    differ-requires
-    alike-before-requires
+clashes-spec = tie.close (tie.spec mul-wide shared-slice-read-wide wide-requires stands-before-requires
+    shared-slice-read-wide-2 wide-requires-2 end-at-requires end-at-requires-2 differ-requires alike-before-requires
     returns)

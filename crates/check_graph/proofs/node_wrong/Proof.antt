@@ -58,16 +58,5 @@ returns-3 c =
     ∙ pick-false _ _ (sym (c .before .before .stray-in .ensures) ∙ c .before .if2 .left))
 
 pub node-wrong-spec : {M : Type 1} → statement M
-node-wrong-spec =
-    tie.close
-    (tie.spec
-    shared-slice-read-wide
-    wide-requires
-    shared-slice-read-wide-2
-    wide-requires-2
-    bridge-wrong-requires
-    returns
-    stray-in-requires
-    returns-2
-    any-clash-requires
-    returns-3)
+node-wrong-spec = tie.close (tie.spec shared-slice-read-wide wide-requires shared-slice-read-wide-2 wide-requires-2
+    bridge-wrong-requires returns stray-in-requires returns-2 any-clash-requires returns-3)

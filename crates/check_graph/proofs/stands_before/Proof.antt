@@ -46,16 +46,5 @@ returns : tie.Need-returns Inv-loop μ-loop
 returns c = let e : c .before .loop .i ≡ c .before .before .before .args .j = omega arith in c .before .loop .inv .1 ∙ rw e
 
 pub stands-before-spec : {M : Type 1} → statement M
-stands-before-spec =
-    tie.close
-    (tie.spec
-    Inv-loop
-    μ-loop
-    loop-holds
-    mul-wide
-    shared-slice-read-wide
-    wide-requires
-    add-i
-    loop-less
-    loop-again
-    returns)
+stands-before-spec = tie.close (tie.spec Inv-loop μ-loop loop-holds mul-wide shared-slice-read-wide wide-requires
+    add-i loop-less loop-again returns)

@@ -38,6 +38,5 @@ returns c =
     c .before .loop .inv .1 ∙ rw e
 
 pub any-bad-link-spec : {M : Type 1} → statement M
-any-bad-link-spec =
-    tie.close
-    (tie.spec Inv-loop μ-loop loop-holds link-wrong-requires add-k loop-less loop-again returns)
+any-bad-link-spec = tie.close (tie.spec Inv-loop μ-loop loop-holds link-wrong-requires add-k loop-less loop-again
+    returns)

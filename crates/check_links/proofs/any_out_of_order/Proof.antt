@@ -70,17 +70,5 @@ returns c =
     c .before .loop .inv .2 ∙ past (pointAt (x .ax .now) (x .ay .now)) (c .before .loop .k) (length (x .ax .now)) (c .before .loop .inv .1) (omega arith)
 
 pub any-out-of-order-spec : {M : Type 1} → statement M
-any-out-of-order-spec =
-    tie.close
-    (tie.spec
-    Inv-loop
-    μ-loop
-    loop-holds
-    point-at-requires
-    sub-point-at
-    point-at-requires-2
-    before-requires
-    add-k
-    loop-less
-    loop-again
-    returns)
+any-out-of-order-spec = tie.close (tie.spec Inv-loop μ-loop loop-holds point-at-requires sub-point-at
+    point-at-requires-2 before-requires add-k loop-less loop-again returns)

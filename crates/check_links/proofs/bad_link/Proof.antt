@@ -37,15 +37,5 @@ returns-2 : tie.Need-returns-2 Inv-loop μ-loop
 returns-2 c = sym (none _ _ (λ k l. c .before .loop .inv .1 k (omega arith)))
 
 pub bad-link-spec : {M : Type 1} → statement M
-bad-link-spec =
-    tie.close
-    (tie.spec
-    Inv-loop
-    μ-loop
-    loop-holds
-    link-wrong-requires
-    returns
-    add-k
-    loop-less
-    loop-again
+bad-link-spec = tie.close (tie.spec Inv-loop μ-loop loop-holds link-wrong-requires returns add-k loop-less loop-again
     returns-2)

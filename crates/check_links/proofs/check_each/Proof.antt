@@ -48,13 +48,5 @@ unfolding eachChecked
 returns-3 c = simp (sym (c .before .before .before .any-bad-link .ensures) ∙ c .before .before .if1 .left, sym (order (c .before)) ∙ c .if2 .left)
 
 pub check-each-spec : {M : Type 1} → statement M
-check-each-spec =
-    tie.close
-    (tie.spec
-    any-bad-link-requires
-    bad-link-requires
-    returns
-    any-out-of-order-requires
-    out-of-order-requires
-    returns-2
-    returns-3)
+check-each-spec = tie.close (tie.spec any-bad-link-requires bad-link-requires returns any-out-of-order-requires
+    out-of-order-requires returns-2 returns-3)

@@ -72,14 +72,5 @@ unfolding linksChecked
 returns-3 c = simp (le-ltb _ _ (c .before .before .before .before .before .before .if1 .left), right (c .before), c .check-each .ensures)
 
 pub check-links-spec : {M : Type 1} → statement M
-check-links-spec =
-    tie.close
-    (tie.spec
-    returns
-    unlike-requires
-    few-points-requires
-    unlike-band-requires
-    few-contours-requires
-    returns-2
-    check-each-requires
-    returns-3)
+check-links-spec = tie.close (tie.spec returns unlike-requires few-points-requires unlike-band-requires
+    few-contours-requires returns-2 check-each-requires returns-3)

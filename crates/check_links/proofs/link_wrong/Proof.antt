@@ -53,19 +53,6 @@ returns c =
     )
 
 pub link-wrong-spec : {M : Type 1} → statement M
-link-wrong-spec =
-    tie.close
-    (tie.spec
-    point-at-requires
-    point-at-requires-2
-    misplaced-requires
-    sub-misnamed
-    mul-misnamed
-    shared-slice-read-misnamed
-    mul-misnamed-2
-    shared-slice-read-misnamed-2
-    misnamed-requires
-    shared-slice-read-misflagged
-    shared-slice-read-misflagged-2
-    misflagged-requires
-    returns)
+link-wrong-spec = tie.close (tie.spec point-at-requires point-at-requires-2 misplaced-requires sub-misnamed
+    mul-misnamed shared-slice-read-misnamed mul-misnamed-2 shared-slice-read-misnamed-2 misnamed-requires
+    shared-slice-read-misflagged shared-slice-read-misflagged-2 misflagged-requires returns)

@@ -60,18 +60,5 @@ returns-2 : tie.Need-returns-2 Inv-loop μ-loop
 returns-2 c = sym (none _ _ (λ k l. c .before .loop .inv .1 k (omega arith)))
 
 pub out-of-order-spec : {M : Type 1} → statement M
-out-of-order-spec =
-    tie.close
-    (tie.spec
-    Inv-loop
-    μ-loop
-    loop-holds
-    point-at-requires
-    sub-point-at
-    point-at-requires-2
-    before-requires
-    returns
-    add-k
-    loop-less
-    loop-again
-    returns-2)
+out-of-order-spec = tie.close (tie.spec Inv-loop μ-loop loop-holds point-at-requires sub-point-at point-at-requires-2
+    before-requires returns add-k loop-less loop-again returns-2)

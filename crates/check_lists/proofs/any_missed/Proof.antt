@@ -79,22 +79,6 @@ returns-2 : tie.Need-returns-2 Inv-loop μ-loop
 returns-2 c = sym (some-no _ _ (λ k l. c .before .loop .inv .1 k (omega arith)))
 
 pub any-missed-spec : {M : Type 1} → statement M
-any-missed-spec =
-    tie.close
-    (tie.spec
-    Inv-loop
-    μ-loop
-    loop-holds
-    mul-wide
-    shared-slice-read-wide
-    wide-requires
-    not-once-requires
-    mul-wide-2
-    shared-slice-read-wide-2
-    wide-requires-2
-    not-once-requires-2
-    returns
-    add-k
-    loop-less
-    loop-again
-    returns-2)
+any-missed-spec = tie.close (tie.spec Inv-loop μ-loop loop-holds mul-wide shared-slice-read-wide wide-requires
+    not-once-requires mul-wide-2 shared-slice-read-wide-2 wide-requires-2 not-once-requires-2 returns add-k loop-less
+    loop-again returns-2)

@@ -54,20 +54,5 @@ returns : tie.Need-returns Inv-loop μ-loop
 returns c = let e : c .before .loop .v ≡ length (c .before .before .before .args .start .now) - 1 = omega arith in c .before .loop .inv .1 ∙ rw e
 
 pub any-short-spec : {M : Type 1} → statement M
-any-short-spec =
-    tie.close
-    (tie.spec
-    Inv-loop
-    μ-loop
-    sub-m
-    loop-holds
-    mul-short
-    shared-slice-read-short
-    add-short
-    mul-short-2
-    shared-slice-read-short-2
-    short-requires
-    add-v
-    loop-less
-    loop-again
-    returns)
+any-short-spec = tie.close (tie.spec Inv-loop μ-loop sub-m loop-holds mul-short shared-slice-read-short add-short
+    mul-short-2 shared-slice-read-short-2 short-requires add-v loop-less loop-again returns)

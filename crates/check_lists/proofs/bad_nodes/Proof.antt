@@ -29,6 +29,4 @@ returns-2 : tie.Need-returns-2
 returns-2 c = simp (sym (c .before .before .before .bad-starts .ensures) ∙ c .before .before .if1 .left, c .before .any-stray .ensures, c .any-missed .ensures)
 
 pub bad-nodes-spec : {M : Type 1} → statement M
-bad-nodes-spec =
-    tie.close
-    (tie.spec bad-starts-requires returns any-stray-requires any-missed-requires returns-2)
+bad-nodes-spec = tie.close (tie.spec bad-starts-requires returns any-stray-requires any-missed-requires returns-2)

@@ -28,14 +28,5 @@ returns : tie.Need-returns
 returns c = simp (c .before .before .before .wide .ensures, c .before .wide2 .ensures, c .any-short .ensures)
 
 pub bad-starts-spec : {M : Type 1} → statement M
-bad-starts-spec =
-    tie.close
-    (tie.spec
-    sub-m
-    shared-slice-read-wide
-    wide-requires
-    mul-wide
-    shared-slice-read-wide-2
-    wide-requires-2
-    any-short-requires
-    returns)
+bad-starts-spec = tie.close (tie.spec sub-m shared-slice-read-wide wide-requires mul-wide shared-slice-read-wide-2
+    wide-requires-2 any-short-requires returns)

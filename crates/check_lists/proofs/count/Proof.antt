@@ -54,17 +54,5 @@ returns : tie.Need-returns Inv-loop μ-loop
 returns c = c .before .loop .inv .2 ∙ simp (take-all (c .before .loop .i) (c .before .before .before .args .list .now) (c .loop-test .left))
 
 pub count-spec : {M : Type 1} → statement M
-count-spec =
-    tie.close
-    (tie.spec
-    Inv-loop
-    μ-loop
-    loop-holds
-    mul-wide
-    shared-slice-read-wide
-    wide-requires
-    add-n
-    add-i
-    loop-less
-    loop-again
-    returns)
+count-spec = tie.close (tie.spec Inv-loop μ-loop loop-holds mul-wide shared-slice-read-wide wide-requires add-n add-i
+    loop-less loop-again returns)

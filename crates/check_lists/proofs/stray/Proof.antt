@@ -29,14 +29,5 @@ returns-2 : tie.Need-returns-2
 returns-2 c = simp (lt-leb _ _ (c .before .before .before .before .if1 .left), c .before .before .wide .ensures, c .wide2 .ensures)
 
 pub stray-spec : {M : Type 1} → statement M
-stray-spec =
-    tie.close
-    (tie.spec
-    returns
-    mul-wide
-    shared-slice-read-wide
-    wide-requires
-    mul-wide-2
-    shared-slice-read-wide-2
-    wide-requires-2
-    returns-2)
+stray-spec = tie.close (tie.spec returns mul-wide shared-slice-read-wide wide-requires mul-wide-2
+    shared-slice-read-wide-2 wide-requires-2 returns-2)

@@ -53,18 +53,5 @@ returns-2 : tie.Need-returns-2 Inv-loop μ-loop
 returns-2 c = sym (some-no _ _ (λ k l. c .before .loop .inv .1 k (omega arith)))
 
 pub stray-in-spec : {M : Type 1} → statement M
-stray-in-spec =
-    tie.close
-    (tie.spec
-    Inv-loop
-    μ-loop
-    loop-holds
-    mul-wide
-    shared-slice-read-wide
-    wide-requires
-    stray-requires
-    returns
-    add-i
-    loop-less
-    loop-again
-    returns-2)
+stray-in-spec = tie.close (tie.spec Inv-loop μ-loop loop-holds mul-wide shared-slice-read-wide wide-requires
+    stray-requires returns add-i loop-less loop-again returns-2)

@@ -86,16 +86,5 @@ returns : tie.Need-returns
 returns c = search needs
 
 pub area-spec : {M : Type 1} → statement M
-area-spec =
-    tie.close
-    (tie.spec
-    array-share-prefix-points
-    slice-aggregate-doubled-area
-    doubled-area-requires
-    slice-aggregate-write-all
-    write-all-requires
-    absolute-requires
-    say-requires
-    cast-say
-    say-requires-2
-    returns)
+area-spec = tie.close (tie.spec array-share-prefix-points slice-aggregate-doubled-area doubled-area-requires
+    slice-aggregate-write-all write-all-requires absolute-requires say-requires cast-say say-requires-2 returns)

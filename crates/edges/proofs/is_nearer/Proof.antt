@@ -57,16 +57,5 @@ returns-3 c =
     _ (c .wins-tie .ensures) (c .before .before .if1 .left) (c .before .if2 .left)
 
 pub is-nearer-spec : {M : Type 1} → statement M
-is-nearer-spec =
-    tie.close
-    (tie.spec
-    between-requires
-    between-requires-2
-    height-over-requires
-    scaled-requires
-    height-over-requires-2
-    scaled-requires-2
-    returns
-    returns-2
-    wins-tie-requires
-    returns-3)
+is-nearer-spec = tie.close (tie.spec between-requires between-requires-2 height-over-requires scaled-requires
+    height-over-requires-2 scaled-requires-2 returns returns-2 wins-tie-requires returns-3)

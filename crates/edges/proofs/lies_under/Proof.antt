@@ -30,13 +30,5 @@ returns-3 c =
     (c .before .before .before .before .if1 .left) (c .before .before .before .if2 .left)
 
 pub lies-under-spec : {M : Type 1} → statement M
-lies-under-spec =
-    tie.close
-    (tie.spec
-    height-over-requires
-    returns
-    returns-2
-    between-requires
-    between-requires-2
-    cross-product-requires
-    returns-3)
+lies-under-spec = tie.close (tie.spec height-over-requires returns returns-2 between-requires between-requires-2
+    cross-product-requires returns-3)

@@ -67,18 +67,5 @@ returns-2 c =
     ∙ c .before .before .before .before .before .before .before .before .before .before .before .before .before .before .before .enum-told .given .1)
 
 pub extract-spec : {M : Type 1} → statement M
-extract-spec =
-    tie.close
-    (tie.spec
-    check-graph-requires
-    enum-known-number
-    enum-told
-    extract-fine-requires
-    same-length
-    returns
-    same-length-2
-    same-length-3
-    same-length-4
-    same-length-5
-    same-length-6
-    returns-2)
+extract-spec = tie.close (tie.spec check-graph-requires enum-known-number enum-told extract-fine-requires same-length
+    returns same-length-2 same-length-3 same-length-4 same-length-5 same-length-6 returns-2)

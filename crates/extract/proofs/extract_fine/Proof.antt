@@ -86,14 +86,5 @@ returns c =
     (o .scan-links .ensures .0) (c .before .before .before .before .before .before .before .before .before .finish .ensures)
 
 pub extract-fine-spec : {M : Type 1} → statement M
-extract-fine-spec =
-    tie.close
-    (tie.spec
-    scan-links-requires
-    finish-requires
-    same-length
-    same-length-2
-    same-length-3
-    same-length-4
-    same-length-5
-    returns)
+extract-fine-spec = tie.close (tie.spec scan-links-requires finish-requires same-length same-length-2 same-length-3
+    same-length-4 same-length-5 returns)

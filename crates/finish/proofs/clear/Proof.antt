@@ -43,17 +43,5 @@ returns : tie.Need-returns
 returns c = (search needs, (search needs, (search needs, (search needs, search needs))))
 
 pub clear-spec : {M : Type 1} → statement M
-clear-spec =
-    tie.close
-    (tie.spec
-    restore-requires
-    zero-points-requires
-    zero-numbers-requires
-    zero-numbers-requires-2
-    zero-bytes-requires
-    same-length
-    same-length-2
-    same-length-3
-    same-length-4
-    same-length-5
-    returns)
+clear-spec = tie.close (tie.spec restore-requires zero-points-requires zero-numbers-requires zero-numbers-requires-2
+    zero-bytes-requires same-length same-length-2 same-length-3 same-length-4 same-length-5 returns)

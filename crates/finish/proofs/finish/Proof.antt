@@ -77,21 +77,6 @@ returns-2 c =
     (sym (c .before .before .before .before .before .before .before .before .before .before .before .before .before .answer .given .1))
 
 pub finish-spec : {M : Type 1} → statement M
-finish-spec =
-    tie.close
-    (tie.spec
-    enum-told
-    clear-requires
-    enum-known-answer
-    trim-requires
-    same-length
-    same-length-2
-    same-length-3
-    same-length-4
-    same-length-5
-    returns
-    same-length-6
-    same-length-7
-    same-length-8
-    same-length-9
+finish-spec = tie.close (tie.spec enum-told clear-requires enum-known-answer trim-requires same-length same-length-2
+    same-length-3 same-length-4 same-length-5 returns same-length-6 same-length-7 same-length-8 same-length-9
     returns-2)

@@ -47,17 +47,5 @@ returns : tie.Need-returns Inv-loop μ-loop
 returns c = let l = c .before .loop in rewritten _ _ _ (l .i) (l .state) (l .inv) (c .loop-test .left)
 
 pub restore-spec : {M : Type 1} → statement M
-restore-spec =
-    tie.close
-    (tie.spec
-    Inv-loop
-    μ-loop
-    loop-holds
-    slice-read-unmarked
-    unmarked-requires
-    slice-write-state
-    add-i
-    loop-less
-    loop-again
-    same-length
-    returns)
+restore-spec = tie.close (tie.spec Inv-loop μ-loop loop-holds slice-read-unmarked unmarked-requires slice-write-state
+    add-i loop-less loop-again same-length returns)

@@ -39,16 +39,5 @@ returns : tie.Need-returns
 returns c = (search needs, (search needs, (search needs, search needs)))
 
 pub trim-spec : {M : Type 1} → statement M
-trim-spec =
-    tie.close
-    (tie.spec
-    mul-zero-points
-    zero-points-requires
-    zero-numbers-requires
-    zero-numbers-requires-2
-    zero-bytes-requires
-    same-length
-    same-length-2
-    same-length-3
-    same-length-4
-    returns)
+trim-spec = tie.close (tie.spec mul-zero-points zero-points-requires zero-numbers-requires zero-numbers-requires-2
+    zero-bytes-requires same-length same-length-2 same-length-3 same-length-4 returns)

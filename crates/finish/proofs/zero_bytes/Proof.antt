@@ -37,15 +37,5 @@ returns : tie.Need-returns Inv-loop μ-loop
 returns c = let l = c .before .loop in rewritten _ _ _ (l .i) (l .s) (l .inv) (c .loop-test .left)
 
 pub zero-bytes-spec : {M : Type 1} → statement M
-zero-bytes-spec =
-    tie.close
-    (tie.spec
-    Inv-loop
-    μ-loop
-    loop-holds
-    slice-write-s
-    add-i
-    loop-less
-    loop-again
-    same-length
+zero-bytes-spec = tie.close (tie.spec Inv-loop μ-loop loop-holds slice-write-s add-i loop-less loop-again same-length
     returns)

@@ -40,16 +40,5 @@ returns : tie.Need-returns Inv-loop μ-loop
 returns c = let l = c .before .loop in rewritten _ _ _ (l .i) (l .s) (l .inv) (c .loop-test .left)
 
 pub zero-numbers-spec : {M : Type 1} → statement M
-zero-numbers-spec =
-    tie.close
-    (tie.spec
-    Inv-loop
-    μ-loop
-    loop-holds
-    mul-s
-    slice-write-s
-    add-i
-    loop-less
-    loop-again
-    same-length
-    returns)
+zero-numbers-spec = tie.close (tie.spec Inv-loop μ-loop loop-holds mul-s slice-write-s add-i loop-less loop-again
+    same-length returns)

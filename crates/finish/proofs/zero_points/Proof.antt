@@ -41,16 +41,5 @@ returns : tie.Need-returns Inv-loop μ-loop
 returns c = let l = c .before .loop in rewritten _ _ _ (l .i) (l .s) (l .inv) (c .loop-test .left)
 
 pub zero-points-spec : {M : Type 1} → statement M
-zero-points-spec =
-    tie.close
-    (tie.spec
-    Inv-loop
-    μ-loop
-    loop-holds
-    mul-s
-    slice-set-of-s
-    add-i
-    loop-less
-    loop-again
-    same-length
-    returns)
+zero-points-spec = tie.close (tie.spec Inv-loop μ-loop loop-holds mul-s slice-set-of-s add-i loop-less loop-again
+    same-length returns)

@@ -140,27 +140,7 @@ returns-2 c =
     .ensures .0) (c .before .before .before .before .before .before .fill-nodes .ensures .1)
 
 pub read-graph-spec : {M : Type 1} → statement M
-read-graph-spec =
-    tie.close
-    (tie.spec
-    shape-of-requires
-    enum-known-e
-    enum-known-links
-    fill-links-requires
-    mul-fill-nodes
-    add-fill-nodes
-    fill-nodes-requires
-    shared-slice-read-t42
-    u64-at-requires
-    returns
-    same-length
-    same-length-2
-    same-length-3
-    same-length-4
-    same-length-5
-    same-length-6
-    same-length-7
-    same-length-8
-    same-length-9
-    same-length-10
-    returns-2)
+read-graph-spec = tie.close (tie.spec shape-of-requires enum-known-e enum-known-links fill-links-requires
+    mul-fill-nodes add-fill-nodes fill-nodes-requires shared-slice-read-t42 u64-at-requires returns same-length
+    same-length-2 same-length-3 same-length-4 same-length-5 same-length-6 same-length-7 same-length-8 same-length-9
+    same-length-10 returns-2)

@@ -75,19 +75,5 @@ returns : tie.Need-returns Inv-loop μ-loop
 returns c = filling-last _ _ _ _ _ _ _ _ _ (c .before .loop .inv) (c .loop-test .left)
 
 pub fill-i32-spec : {M : Type 1} → statement M
-fill-i32-spec =
-    tie.close
-    (tie.spec
-    Inv-loop
-    μ-loop
-    loop-holds
-    u32-at-requires
-    from-bits-requires
-    mul-x
-    slice-set-from-x
-    add-at
-    add-k
-    loop-less
-    loop-again
-    same-length
-    returns)
+fill-i32-spec = tie.close (tie.spec Inv-loop μ-loop loop-holds u32-at-requires from-bits-requires mul-x
+    slice-set-from-x add-at add-k loop-less loop-again same-length returns)

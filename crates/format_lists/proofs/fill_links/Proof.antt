@@ -77,23 +77,6 @@ returns c =
     (c .before .before .fill-u82 .ensures)
 
 pub fill-links-spec : {M : Type 1} → statement M
-fill-links-spec =
-    tie.close
-    (tie.spec
-    fill-i32-requires
-    fill-i32-requires-2
-    fill-i32-requires-3
-    fill-i32-requires-4
-    fill-u16-requires
-    fill-u16-requires-2
-    fill-u8-requires
-    fill-u8-requires-2
-    same-length
-    same-length-2
-    same-length-3
-    same-length-4
-    same-length-5
-    same-length-6
-    same-length-7
-    same-length-8
-    returns)
+fill-links-spec = tie.close (tie.spec fill-i32-requires fill-i32-requires-2 fill-i32-requires-3 fill-i32-requires-4
+    fill-u16-requires fill-u16-requires-2 fill-u8-requires fill-u8-requires-2 same-length same-length-2 same-length-3
+    same-length-4 same-length-5 same-length-6 same-length-7 same-length-8 returns)

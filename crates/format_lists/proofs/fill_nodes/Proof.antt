@@ -136,28 +136,6 @@ returns c =
     )
 
 pub fill-nodes-spec : {M : Type 1} → statement M
-fill-nodes-spec =
-    tie.close
-    (tie.spec
-    Inv-loop
-    μ-loop
-    loop-holds
-    mul-start
-    slice-write-start
-    u32-at-requires
-    add-fill-u16
-    cast-fill-u16
-    cast-fill-u16-2
-    fill-u16-requires
-    cast-at
-    add-at
-    add-at-2
-    add-e
-    add-k
-    loop-less
-    loop-again
-    mul-start-2
-    slice-write-start-2
-    same-length
-    same-length-2
-    returns)
+fill-nodes-spec = tie.close (tie.spec Inv-loop μ-loop loop-holds mul-start slice-write-start u32-at-requires
+    add-fill-u16 cast-fill-u16 cast-fill-u16-2 fill-u16-requires cast-at add-at add-at-2 add-e add-k loop-less
+    loop-again mul-start-2 slice-write-start-2 same-length same-length-2 returns)

@@ -75,19 +75,5 @@ returns : tie.Need-returns Inv-loop μ-loop
 returns c = filling-last _ _ _ _ _ _ _ _ _ (c .before .loop .inv) (c .loop-test .left)
 
 pub fill-u16-spec : {M : Type 1} → statement M
-fill-u16-spec =
-    tie.close
-    (tie.spec
-    Inv-loop
-    μ-loop
-    loop-holds
-    u16-at-requires
-    add-out
-    mul-out
-    slice-write-out
-    add-at
-    add-k
-    loop-less
-    loop-again
-    same-length
-    returns)
+fill-u16-spec = tie.close (tie.spec Inv-loop μ-loop loop-holds u16-at-requires add-out mul-out slice-write-out add-at
+    add-k loop-less loop-again same-length returns)

@@ -23,5 +23,4 @@ returns-2 : tie.Need-returns-2
 returns-2 c = high-half _ (c .if1 .left) (c .before .fits .x .fits)
 
 pub from-bits-spec : {M : Type 1} → statement M
-from-bits-spec =
-    tie.close (tie.spec cast-result sub-result cast-result-2 sub-result-2 returns returns-2)
+from-bits-spec = tie.close (tie.spec cast-result sub-result cast-result-2 sub-result-2 returns returns-2)

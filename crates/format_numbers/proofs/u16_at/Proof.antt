@@ -59,14 +59,5 @@ returns c = (
 )
 
 pub u16-at-spec : {M : Type 1} → statement M
-u16-at-spec =
-    tie.close
-    (tie.spec
-    shared-slice-read-low
-    cast-low
-    add-high
-    shared-slice-read-high
-    cast-high
-    mul-result
-    add-result
-    returns)
+u16-at-spec = tie.close (tie.spec shared-slice-read-low cast-low add-high shared-slice-read-high cast-high mul-result
+    add-result returns)

@@ -24,5 +24,4 @@ unfolding u32At
 returns c = rw (← c .before .u16-at .ensures .0, ← c .u16-at2 .ensures .0)
 
 pub u32-at-spec : {M : Type 1} → statement M
-u32-at-spec =
-    tie.close (tie.spec u16-at-requires add-u16-at u16-at-requires-2 mul-result add-result returns)
+u32-at-spec = tie.close (tie.spec u16-at-requires add-u16-at u16-at-requires-2 mul-result add-result returns)

@@ -30,14 +30,5 @@ unfolding u64At
 returns c = rw (← c .before .u32-at .ensures, ← c .u32-at2 .ensures)
 
 pub u64-at-spec : {M : Type 1} → statement M
-u64-at-spec =
-    tie.close
-    (tie.spec
-    u32-at-requires
-    cast-result
-    add-u32-at
-    u32-at-requires-2
-    cast-result-2
-    mul-result
-    add-result
-    returns)
+u64-at-spec = tie.close (tie.spec u32-at-requires cast-result add-u32-at u32-at-requires-2 cast-result-2 mul-result
+    add-result returns)

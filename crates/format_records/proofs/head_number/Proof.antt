@@ -41,5 +41,4 @@ returns-6 : tie.Need-returns-6
 returns-6 c = simp (ne-eqb _ _ (c .before .before .if1 .left), eq-eqb _ _ (c .before .if4 .left), c .if5 .left)
 
 pub head-number-spec : {M : Type 1} → statement M
-head-number-spec =
-    tie.close (tie.spec returns returns-2 add-if5 mul-if5 returns-3 returns-4 returns-5 returns-6)
+head-number-spec = tie.close (tie.spec returns returns-2 add-if5 mul-if5 returns-3 returns-4 returns-5 returns-6)

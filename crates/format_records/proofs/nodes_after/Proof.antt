@@ -30,5 +30,4 @@ returns-3 c =
     .before .before .before .before .before .run-at .ensures) (c .before .if1 .left)
 
 pub nodes-after-spec : {M : Type 1} → statement M
-nodes-after-spec =
-    tie.close (tie.spec run-at-requires enum-known-e enum-known-r returns returns-2 returns-3)
+nodes-after-spec = tie.close (tie.spec run-at-requires enum-known-e enum-known-r returns returns-2 returns-3)

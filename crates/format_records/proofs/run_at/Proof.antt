@@ -49,17 +49,5 @@ returns-2 c =
     .step-at .ensures) ∙ c .before .e .given .1)
 
 pub run-at-spec : {M : Type 1} → statement M
-run-at-spec =
-    tie.close
-    (tie.spec
-    Inv-loop
-    μ-loop
-    loop-holds
-    step-at-requires
-    enum-known-next
-    loop-less
-    loop-again
-    enum-told
-    returns
-    enum-known-e
-    returns-2)
+run-at-spec = tie.close (tie.spec Inv-loop μ-loop loop-holds step-at-requires enum-known-next loop-less loop-again
+    enum-told returns enum-known-e returns-2)

@@ -29,5 +29,4 @@ returns-2 c =
     )
 
 pub settings-right-spec : {M : Type 1} → statement M
-settings-right-spec =
-    tie.close (tie.spec returns u32-at-requires u16-at-requires shared-slice-read-result returns-2)
+settings-right-spec = tie.close (tie.spec returns u32-at-requires u16-at-requires shared-slice-read-result returns-2)

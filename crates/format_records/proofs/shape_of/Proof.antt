@@ -40,14 +40,5 @@ returns-3 c =
     .before .before .before .run-at .ensures) _ (c .nodes-after .ensures)
 
 pub shape-of-spec : {M : Type 1} → statement M
-shape-of-spec =
-    tie.close
-    (tie.spec
-    settings-right-requires
-    returns
-    run-at-requires
-    enum-known-e
-    enum-known-r
-    nodes-after-requires
-    returns-2
-    returns-3)
+shape-of-spec = tie.close (tie.spec settings-right-requires returns run-at-requires enum-known-e enum-known-r
+    nodes-after-requires returns-2 returns-3)

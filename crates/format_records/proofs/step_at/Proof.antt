@@ -83,23 +83,5 @@ returns-5 c =
     (c .before .before .before .if3 .left) (omega arith)
 
 pub step-at-spec : {M : Type 1} → statement M
-step-at-spec =
-    tie.close
-    (tie.spec
-    sub-if1
-    returns
-    add-u16-at
-    u16-at-requires
-    returns-2
-    u32-at-requires
-    cast-len
-    head-number-requires
-    refused-requires
-    returns-3
-    add-body
-    sub-if4
-    returns-4
-    add-t9
-    add-t8
-    add-t14
-    returns-5)
+step-at-spec = tie.close (tie.spec sub-if1 returns add-u16-at u16-at-requires returns-2 u32-at-requires cast-len
+    head-number-requires refused-requires returns-3 add-body sub-if4 returns-4 add-t9 add-t8 add-t14 returns-5)

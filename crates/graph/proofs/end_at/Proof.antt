@@ -28,13 +28,5 @@ returns-2 : tie.Need-returns-2
 returns-2 c = c .before .before .before .point-at2 .ensures ∙ sym (pick-false _ _ (ne-eqb _ _ (λ e. c .if1 .left (c .before .wide .ensures ∙ e))))
 
 pub end-at-spec : {M : Type 1} → statement M
-end-at-spec =
-    tie.close
-    (tie.spec
-    point-at-requires
-    point-at-requires-2
-    mul-wide
-    shared-slice-read-wide
-    wide-requires
-    returns
-    returns-2)
+end-at-spec = tie.close (tie.spec point-at-requires point-at-requires-2 mul-wide shared-slice-read-wide wide-requires
+    returns returns-2)

@@ -53,18 +53,5 @@ returns : tie.Need-returns
 returns c = simp (c .before .wide2 .ensures, c .before .before .before .wide .ensures)
 
 pub entries-spec : {M : Type 1} → statement M
-entries-spec =
-    tie.close
-    (tie.spec
-    mul-wide
-    shared-slice-read-wide
-    wide-requires
-    add-wide
-    mul-wide-2
-    shared-slice-read-wide-2
-    wide-requires-2
-    mul-result
-    sub-result
-    part-result-start
-    part-result-end
-    returns)
+entries-spec = tie.close (tie.spec mul-wide shared-slice-read-wide wide-requires add-wide mul-wide-2
+    shared-slice-read-wide-2 wide-requires-2 mul-result sub-result part-result-start part-result-end returns)

@@ -27,5 +27,4 @@ returns : tie.Need-returns
 returns c = rw (c .as-u32 .ensures, c .before .role-owner .ensures, c .before .before .role-number .ensures) refl
 
 pub found-record-spec : {M : Type 1} → statement M
-found-record-spec =
-    tie.close (tie.spec role-number-requires role-owner-requires as-u32-requires returns)
+found-record-spec = tie.close (tie.spec role-number-requires role-owner-requires as-u32-requires returns)

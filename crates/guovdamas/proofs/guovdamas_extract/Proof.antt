@@ -42,14 +42,5 @@ returns c =
     extraction-numbered (c .extraction-of .ensures) (c .before .before .before .before .before .before .before .before .before .before .extract .ensures)
 
 pub guovdamas-extract-spec : {M : Type 1} → statement M
-guovdamas-extract-spec =
-    tie.close
-    (tie.spec
-    extract-requires
-    extraction-of-requires
-    same-length
-    same-length-2
-    same-length-3
-    same-length-4
-    same-length-5
-    returns)
+guovdamas-extract-spec = tie.close (tie.spec extract-requires extraction-of-requires same-length same-length-2
+    same-length-3 same-length-4 same-length-5 returns)

@@ -29,5 +29,4 @@ returns-2 : tie.Need-returns-2
 returns-2 c = ap recordNumbers (sym (c .enum-told .given .1))
 
 pub record-of-spec : {M : Type 1} → statement M
-record-of-spec =
-    tie.close (tie.spec enum-known-answer found-record-requires enum-told returns returns-2)
+record-of-spec = tie.close (tie.spec enum-known-answer found-record-requires enum-told returns returns-2)

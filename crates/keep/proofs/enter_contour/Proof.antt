@@ -45,18 +45,5 @@ returns : tie.Need-returns
 returns c = let s = c .before .before .before .before in (refl, (refl, ap (λ k. set (s .args .kind .now) (s .args .i) k) (c .kind-of .ensures)))
 
 pub enter-contour-spec : {M : Type 1} → statement M
-enter-contour-spec =
-    tie.close
-    (tie.spec
-    cast-first
-    mul-first
-    slice-write-first
-    cast-len
-    mul-len
-    slice-write-len
-    kind-of-requires
-    slice-write-kind
-    same-length
-    same-length-2
-    same-length-3
-    returns)
+enter-contour-spec = tie.close (tie.spec cast-first mul-first slice-write-first cast-len mul-len slice-write-len
+    kind-of-requires slice-write-kind same-length same-length-2 same-length-3 returns)

@@ -113,23 +113,6 @@ returns-2 c =
     (sym (rw (whole d) at (c .before .before .is-kept .ensures)) ∙ c .before .if1 .left) (rw (whole d) at (c .rejected-counts .ensures))
 
 pub note-walk-spec : {M : Type 1} → statement M
-note-walk-spec =
-    tie.close
-    (tie.spec
-    mul-begin
-    mul-end
-    sub-size
-    mul-doubled-area
-    sub-doubled-area
-    part-doubled-area-start
-    part-doubled-area-end
-    doubled-area-requires
-    is-kept-requires
-    enter-contour-requires
-    kept-counts-requires
-    same-length
-    same-length-2
-    same-length-3
-    returns
-    rejected-counts-requires
-    returns-2)
+note-walk-spec = tie.close (tie.spec mul-begin mul-end sub-size mul-doubled-area sub-doubled-area
+    part-doubled-area-start part-doubled-area-end doubled-area-requires is-kept-requires enter-contour-requires
+    kept-counts-requires same-length same-length-2 same-length-3 returns rejected-counts-requires returns-2)

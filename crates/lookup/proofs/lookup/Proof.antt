@@ -49,13 +49,5 @@ returns-3 c =
     lookup-refused (t-of s) (now (s .args .owner)) (s .args .contour) _ _ (sym (sym (c .before .before .check-table .ensures) ∙ c .enum-told2 .given .1))
 
 pub lookup-spec : {M : Type 1} → statement M
-lookup-spec =
-    tie.close
-    (tie.spec
-    returns
-    check-table-requires
-    enum-told
-    record-at-requires
-    enum-told-2
-    returns-2
+lookup-spec = tie.close (tie.spec returns check-table-requires enum-told record-at-requires enum-told-2 returns-2
     returns-3)

@@ -73,22 +73,7 @@ returns-2 c =
     (c .before .before .role-of .ensures)
 
 pub record-at-spec : {M : Type 1} → statement M
-record-at-spec =
-    tie.close
-    (tie.spec
-    hulls-before-requires
-    shared-slice-read-owner-right
-    mul-owner-right
-    shared-slice-read-owner-right-2
-    hulls-before-requires-2
-    owner-right-requires
-    returns
-    shared-slice-read-role-of
-    mul-role-of
-    shared-slice-read-role-of-2
-    role-of-requires
-    mul-t14
-    shared-slice-read-t19
-    mul-t8
-    shared-slice-read-t21
-    returns-2)
+record-at-spec = tie.close (tie.spec hulls-before-requires shared-slice-read-owner-right mul-owner-right
+    shared-slice-read-owner-right-2 hulls-before-requires-2 owner-right-requires returns shared-slice-read-role-of
+    mul-role-of shared-slice-read-role-of-2 role-of-requires mul-t14 shared-slice-read-t19 mul-t8
+    shared-slice-read-t21 returns-2)

@@ -28,13 +28,5 @@ returns-2 : tie.Need-returns-2
 returns-2 c = rw (ne-eqb _ _ (c .before .if1 .left))
 
 pub contour-of-spec : {M : Type 1} → statement M
-contour-of-spec =
-    tie.close
-    (tie.spec
-    returns
-    sub-result
-    cast-result
-    mul-result
-    shared-slice-read-result
-    add-result
+contour-of-spec = tie.close (tie.spec returns sub-result cast-result mul-result shared-slice-read-result add-result
     returns-2)

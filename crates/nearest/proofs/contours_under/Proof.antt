@@ -90,18 +90,7 @@ returns c =
     (e .last .1 .1 .1 .1 .1 .1 .1 .1 .1 .1 .1 .1 .0) (e .ensures) (u .last .1 .1 .1 .1 .0) (u .ensures)
 
 pub contours-under-spec : {M : Type 1} → statement M
-contours-under-spec =
-    tie.close
-    (tie.spec
-    slice-aggregate-list-edges
-    slice-aggregate-list-edges-2
-    list-edges-requires
-    slice-aggregate-nearest-edges
-    slice-aggregate-nearest-edges-2
-    slice-aggregate-nearest-edges-3
-    nearest-edges-requires
-    slice-aggregate-name-contours
-    slice-aggregate-name-contours-2
-    name-contours-requires
-    same-length
-    returns)
+contours-under-spec = tie.close (tie.spec slice-aggregate-list-edges slice-aggregate-list-edges-2 list-edges-requires
+    slice-aggregate-nearest-edges slice-aggregate-nearest-edges-2 slice-aggregate-nearest-edges-3
+    nearest-edges-requires slice-aggregate-name-contours slice-aggregate-name-contours-2 name-contours-requires
+    same-length returns)

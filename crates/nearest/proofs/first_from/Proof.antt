@@ -56,19 +56,5 @@ returns : tie.Need-returns Inv-loop μ-loop
 returns c = rw (toZ-ofZ w32 _ (c .before .before .fits .x)) at (bracket-end _ _ _ _ _ (c .before .loop .inv) (c .loop-test .left))
 
 pub first-from-spec : {M : Type 1} → statement M
-first-from-spec =
-    tie.close
-    (tie.spec
-    Inv-loop
-    μ-loop
-    loop-holds
-    sub-middle
-    add-middle
-    mul-if1
-    shared-slice-copy-out-if1
-    add-low
-    loop-less
-    loop-again
-    loop-less-2
-    loop-again-2
-    returns)
+first-from-spec = tie.close (tie.spec Inv-loop μ-loop loop-holds sub-middle add-middle mul-if1
+    shared-slice-copy-out-if1 add-low loop-less loop-again loop-less-2 loop-again-2 returns)

@@ -60,19 +60,5 @@ returns-4 c =
     (sym (c .before .is-nearer .ensures) ∙ c .if3 .left)
 
 pub kept-spec : {M : Type 1} → statement M
-kept-spec =
-    tie.close
-    (tie.spec
-    lies-under-requires
-    returns
-    cast-result
-    add-result
-    returns-2
-    sub-listed-edge
-    cast-listed-edge
-    listed-edge-requires
-    is-nearer-requires
-    cast-result-2
-    add-result-2
-    returns-3
-    returns-4)
+kept-spec = tie.close (tie.spec lies-under-requires returns cast-result add-result returns-2 sub-listed-edge
+    cast-listed-edge listed-edge-requires is-nearer-requires cast-result-2 add-result-2 returns-3 returns-4)

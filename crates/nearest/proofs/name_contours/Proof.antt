@@ -59,19 +59,5 @@ returns : tie.Need-returns Inv-loop μ-loop
 returns c = λ j h. c .before .loop .inv .2 j (omega arith)
 
 pub name-contours-spec : {M : Type 1} → statement M
-name-contours-spec =
-    tie.close
-    (tie.spec
-    Inv-loop
-    μ-loop
-    loop-holds
-    mul-contour-of
-    shared-slice-read-contour-of
-    contour-of-requires
-    mul-under
-    slice-write-under
-    add-j
-    loop-less
-    loop-again
-    same-length
-    returns)
+name-contours-spec = tie.close (tie.spec Inv-loop μ-loop loop-holds mul-contour-of shared-slice-read-contour-of
+    contour-of-requires mul-under slice-write-under add-j loop-less loop-again same-length returns)

@@ -70,22 +70,6 @@ returns : tie.Need-returns Inv-loop μ-loop
 returns c = let l = c .before .loop in rounds-end _ _ _ _ _ _ (l .best) (l .k) (l .inv) (c .loop-test .left)
 
 pub nearest-edges-spec : {M : Type 1} → statement M
-nearest-edges-spec =
-    tie.close
-    (tie.spec
-    Inv-loop
-    μ-loop
-    loop-holds
-    mul-if1
-    shared-slice-read-if1
-    cast-if1
-    shared-slice-read-if1-2
-    add-k
-    loop-less
-    loop-again
-    offer-requires
-    add-k-2
-    loop-less-2
-    loop-again-2
-    same-length
+nearest-edges-spec = tie.close (tie.spec Inv-loop μ-loop loop-holds mul-if1 shared-slice-read-if1 cast-if1
+    shared-slice-read-if1-2 add-k loop-less loop-again offer-requires add-k-2 loop-less-2 loop-again-2 same-length
     returns)

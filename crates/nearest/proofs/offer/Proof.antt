@@ -129,27 +129,6 @@ returns-3 c =
     (c .before .before .first-from .ensures) _ _ _ (c .before .loop .inv) (c .loop-test .left)
 
 pub offer-spec : {M : Type 1} → statement M
-offer-spec =
-    tie.close
-    (tie.spec
-    Inv-loop
-    μ-loop
-    listed-edge-requires
-    returns
-    first-from-requires
-    loop-holds
-    mul-if2
-    shared-slice-copy-out-if2
-    same-length
-    returns-2
-    listed-anchor-requires
-    mul-b
-    slice-read-b
-    kept-requires
-    mul-best
-    slice-write-best
-    add-j
-    loop-less
-    loop-again
-    same-length-2
-    returns-3)
+offer-spec = tie.close (tie.spec Inv-loop μ-loop listed-edge-requires returns first-from-requires loop-holds mul-if2
+    shared-slice-copy-out-if2 same-length returns-2 listed-anchor-requires mul-b slice-read-b kept-requires mul-best
+    slice-write-best add-j loop-less loop-again same-length-2 returns-3)

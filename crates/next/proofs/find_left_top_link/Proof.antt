@@ -113,18 +113,6 @@ returns-2 c =
     (stretch (list d) (from d) (to d)) (at-node d ∙ here d .is) (λ e. cross (ap length (sym (at-node d)) ∙ e)) (λ _ _. refl) (r .ensures))
 
 pub find-left-top-link-spec : {M : Type 1} → statement M
-find-left-top-link-spec =
-    tie.close
-    (tie.spec
-    number-requires
-    number-requires-2
-    add-number
-    number-requires-3
-    sub-if1
-    number-requires-4
-    add-number-2
-    number-requires-5
-    find-left-top-link-on-bridge-requires
-    returns
-    find-left-top-link-on-indices-requires
-    returns-2)
+find-left-top-link-spec = tie.close (tie.spec number-requires number-requires-2 add-number number-requires-3 sub-if1
+    number-requires-4 add-number-2 number-requires-5 find-left-top-link-on-bridge-requires returns
+    find-left-top-link-on-indices-requires returns-2)

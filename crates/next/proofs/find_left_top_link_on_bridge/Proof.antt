@@ -50,14 +50,5 @@ returns-2 c =
     c .only-unvisited2 .ensures ∙ ap (onlyUnvisited (a .state .now)) (sym (pick-false (a .l0) (a .l1) e))
 
 pub find-left-top-link-on-bridge-spec : {M : Type 1} → statement M
-find-left-top-link-on-bridge-spec =
-    tie.close
-    (tie.spec
-    point-at-requires
-    point-at-requires-2
-    point-at-requires-3
-    clockwise-requires
-    only-unvisited-requires
-    returns
-    only-unvisited-requires-2
-    returns-2)
+find-left-top-link-on-bridge-spec = tie.close (tie.spec point-at-requires point-at-requires-2 point-at-requires-3
+    clockwise-requires only-unvisited-requires returns only-unvisited-requires-2 returns-2)

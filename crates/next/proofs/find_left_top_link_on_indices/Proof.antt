@@ -59,17 +59,5 @@ returns c =
     climbed (l .loop .inv) (c .loop-test .left)
 
 pub find-left-top-link-on-indices-spec : {M : Type 1} → statement M
-find-left-top-link-on-indices-spec =
-    tie.close
-    (tie.spec
-    Inv-loop
-    μ-loop
-    point-at-requires
-    point-at-requires-2
-    loop-holds
-    number-requires
-    higher-requires
-    add-i
-    loop-less
-    loop-again
-    returns)
+find-left-top-link-on-indices-spec = tie.close (tie.spec Inv-loop μ-loop point-at-requires point-at-requires-2
+    loop-holds number-requires higher-requires add-i loop-less loop-again returns)

@@ -62,14 +62,5 @@ returns-3 c =
     (k .ensures) (c .nearest .ensures)
 
 pub find-nearest-link-to-spec : {M : Type 1} → statement M
-find-nearest-link-to-spec =
-    tie.close
-    (tie.spec
-    unvisited-from-requires
-    returns
-    number-requires
-    add-unvisited-from
-    unvisited-from-requires-2
-    returns-2
-    nearest-requires
-    returns-3)
+find-nearest-link-to-spec = tie.close (tie.spec unvisited-from-requires returns number-requires add-unvisited-from
+    unvisited-from-requires-2 returns-2 nearest-requires returns-3)

@@ -59,14 +59,5 @@ returns-4 c =
     (sym (c .before .before .clockwise .ensures) ∙ c .before .if3 .left) (c .point-at2 .ensures)
 
 pub higher-spec : {M : Type 1} → statement M
-higher-spec =
-    tie.close
-    (tie.spec
-    returns
-    shared-slice-read-if2
-    returns-2
-    point-at-requires
-    clockwise-requires
-    returns-3
-    point-at-requires-2
-    returns-4)
+higher-spec = tie.close (tie.spec returns shared-slice-read-if2 returns-2 point-at-requires clockwise-requires
+    returns-3 point-at-requires-2 returns-4)

@@ -70,19 +70,5 @@ returns : tie.Need-returns Inv-loop μ-loop
 returns c = turn-end (c .before .loop .inv) (c .loop-test .left)
 
 pub nearest-spec : {M : Type 1} → statement M
-nearest-spec =
-    tie.close
-    (tie.spec
-    Inv-loop
-    μ-loop
-    way-of-requires
-    ray-of-requires
-    loop-holds
-    number-requires
-    ray-of-requires-2
-    nearer-requires
-    add-unvisited-from
-    unvisited-from-requires
-    loop-less
-    loop-again
-    returns)
+nearest-spec = tie.close (tie.spec Inv-loop μ-loop way-of-requires ray-of-requires loop-holds number-requires
+    ray-of-requires-2 nearer-requires add-unvisited-from unvisited-from-requires loop-less loop-again returns)

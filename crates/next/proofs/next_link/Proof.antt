@@ -65,15 +65,5 @@ returns-2 c =
     ∙ sym (next-met (graph s bid top) (a .sense) (a .state .now) (a .node) (a .link) cross))
 
 pub next-link-spec : {M : Type 1} → statement M
-next-link-spec =
-    tie.close
-    (tie.spec
-    on-bridge-requires
-    enum-known-next
-    enum-told
-    number-requires
-    add-number
-    number-requires-2
-    find-nearest-link-to-requires
-    returns
-    returns-2)
+next-link-spec = tie.close (tie.spec on-bridge-requires enum-known-next enum-told number-requires add-number
+    number-requires-2 find-nearest-link-to-requires returns returns-2)

@@ -87,18 +87,5 @@ returns-3 c =
     choice-at (a .state .now) (a .link) (part (starts d) (list d) (node d)) (cross-entries (here d) (c .if1 .left))
 
 pub on-bridge-spec : {M : Type 1} → statement M
-on-bridge-spec =
-    tie.close
-    (tie.spec
-    number-requires
-    add-number
-    number-requires-2
-    sub-if1
-    number-requires-3
-    add-number-2
-    number-requires-4
-    only-unvisited-requires
-    returns
-    only-unvisited-requires-2
-    returns-2
-    returns-3)
+on-bridge-spec = tie.close (tie.spec number-requires add-number number-requires-2 sub-if1 number-requires-3
+    add-number-2 number-requires-4 only-unvisited-requires returns only-unvisited-requires-2 returns-2 returns-3)

@@ -64,16 +64,5 @@ returns-2 c =
     record { low = l .loop .inv .0; high = l .loop .inv .1; rest = l .loop .inv .2; here = λ h. absurd (past (c .loop-test .left) h) }
 
 pub unvisited-from-spec : {M : Type 1} → statement M
-unvisited-from-spec =
-    tie.close
-    (tie.spec
-    Inv-loop
-    μ-loop
-    loop-holds
-    number-requires
-    shared-slice-read-if1
-    returns
-    add-i
-    loop-less
-    loop-again
-    returns-2)
+unvisited-from-spec = tie.close (tie.spec Inv-loop μ-loop loop-holds number-requires shared-slice-read-if1 returns
+    add-i loop-less loop-again returns-2)

@@ -54,13 +54,5 @@ returns-2 c =
     )
 
 pub way-of-spec : {M : Type 1} → statement M
-way-of-spec =
-    tie.close
-    (tie.spec
-    point-at-requires
-    point-at-requires-2
-    number-requires
-    between-requires
-    returns
-    between-requires-2
-    returns-2)
+way-of-spec = tie.close (tie.spec point-at-requires point-at-requires-2 number-requires between-requires returns
+    between-requires-2 returns-2)

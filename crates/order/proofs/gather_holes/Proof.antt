@@ -165,34 +165,8 @@ returns c =
     gather-end (t s) _ _ (h s) (l .who) (anchors (l .x) (l .y) (l .to-x) (l .to-y)) (l .m) (l .c) (l .inv) (c .loop-test .left)
 
 pub gather-holes-spec : {M : Type 1} → statement M
-gather-holes-spec =
-    tie.close
-    (tie.spec
-    Inv-loop
-    μ-loop
-    loop-holds
-    shared-slice-read-if1
-    add-c
-    loop-less
-    loop-again
-    mul-left-bottom-segment-from
-    shared-slice-read-left-bottom-segment-from
-    cast-left-bottom-segment-from
-    mul-left-bottom-segment-from-2
-    shared-slice-read-left-bottom-segment-from-2
-    cast-left-bottom-segment-from-2
-    left-bottom-segment-from-requires
-    cast-who
-    mul-who
-    slice-write-who
-    put-anchor-requires
-    add-m
-    add-c-2
-    loop-less-2
-    loop-again-2
-    same-length
-    same-length-2
-    same-length-3
-    same-length-4
-    same-length-5
-    returns)
+gather-holes-spec = tie.close (tie.spec Inv-loop μ-loop loop-holds shared-slice-read-if1 add-c loop-less loop-again
+    mul-left-bottom-segment-from shared-slice-read-left-bottom-segment-from cast-left-bottom-segment-from
+    mul-left-bottom-segment-from-2 shared-slice-read-left-bottom-segment-from-2 cast-left-bottom-segment-from-2
+    left-bottom-segment-from-requires cast-who mul-who slice-write-who put-anchor-requires add-m add-c-2 loop-less-2
+    loop-again-2 same-length same-length-2 same-length-3 same-length-4 same-length-5 returns)

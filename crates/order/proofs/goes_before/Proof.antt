@@ -38,14 +38,5 @@ returns-3 c =
     ∙ c .before .before .before .if2 .left) (c .cross-product .result) e (c .cross-product .ensures .1)
 
 pub goes-before-spec : {M : Type 1} → statement M
-goes-before-spec =
-    tie.close
-    (tie.spec
-    before-requires
-    returns
-    before-requires-2
-    returns-2
-    between-requires
-    between-requires-2
-    cross-product-requires
-    returns-3)
+goes-before-spec = tie.close (tie.spec before-requires returns before-requires-2 returns-2 between-requires
+    between-requires-2 cross-product-requires returns-3)

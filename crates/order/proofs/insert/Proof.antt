@@ -162,35 +162,7 @@ returns-2 c =
     shift-end (test (s .args .who .now) (h s) (s .args .ord .now) (s .args .j)) _ (l .ord) _ (l .p) (l .inv) (s .pre .1 .0) _ (c .loop-test .left)
 
 pub insert-spec : {M : Type 1} → statement M
-insert-spec =
-    tie.close
-    (tie.spec
-    Inv-loop
-    μ-loop
-    listed-anchor-requires
-    mul-c
-    shared-slice-read-c
-    loop-holds
-    sub-d
-    mul-d
-    slice-read-d
-    cast-i
-    listed-anchor-requires-2
-    mul-goes-before
-    shared-slice-read-goes-before
-    goes-before-requires
-    mul-ord
-    slice-write-ord
-    sub-p
-    loop-less
-    loop-again
-    cast-ord
-    mul-ord-2
-    slice-write-ord-2
-    same-length
-    returns
-    cast-ord-2
-    mul-ord-3
-    slice-write-ord-3
-    same-length-2
-    returns-2)
+insert-spec = tie.close (tie.spec Inv-loop μ-loop listed-anchor-requires mul-c shared-slice-read-c loop-holds sub-d
+    mul-d slice-read-d cast-i listed-anchor-requires-2 mul-goes-before shared-slice-read-goes-before
+    goes-before-requires mul-ord slice-write-ord sub-p loop-less loop-again cast-ord mul-ord-2 slice-write-ord-2
+    same-length returns cast-ord-2 mul-ord-3 slice-write-ord-3 same-length-2 returns-2)

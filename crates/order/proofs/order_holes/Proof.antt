@@ -48,15 +48,5 @@ returns c =
     ordering-end (h s) (s .args .who .now) _ (l .ord) _ (l .j) (l .inv) (c .loop-test .left)
 
 pub order-holes-spec : {M : Type 1} → statement M
-order-holes-spec =
-    tie.close
-    (tie.spec
-    Inv-loop
-    μ-loop
-    loop-holds
-    insert-requires
-    add-j
-    loop-less
-    loop-again
-    same-length
-    returns)
+order-holes-spec = tie.close (tie.spec Inv-loop μ-loop loop-holds insert-requires add-j loop-less loop-again
+    same-length returns)

@@ -58,19 +58,6 @@ returns-2 : tie.Need-returns-2
 returns-2 c = search needs
 
 pub answer-input-spec : {M : Type 1} → statement M
-answer-input-spec =
-    tie.close
-    (tie.spec
-    read-input-requires
-    enum-told
-    slice-aggregate-write-all
-    write-all-requires
-    enum-known-n
-    slice-reshare-prefix-print-answer
-    slice-aggregate-print-answer
-    print-answer-requires
-    same-length
-    returns
-    same-length-2
-    same-length-3
-    returns-2)
+answer-input-spec = tie.close (tie.spec read-input-requires enum-told slice-aggregate-write-all write-all-requires
+    enum-known-n slice-reshare-prefix-print-answer slice-aggregate-print-answer print-answer-requires same-length
+    returns same-length-2 same-length-3 returns-2)

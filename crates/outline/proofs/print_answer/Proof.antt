@@ -23,12 +23,5 @@ returns : tie.Need-returns
 returns c = search needs
 
 pub print-answer-spec : {M : Type 1} → statement M
-print-answer-spec =
-    tie.close
-    (tie.spec
-    answer-requires
-    slice-reshare-prefix-write-all
-    slice-aggregate-write-all
-    write-all-requires
-    same-length
-    returns)
+print-answer-spec = tie.close (tie.spec answer-requires slice-reshare-prefix-write-all slice-aggregate-write-all
+    write-all-requires same-length returns)

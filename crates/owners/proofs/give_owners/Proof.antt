@@ -128,27 +128,6 @@ returns-2 c =
     give-end (s .args .who .now) (s .args .under .now) (s .args .ord .now) (l .own) (s .args .m) (l .i) (s .pre .ord-room) (c .loop-test .left) ∙ l .inv .1
 
 pub give-owners-spec : {M : Type 1} → statement M
-give-owners-spec =
-    tie.close
-    (tie.spec
-    Inv-loop
-    μ-loop
-    loop-holds
-    mul-j
-    shared-slice-read-j
-    cast-j
-    mul-c
-    shared-slice-read-c
-    mul-parent
-    shared-slice-read-parent
-    parent-requires
-    same-length
-    returns
-    cast-own
-    mul-own
-    slice-write-own
-    add-i
-    loop-less
-    loop-again
-    same-length-2
-    returns-2)
+give-owners-spec = tie.close (tie.spec Inv-loop μ-loop loop-holds mul-j shared-slice-read-j cast-j mul-c
+    shared-slice-read-c mul-parent shared-slice-read-parent parent-requires same-length returns cast-own mul-own
+    slice-write-own add-i loop-less loop-again same-length-2 returns-2)

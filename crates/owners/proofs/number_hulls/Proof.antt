@@ -62,23 +62,6 @@ returns : tie.Need-returns Inv-loop μ-loop
 returns c = let s = c .before .before in let l = c .before .loop in numbering-end _ _ (l .own) (l .shape) (l .c) (l .inv) (c .loop-test .left) (s .pre .0)
 
 pub number-hulls-spec : {M : Type 1} → statement M
-number-hulls-spec =
-    tie.close
-    (tie.spec
-    Inv-loop
-    μ-loop
-    loop-holds
-    shared-slice-read-if1
-    mul-own
-    slice-write-own
-    add-shape
-    add-c
-    loop-less
-    loop-again
-    mul-own-2
-    slice-write-own-2
-    add-c-2
-    loop-less-2
-    loop-again-2
-    same-length
+number-hulls-spec = tie.close (tie.spec Inv-loop μ-loop loop-holds shared-slice-read-if1 mul-own slice-write-own
+    add-shape add-c loop-less loop-again mul-own-2 slice-write-own-2 add-c-2 loop-less-2 loop-again-2 same-length
     returns)

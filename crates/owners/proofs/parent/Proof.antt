@@ -23,6 +23,4 @@ returns-2 : tie.Need-returns-2
 returns-2 c = rw (ne-eqb _ _ (c .before .if1 .left))
 
 pub parent-spec : {M : Type 1} → statement M
-parent-spec =
-    tie.close
-    (tie.spec returns sub-result cast-result mul-result shared-slice-read-result returns-2)
+parent-spec = tie.close (tie.spec returns sub-result cast-result mul-result shared-slice-read-result returns-2)

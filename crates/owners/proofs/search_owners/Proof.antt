@@ -167,32 +167,11 @@ returns c =
     (omega (arith, o .kept .1 .1 .1 .1 .1 .1 .0))
 
 pub search-owners-spec : {M : Type 1} → statement M
-search-owners-spec =
-    tie.close
-    (tie.spec
-    slice-aggregate-gather-holes
-    slice-aggregate-gather-holes-2
-    slice-aggregate-gather-holes-3
-    slice-aggregate-gather-holes-4
-    slice-aggregate-gather-holes-5
-    gather-holes-requires
-    slice-aggregate-contours-under
-    slice-aggregate-contours-under-2
-    slice-aggregate-contours-under-3
-    slice-aggregate-contours-under-4
-    slice-aggregate-contours-under-5
-    slice-aggregate-contours-under-6
-    contours-under-requires
-    slice-aggregate-order-holes
-    slice-aggregate-order-holes-2
-    slice-aggregate-order-holes-3
-    slice-aggregate-order-holes-4
-    slice-aggregate-order-holes-5
-    slice-aggregate-order-holes-6
-    order-holes-requires
-    slice-aggregate-give-owners
-    slice-aggregate-give-owners-2
-    slice-aggregate-give-owners-3
-    give-owners-requires
-    same-length
-    returns)
+search-owners-spec = tie.close (tie.spec slice-aggregate-gather-holes slice-aggregate-gather-holes-2
+    slice-aggregate-gather-holes-3 slice-aggregate-gather-holes-4 slice-aggregate-gather-holes-5 gather-holes-requires
+    slice-aggregate-contours-under slice-aggregate-contours-under-2 slice-aggregate-contours-under-3
+    slice-aggregate-contours-under-4 slice-aggregate-contours-under-5 slice-aggregate-contours-under-6
+    contours-under-requires slice-aggregate-order-holes slice-aggregate-order-holes-2 slice-aggregate-order-holes-3
+    slice-aggregate-order-holes-4 slice-aggregate-order-holes-5 slice-aggregate-order-holes-6 order-holes-requires
+    slice-aggregate-give-owners slice-aggregate-give-owners-2 slice-aggregate-give-owners-3 give-owners-requires
+    same-length returns)

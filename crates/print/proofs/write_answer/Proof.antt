@@ -51,5 +51,4 @@ returns c =
     )
 
 pub write-answer-spec : {M : Type 1} → statement M
-write-answer-spec =
-    tie.close (tie.spec write-header-requires write-contours-requires same-length returns)
+write-answer-spec = tie.close (tie.spec write-header-requires write-contours-requires same-length returns)

@@ -89,19 +89,6 @@ returns c =
     .write-contour-line .ensures)) (c .before .before .write-points .ensures)
 
 pub write-contour-spec : {M : Type 1} → statement M
-write-contour-spec =
-    tie.close
-    (tie.spec
-    mul-count
-    shared-slice-read-count
-    shared-slice-read-write-contour-line
-    mul-write-contour-line
-    shared-slice-read-write-contour-line-2
-    write-contour-line-requires
-    mul-write-points
-    shared-slice-read-write-points
-    cast-write-points
-    cast-write-points-2
-    write-points-requires
-    same-length
-    returns)
+write-contour-spec = tie.close (tie.spec mul-count shared-slice-read-count shared-slice-read-write-contour-line
+    mul-write-contour-line shared-slice-read-write-contour-line-2 write-contour-line-requires mul-write-points
+    shared-slice-read-write-points cast-write-points cast-write-points-2 write-points-requires same-length returns)

@@ -42,15 +42,5 @@ returns : tie.Need-returns Inv-loop μ-loop
 returns c = listing-last _ _ _ _ _ _ _ (c .before .loop .inv) (c .loop-test .left)
 
 pub write-contours-spec : {M : Type 1} → statement M
-write-contours-spec =
-    tie.close
-    (tie.spec
-    Inv-loop
-    μ-loop
-    loop-holds
-    write-contour-requires
-    add-i
-    loop-less
-    loop-again
-    same-length
-    returns)
+write-contours-spec = tie.close (tie.spec Inv-loop μ-loop loop-holds write-contour-requires add-i loop-less loop-again
+    same-length returns)

@@ -93,23 +93,5 @@ returns : tie.Need-returns Inv-loop μ-loop
 returns c = pointing-last _ _ _ _ _ _ _ _ _ (c .before .loop .inv) (c .loop-test .left)
 
 pub write-points-spec : {M : Type 1} → statement M
-write-points-spec =
-    tie.close
-    (tie.spec
-    Inv-loop
-    μ-loop
-    add-end
-    loop-holds
-    mul-x
-    mul-x-2
-    shared-slice-copy-out-x
-    mul-y
-    add-y
-    mul-y-2
-    shared-slice-copy-out-y
-    write-point-requires
-    add-p
-    loop-less
-    loop-again
-    same-length
-    returns)
+write-points-spec = tie.close (tie.spec Inv-loop μ-loop add-end loop-holds mul-x mul-x-2 shared-slice-copy-out-x mul-y
+    add-y mul-y-2 shared-slice-copy-out-y write-point-requires add-p loop-less loop-again same-length returns)

@@ -76,14 +76,5 @@ returns c =
     )
 
 pub write-refusal-spec : {M : Type 1} → statement M
-write-refusal-spec =
-    tie.close
-    (tie.spec
-    slice-aggregate-write-said
-    write-said-requires
-    slice-aggregate-write-said-2
-    write-said-requires-2
-    slice-aggregate-write-text
-    write-text-requires
-    same-length
-    returns)
+write-refusal-spec = tie.close (tie.spec slice-aggregate-write-said write-said-requires slice-aggregate-write-said-2
+    write-said-requires-2 slice-aggregate-write-text write-text-requires same-length returns)

@@ -94,14 +94,5 @@ returns c =
     left-last e l3 (c .before .before .write-text .ensures)
 
 pub write-contour-line-spec : {M : Type 1} → statement M
-write-contour-line-spec =
-    tie.close
-    (tie.spec
-    write-decimal-requires
-    write-role-requires
-    slice-aggregate-write-said
-    write-said-requires
-    slice-aggregate-write-text
-    write-text-requires
-    same-length
-    returns)
+write-contour-line-spec = tie.close (tie.spec write-decimal-requires write-role-requires slice-aggregate-write-said
+    write-said-requires slice-aggregate-write-text write-text-requires same-length returns)

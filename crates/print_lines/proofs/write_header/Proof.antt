@@ -135,18 +135,6 @@ returns c =
     left-last e l4 (c .before .before .write-text .ensures)
 
 pub write-header-spec : {M : Type 1} → statement M
-write-header-spec =
-    tie.close
-    (tie.spec
-    slice-aggregate-write-said
-    write-said-requires
-    slice-aggregate-write-said-2
-    write-said-requires-2
-    slice-aggregate-write-said-3
-    write-said-requires-3
-    slice-aggregate-write-said-4
-    write-said-requires-4
-    slice-aggregate-write-text
-    write-text-requires
-    same-length
-    returns)
+write-header-spec = tie.close (tie.spec slice-aggregate-write-said write-said-requires slice-aggregate-write-said-2
+    write-said-requires-2 slice-aggregate-write-said-3 write-said-requires-3 slice-aggregate-write-said-4
+    write-said-requires-4 slice-aggregate-write-text write-text-requires same-length returns)

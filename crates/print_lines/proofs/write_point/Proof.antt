@@ -95,14 +95,5 @@ returns c =
     left-last e l3 (c .before .before .write-text2 .ensures)
 
 pub write-point-spec : {M : Type 1} → statement M
-write-point-spec =
-    tie.close
-    (tie.spec
-    write-signed-requires
-    slice-aggregate-write-text
-    write-text-requires
-    write-signed-requires-2
-    slice-aggregate-write-text-2
-    write-text-requires-2
-    same-length
-    returns)
+write-point-spec = tie.close (tie.spec write-signed-requires slice-aggregate-write-text write-text-requires
+    write-signed-requires-2 slice-aggregate-write-text-2 write-text-requires-2 same-length returns)

@@ -57,18 +57,6 @@ returns-3 c =
     ) (c .before .before .write-said3 .ensures)
 
 pub write-role-spec : {M : Type 1} → statement M
-write-role-spec =
-    tie.close
-    (tie.spec
-    slice-aggregate-write-said
-    write-said-requires
-    same-length
-    returns
-    slice-aggregate-write-said-2
-    write-said-requires-2
-    same-length-2
-    returns-2
-    slice-aggregate-write-said-3
-    write-said-requires-3
-    same-length-3
-    returns-3)
+write-role-spec = tie.close (tie.spec slice-aggregate-write-said write-said-requires same-length returns
+    slice-aggregate-write-said-2 write-said-requires-2 same-length-2 returns-2 slice-aggregate-write-said-3
+    write-said-requires-3 same-length-3 returns-3)

@@ -30,5 +30,4 @@ returns c =
     (c .before .before .write-decimal .ensures)
 
 pub write-said-spec : {M : Type 1} → statement M
-write-said-spec =
-    tie.close (tie.spec write-text-requires write-decimal-requires same-length returns)
+write-said-spec = tie.close (tie.spec write-text-requires write-decimal-requires same-length returns)

@@ -60,16 +60,5 @@ returns-2 c =
     .if1 .left)) (c .before .before .write-decimal2 .ensures)
 
 pub write-signed-spec : {M : Type 1} → statement M
-write-signed-spec =
-    tie.close
-    (tie.spec
-    cast-absolute
-    absolute-requires
-    slice-write-out
-    add-write-decimal
-    write-decimal-requires
-    same-length
-    returns
-    write-decimal-requires-2
-    same-length-2
-    returns-2)
+write-signed-spec = tie.close (tie.spec cast-absolute absolute-requires slice-write-out add-write-decimal
+    write-decimal-requires same-length returns write-decimal-requires-2 same-length-2 returns-2)

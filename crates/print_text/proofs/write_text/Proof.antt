@@ -45,18 +45,5 @@ returns : tie.Need-returns Inv-loop μ-loop
 returns c = copying-last _ _ _ _ _ (c .before .loop .inv) (c .loop-test .left)
 
 pub write-text-spec : {M : Type 1} → statement M
-write-text-spec =
-    tie.close
-    (tie.spec
-    Inv-loop
-    μ-loop
-    loop-holds
-    shared-slice-read-out
-    add-out
-    slice-write-out
-    add-i
-    loop-less
-    loop-again
-    add-result
-    same-length
-    returns)
+write-text-spec = tie.close (tie.spec Inv-loop μ-loop loop-holds shared-slice-read-out add-out slice-write-out add-i
+    loop-less loop-again add-result same-length returns)

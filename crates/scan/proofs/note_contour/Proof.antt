@@ -158,21 +158,6 @@ returns-2 c =
     )
 
 pub note-contour-spec : {M : Type 1} → statement M
-note-contour-spec =
-    tie.close
-    (tie.spec
-    same-requires
-    mark-of-requires
-    find-contour-requires
-    enum-known-number
-    enum-known-to
-    note-walk-requires
-    same-length
-    same-length-2
-    returns
-    same-length-3
-    same-length-4
-    same-length-5
-    same-length-6
-    same-length-7
-    returns-2)
+note-contour-spec = tie.close (tie.spec same-requires mark-of-requires find-contour-requires enum-known-number
+    enum-known-to note-walk-requires same-length same-length-2 returns same-length-3 same-length-4 same-length-5
+    same-length-6 same-length-7 returns-2)

@@ -186,31 +186,7 @@ returns-2 c =
     )
 
 pub scan-links-spec : {M : Type 1} → statement M
-scan-links-spec =
-    tie.close
-    (tie.spec
-    Inv-loop
-    μ-loop
-    no-counts-requires
-    loop-holds
-    slice-read-if1
-    add-k
-    loop-less
-    loop-again
-    scan-walk-requires
-    enum-known-number
-    same-length
-    same-length-2
-    same-length-3
-    same-length-4
-    same-length-5
-    returns
-    enum-known-d
-    loop-less-2
-    loop-again-2
-    same-length-6
-    same-length-7
-    same-length-8
-    same-length-9
-    same-length-10
-    returns-2)
+scan-links-spec = tie.close (tie.spec Inv-loop μ-loop no-counts-requires loop-holds slice-read-if1 add-k loop-less
+    loop-again scan-walk-requires enum-known-number same-length same-length-2 same-length-3 same-length-4
+    same-length-5 returns enum-known-d loop-less-2 loop-again-2 same-length-6 same-length-7 same-length-8
+    same-length-9 same-length-10 returns-2)

@@ -82,19 +82,6 @@ returns-2 c =
     )
 
 pub scan-walk-spec : {M : Type 1} → statement M
-scan-walk-spec =
-    tie.close
-    (tie.spec
-    find-left-top-link-requires
-    enum-told
-    enum-known-s
-    shared-slice-read-hole
-    note-contour-requires
-    same-length
-    returns
-    same-length-2
-    same-length-3
-    same-length-4
-    same-length-5
-    same-length-6
+scan-walk-spec = tie.close (tie.spec find-left-top-link-requires enum-told enum-known-s shared-slice-read-hole
+    note-contour-requires same-length returns same-length-2 same-length-3 same-length-4 same-length-5 same-length-6
     returns-2)

@@ -98,25 +98,7 @@ returns-2 c =
     e ∙ sym (none _ _ (λ k m. l .inv .2 k (omega arith)))
 
 pub bad-contour-spec : {M : Type 1} → statement M
-bad-contour-spec =
-    tie.close
-    (tie.spec
-    Inv-loop
-    μ-loop
-    loop-holds
-    mul-contour-fault
-    shared-slice-read-contour-fault
-    mul-contour-fault-2
-    shared-slice-read-contour-fault-2
-    shared-slice-read-contour-fault-3
-    contour-fault-requires
-    returns
-    mul-range-end
-    shared-slice-read-range-end
-    mul-range-end-2
-    shared-slice-read-range-end-2
-    range-end-requires
-    add-c
-    loop-less
-    loop-again
-    returns-2)
+bad-contour-spec = tie.close (tie.spec Inv-loop μ-loop loop-holds mul-contour-fault shared-slice-read-contour-fault
+    mul-contour-fault-2 shared-slice-read-contour-fault-2 shared-slice-read-contour-fault-3 contour-fault-requires
+    returns mul-range-end shared-slice-read-range-end mul-range-end-2 shared-slice-read-range-end-2 range-end-requires
+    add-c loop-less loop-again returns-2)

@@ -54,13 +54,5 @@ returns-4 c =
     (c .before .bad-contour .ensures) (c .if3 .left)
 
 pub check-table-spec : {M : Type 1} → statement M
-check-table-spec =
-    tie.close
-    (tie.spec
-    misfit-requires
-    returns
-    ranges-end-requires
-    returns-2
-    bad-contour-requires
-    returns-3
-    returns-4)
+check-table-spec = tie.close (tie.spec misfit-requires returns ranges-end-requires returns-2 bad-contour-requires
+    returns-3 returns-4)

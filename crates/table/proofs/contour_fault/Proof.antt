@@ -31,5 +31,4 @@ returns-2 : tie.Need-returns-2
 returns-2 c = c .some-point-fault .ensures ∙ sym (or-rest _ _ (sym (c .before .before .range-fault .ensures) ∙ c .before .if1 .left))
 
 pub contour-fault-spec : {M : Type 1} → statement M
-contour-fault-spec =
-    tie.close (tie.spec range-fault-requires returns some-point-fault-requires returns-2)
+contour-fault-spec = tie.close (tie.spec range-fault-requires returns some-point-fault-requires returns-2)

@@ -50,15 +50,5 @@ returns c =
     (rw e at (l .inv .2), omega arith)
 
 pub hulls-before-spec : {M : Type 1} → statement M
-hulls-before-spec =
-    tie.close
-    (tie.spec
-    Inv-loop
-    μ-loop
-    loop-holds
-    shared-slice-read-one-more-if-hull
-    one-more-if-hull-requires
-    add-c
-    loop-less
-    loop-again
-    returns)
+hulls-before-spec = tie.close (tie.spec Inv-loop μ-loop loop-holds shared-slice-read-one-more-if-hull
+    one-more-if-hull-requires add-c loop-less loop-again returns)

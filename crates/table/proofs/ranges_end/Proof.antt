@@ -35,14 +35,5 @@ returns-2 c =
     c .range-end .ensures ∙ sym (start-last (now (a .first)) (now (a .len)) (length (now (a .first))) (omega arith))
 
 pub ranges-end-spec : {M : Type 1} → statement M
-ranges-end-spec =
-    tie.close
-    (tie.spec
-    returns
-    sub-c
-    mul-range-end
-    shared-slice-read-range-end
-    mul-range-end-2
-    shared-slice-read-range-end-2
-    range-end-requires
-    returns-2)
+ranges-end-spec = tie.close (tie.spec returns sub-c mul-range-end shared-slice-read-range-end mul-range-end-2
+    shared-slice-read-range-end-2 range-end-requires returns-2)

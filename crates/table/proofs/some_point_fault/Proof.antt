@@ -88,21 +88,5 @@ returns-2 c =
     sym (some-no (λ i. pointFault (now (a .points)) (a .from) (a .from + a .len) (a .from + i)) (a .len) (λ k l. c .before .loop .inv .2 k (omega arith)))
 
 pub some-point-fault-spec : {M : Type 1} → statement M
-some-point-fault-spec =
-    tie.close
-    (tie.spec
-    Inv-loop
-    μ-loop
-    add-point-in
-    sub-point-in
-    point-in-requires
-    loop-holds
-    add-point-in-2
-    point-in-requires-2
-    off-grid-requires
-    differ-requires
-    returns
-    add-k
-    loop-less
-    loop-again
-    returns-2)
+some-point-fault-spec = tie.close (tie.spec Inv-loop μ-loop add-point-in sub-point-in point-in-requires loop-holds
+    add-point-in-2 point-in-requires-2 off-grid-requires differ-requires returns add-k loop-less loop-again returns-2)

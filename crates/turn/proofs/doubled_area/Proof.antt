@@ -95,26 +95,6 @@ returns-2 c =
     (ap (λ z. toZ w64 (l .sum) +ℤ z) (w .ensures .0) ∙ ends (l .inv) (c .before .loop-test .left), size-with (l .inv) (w .result) (w .ensures .1))
 
 pub doubled-area-spec : {M : Type 1} → statement M
-doubled-area-spec =
-    tie.close
-    (tie.spec
-    Inv-loop
-    μ-loop
-    returns
-    shared-slice-copy-out-t10
-    shared-slice-copy-out-t12
-    loop-holds
-    add-loop
-    mul-t13
-    shared-slice-copy-out-t17
-    add-t14
-    mul-t18
-    shared-slice-copy-out-t20
-    wedge-requires
-    add-sum
-    add-i
-    loop-less
-    loop-again
-    wedge-requires-2
-    add-result
-    returns-2)
+doubled-area-spec = tie.close (tie.spec Inv-loop μ-loop returns shared-slice-copy-out-t10 shared-slice-copy-out-t12
+    loop-holds add-loop mul-t13 shared-slice-copy-out-t17 add-t14 mul-t18 shared-slice-copy-out-t20 wedge-requires
+    add-sum add-i loop-less loop-again wedge-requires-2 add-result returns-2)

@@ -66,14 +66,5 @@ returns-4 : tie.Need-returns-4
 returns-4 c = sym (rw (c .if3 .left) at (by-dot (c .before)))
 
 pub half-of-spec : {M : Type 1} → statement M
-half-of-spec =
-    tie.close
-    (tie.spec
-    cross-product-requires
-    turns-requires
-    returns
-    turns-requires-2
-    returns-2
-    dot-product-requires
-    returns-3
-    returns-4)
+half-of-spec = tie.close (tie.spec cross-product-requires turns-requires returns turns-requires-2 returns-2
+    dot-product-requires returns-3 returns-4)

@@ -39,16 +39,5 @@ returns-2 : tie.Need-returns-2
 returns-2 c = rw (c .before .before .if1 .left, toZ-ofZ w32 _ (sfits-of (c .before .t17 .given)), toZ-ofZ w32 _ (sfits-of (c .t20 .given)))
 
 pub end-point-spec : {M : Type 1} → statement M
-end-point-spec =
-    tie.close
-    (tie.spec
-    mul-t9
-    shared-slice-copy-out-t11
-    mul-t12
-    shared-slice-copy-out-t14
-    mul-t15
-    shared-slice-copy-out-t17
-    mul-t18
-    shared-slice-copy-out-t20
-    returns
-    returns-2)
+end-point-spec = tie.close (tie.spec mul-t9 shared-slice-copy-out-t11 mul-t12 shared-slice-copy-out-t14 mul-t15
+    shared-slice-copy-out-t17 mul-t18 shared-slice-copy-out-t20 returns returns-2)

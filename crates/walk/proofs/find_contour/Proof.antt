@@ -140,22 +140,6 @@ returns-2 c =
     )
 
 pub find-contour-spec : {M : Type 1} → statement M
-find-contour-spec =
-    tie.close
-    (tie.spec
-    end-node-requires
-    end-node-requires-2
-    end-point-requires
-    slice-write-state
-    put-point-requires
-    last-link-requires
-    enum-told
-    enum-known-last
-    add-written
-    walk-on-requires
-    same-length
-    same-length-2
-    returns
-    same-length-3
-    same-length-4
-    returns-2)
+find-contour-spec = tie.close (tie.spec end-node-requires end-node-requires-2 end-point-requires slice-write-state
+    put-point-requires last-link-requires enum-told enum-known-last add-written walk-on-requires same-length
+    same-length-2 returns same-length-3 same-length-4 returns-2)

@@ -37,12 +37,4 @@ returns-2 : tie.Need-returns-2
 returns-2 c = c .next-link .ensures
 
 pub last-link-spec : {M : Type 1} → statement M
-last-link-spec =
-    tie.close
-    (tie.spec
-    on-bridge-requires
-    enum-known-next
-    enum-told
-    next-link-requires
-    returns
-    returns-2)
+last-link-spec = tie.close (tie.spec on-bridge-requires enum-known-next enum-told next-link-requires returns returns-2)

@@ -36,12 +36,4 @@ returns-2 : tie.Need-returns-2
 returns-2 c = c .next-link .ensures
 
 pub next-from-spec : {M : Type 1} → statement M
-next-from-spec =
-    tie.close
-    (tie.spec
-    on-bridge-requires
-    enum-known-next
-    enum-told
-    next-link-requires
-    returns
-    returns-2)
+next-from-spec = tie.close (tie.spec on-bridge-requires enum-known-next enum-told next-link-requires returns returns-2)

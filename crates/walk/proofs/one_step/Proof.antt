@@ -109,20 +109,6 @@ returns-2 c =
     )
 
 pub one-step-spec : {M : Type 1} → statement M
-one-step-spec =
-    tie.close
-    (tie.spec
-    next-from-requires
-    enum-told
-    enum-known-k
-    node-at-requires
-    end-point-requires
-    other-node-requires
-    slice-write-state
-    put-point-requires
-    add-t24
-    same-length
-    returns
-    same-length-2
-    same-length-3
+one-step-spec = tie.close (tie.spec next-from-requires enum-told enum-known-k node-at-requires end-point-requires
+    other-node-requires slice-write-state put-point-requires add-t24 same-length returns same-length-2 same-length-3
     returns-2)

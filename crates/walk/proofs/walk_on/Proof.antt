@@ -124,23 +124,6 @@ returns-3 c =
     )
 
 pub walk-on-spec : {M : Type 1} → statement M
-walk-on-spec =
-    tie.close
-    (tie.spec
-    Inv-loop
-    μ-loop
-    loop-holds
-    one-step-requires
-    enum-told
-    same-length
-    same-length-2
-    returns
-    enum-known-v
-    loop-less
-    loop-again
-    same-length-3
-    same-length-4
-    returns-2
-    same-length-5
-    same-length-6
+walk-on-spec = tie.close (tie.spec Inv-loop μ-loop loop-holds one-step-requires enum-told same-length same-length-2
+    returns enum-known-v loop-less loop-again same-length-3 same-length-4 returns-2 same-length-5 same-length-6
     returns-3)
