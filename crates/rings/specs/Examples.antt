@@ -1,20 +1,27 @@
 -- Worked examples: a `Cross` of four links, and one of six of which
 -- one is skipped, one runs straight up and one straight down.
 use Prim.Native.Nat.{ℕ}
+use native.Mathlib.Omega.{arith}
 use mathlib.Core.Path.{_≡_, refl}
-use mathlib.Core.Bool.{true, false}
+use mathlib.Core.Bool.{Bool, true, false}
 use mathlib.Core.List.{List, [], _∷_}
 use lib.IntN.{ℤ, pos, negℤ}
+use lib.ListN.{getD}
 use Rattle.laws.specs.Lowest.{lowest}
 use Rattle.laws.specs.Count.{count}
 use Rattle.turn.specs.declared.Checked.the-variants.{Fine}
 use Rattle.graph.specs.Graph.{Lent, lent, Graph, graphOf}
 use Rattle.graph.specs.Checks.{room, nodesChecked, eachChecked, linksChecked, checked}
+use Rattle.graph.specs.Fine.{fine}
 use Rattle.next.specs.declared.Next.the-variants.{Link, Nothing}
-use Rattle.next.specs.Next.{nextLink, firstLink}
+use Rattle.next.specs.Next.{isUnvisited, nextLink, firstLink}
+use Rattle.next.specs.Choice.{Mem}
 use Rattle.rings.specs.Ends.{endOf}
 use Rattle.rings.specs.Rotation.{onward, backward, roundFrom, firstUnvisited, lastUnvisited}
-use Rattle.rings.specs.RingTest.{isRing}
+use Rattle.rings.specs.RingOrder.{Spread, spread-fine}
+use Rattle.rings.specs.NextByRing.{marked-entry, next-by-ring}
+use Rattle.rings.specs.Linked.{Linked}
+use Rattle.rings.specs.RingTest.{isRing, ring-test}
 
 abbrev p : ℕ → ℤ
 p = pos
@@ -74,6 +81,24 @@ bow-by-ring : (firstUnvisited (0 ∷ 3 ∷ 0 ∷ 0 ∷ 3 ∷ 0 ∷ []) (roundFro
     × (firstUnvisited (0 ∷ 3 ∷ 3 ∷ 0 ∷ 3 ∷ 0 ∷ []) (roundFrom false 4 bowRing) ≡ Link 3)
     × (firstUnvisited (0 ∷ 3 ∷ 3 ∷ 3 ∷ 3 ∷ 0 ∷ []) (roundFrom true 4 bowRing) ≡ Nothing)
 bow-by-ring = (refl, refl, refl)
+
+-- as the law has it, for every state that is reached from the entry states
+bow-spread : Spread bowGraph unvisited6 2
+bow-spread =
+    let h = fine bow bowTops unvisited6 (room 12 2 2 2) bow-fine in
+    spread-fine (h .links) (h .lists) (h .band) 2
+
+bow-law : (st : List ℕ) → ((k : ℕ) → isUnvisited st k ≡ true → isUnvisited unvisited6 k ≡ true)
+    → (e : ℕ) → Mem e bowRing → isUnvisited st e ≡ false
+    → (sense : Bool) → nextLink bowGraph sense st 2 e ≡ firstUnvisited st (roundFrom sense e bowRing)
+bow-law st reached =
+    next-by-ring bow-spread (ring-test bowGraph unvisited6 2 bowRing bow-ring) (λ e. omega arith) st
+    (marked-entry bowGraph unvisited6 2 st reached)
+
+-- the ends 5, 3, 6, 8 of links 2, 1, 3, 4, each at what leads from it and back
+bow-linked : Linked bowGraph 2 bowRing
+    (λ h. getD (0 ∷ 0 ∷ 0 ∷ 6 ∷ 0 ∷ 3 ∷ 8 ∷ 0 ∷ 5 ∷ []) h 0) (λ h. getD (0 ∷ 0 ∷ 0 ∷ 5 ∷ 0 ∷ 8 ∷ 3 ∷ 0 ∷ 6 ∷ []) h 0)
+bow-linked = record { next = (refl, (refl, (refl, refl))); back = (refl, (refl, (refl, refl))) }
 
 -- the scan stands at link 3, the lowest unvisited one
 bow-first : (firstLink bowGraph (3 ∷ 3 ∷ 3 ∷ 0 ∷ 0 ∷ 0 ∷ []) 3 ≡ Link 4) × (lastUnvisited (3 ∷ 3 ∷ 3 ∷ 0 ∷ 0 ∷ 0 ∷ [])
