@@ -77,8 +77,8 @@ module _ (g : Graph) (v home : ℕ) (step : ℕ → ℕ) where
         by : (rest : List ℕ) → Follows at rest → firstUnvisited st rest ≡ answer → step at ≡ nextEnd g v home answer
         by [] f i = absurd (d f)
         by (x ∷ rest) f i =
-            let o : isUnvisited st x ≡ true = subst (λ y. isUnvisited st y ≡ true) (ap linkOf (f .0) ∙ end-link g v x)
-            t in
+            let x-is : linkOf (step at) ≡ x = ap linkOf (f .0) ∙ end-link g v x in
+            let o : isUnvisited st x ≡ true = subst (λ y. isUnvisited st y ≡ true) x-is t in
             f .0 ∙ ap (nextEnd g v home) (sym (first-found st x rest o) ∙ i)
 
     -- to a visited one: the loop goes on from there
@@ -90,8 +90,8 @@ module _ (g : Graph) (v home : ℕ) (step : ℕ → ℕ) where
             → firstUnvisited st rest ≡ answer → Left n st answer (step at)
         by [] f o b s i = absurd (d f)
         by (x ∷ rest) f o b s i =
-            let u : isUnvisited st x ≡ false = subst (λ y. isUnvisited st y ≡ false)
-            (ap linkOf (f .0) ∙ end-link g v x) t in
+            let x-is : linkOf (step at) ≡ x = ap linkOf (f .0) ∙ end-link g v x in
+            let u : isUnvisited st x ≡ false = subst (λ y. isUnvisited st y ≡ false) x-is t in
             record {
               here = step-below k;
               at-home = k .at-home;
