@@ -69,44 +69,7 @@ module _ (g : Graph) (v : ℕ) (step : ℕ → ℕ) (wraps : ℕ → Bool) where
     pub short : length rest ≤ n
     pub is : Link (lastOr st s rest) ≡ answer
 
-  module _ {n : ℕ} {st : List ℕ} {answer : Next} {at s : ℕ} where
-    -- at the ring's end
-    pub at-top : Above n st answer at s → wraps at ≡ true → Link s ≡ answer
-    at-top k w = by (k .rest) (k .climbs) (k .is)
-      where
-        by : (rest : List ℕ) → Climbs at rest → Link (lastOr st s rest) ≡ answer → Link s ≡ answer
-        by [] c i = i
-        by (x ∷ rest) c i = absurd (true≢false w (c .0))
-
-    -- the step leads to an end of the n links
-    pub climb-below : Above n st answer at s → wraps at ≡ false → step at < 2 * n
-    climb-below k w = by (k .rest) (k .climbs) (k .below)
-      where
-        by : (rest : List ℕ) → Climbs at rest → ((x : ℕ) → Mem x rest → x < n) → step at < 2 * n
-        by [] c b = absurd (true≢false c w)
-        by (x ∷ rest) c b = subst (λ h. h < 2 * n) (sym (c .1)) (end-below g v x n (b x (List·Memᴰ·head refl)))
-
-    -- past a link: an unvisited one is kept
-    pub climbed : Above n st answer at s → wraps at ≡ false
-        → Above n st answer (step at) (pick (isUnvisited st (linkOf (step at))) (linkOf (step at)) s)
-    climbed k w = by (k .rest) (k .climbs) (k .below) (k .short) (k .is)
-      where
-        by : (rest : List ℕ) → Climbs at rest → ((x : ℕ) → Mem x rest → x < n) → length rest ≤ n
-            → Link (lastOr st s rest) ≡ answer
-            → Above n st answer (step at) (pick (isUnvisited st (linkOf (step at))) (linkOf (step at)) s)
-        by [] c b z i = absurd (true≢false c w)
-        by (x ∷ rest) c b z i = record {
-          here = climb-below k w;
-          rest = rest;
-          climbs = subst (λ h. Climbs h rest) (sym (c .1)) (c .2);
-          below = λ y m. b y (List·Memᴰ·tail m);
-          short = omega arith;
-          is =
-              ap (λ (y : ℕ). Link (lastOr st (pick (isUnvisited st y) y s) rest)) (ap linkOf (c .1) ∙ end-link g v x)
-              ∙ i;
-        }
-
-  -- ---- the measure
+  -- ---- the measure is the length of what is left
   to-top : (n at : ℕ) (rest : List ℕ) → Climbs at rest → length rest ≤ n → toTop step wraps n at ≡ length rest
   to-top zero at [] c z = refl
   to-top zero at (x ∷ rest) c z = absurd (not-suc-le-zero z)
@@ -115,16 +78,61 @@ module _ (g : Graph) (v : ℕ) (step : ℕ → ℕ) (wraps : ℕ → Bool) where
       pick-false 0 (suc (toTop step wraps n (step at))) (c .0) ∙ ap (λ (h : ℕ). suc (toTop step wraps n h)) (c .1)
       ∙ ap suc (to-top n (endOf g v x) rest (c .2) (le-of-suc-le-suc z))
 
-  pub higher : {n : ℕ} {st : List ℕ} {answer : Next} {at s : ℕ} → Above n st answer at s → wraps at ≡ false
-      → toTop step wraps n (step at) < toTop step wraps n at
-  higher {n} {at = at} k w = by (k .rest) (k .climbs) (k .short)
+  -- ---- at the ring's end
+  pub at-top : {n : ℕ} {st : List ℕ} {answer : Next} {at s : ℕ} → Above n st answer at s → wraps at ≡ true
+      → Link s ≡ answer
+  at-top {st = st} {answer} {at} {s} k w = by (k .rest) (k .climbs) (k .is)
     where
-      by : (rest : List ℕ) → Climbs at rest → length rest ≤ n → toTop step wraps n (step at) < toTop step wraps n at
-      by [] c z = absurd (true≢false c w)
-      by (x ∷ rest) c z =
-          let a = to-top n at (x ∷ rest) c z in
-          let b = to-top n (step at) rest (subst (λ h. Climbs h rest) (sym (c .1)) (c .2)) (omega arith) in
-          omega arith
+      by : (rest : List ℕ) → Climbs at rest → Link (lastOr st s rest) ≡ answer → Link s ≡ answer
+      by [] c i = i
+      by (x ∷ rest) c i = absurd (true≢false w (c .0))
+
+  -- ---- before it, a step, to end `to`
+  module _ {n : ℕ} {st : List ℕ} {answer : Next} {at s to : ℕ} (k : Above n st answer at s) (w : wraps at ≡ false)
+      (e : to ≡ step at) where
+    -- it is an end of the n links
+    pub climb-below : to < 2 * n
+    climb-below = by (k .rest) (k .climbs) (k .below)
+      where
+        by : (rest : List ℕ) → Climbs at rest → ((x : ℕ) → Mem x rest → x < n) → to < 2 * n
+        by [] c b = absurd (true≢false c w)
+        by (x ∷ rest) c b = subst (λ h. h < 2 * n) (sym (e ∙ c .1)) (end-below g v x n (b x (List·Memᴰ·head refl)))
+
+    -- its link, if it is unvisited, is the last met
+    pub climbed : Above n st answer to (pick (isUnvisited st (linkOf to)) (linkOf to) s)
+    climbed = by (k .rest) (k .climbs) (k .below) (k .short) (k .is)
+      where
+        by : (rest : List ℕ) → Climbs at rest → ((x : ℕ) → Mem x rest → x < n) → length rest ≤ n
+            → Link (lastOr st s rest) ≡ answer
+            → Above n st answer to (pick (isUnvisited st (linkOf to)) (linkOf to) s)
+        by [] c b z i = absurd (true≢false c w)
+        by (x ∷ rest) c b z i =
+            let l : linkOf to ≡ x = ap linkOf (e ∙ c .1) ∙ end-link g v x in
+            record {
+              here = climb-below;
+              rest = rest;
+              climbs = subst (λ h. Climbs h rest) (sym (e ∙ c .1)) (c .2);
+              below = λ y m. b y (List·Memᴰ·tail m);
+              short = omega arith;
+              is = ap (λ (y : ℕ). Link (lastOr st (pick (isUnvisited st y) y s) rest)) l ∙ i;
+            }
+
+    -- as the code has it: an unvisited one is taken, a visited one leaves s
+    pub climbed-unvisited : isUnvisited st (linkOf to) ≡ true → Above n st answer to (linkOf to)
+    climbed-unvisited o = subst (Above n st answer to) (pick-true (linkOf to) s o) climbed
+
+    pub climbed-visited : isUnvisited st (linkOf to) ≡ false → Above n st answer to s
+    climbed-visited o = subst (Above n st answer to) (pick-false (linkOf to) s o) climbed
+
+    pub higher : toTop step wraps n to < toTop step wraps n at
+    higher = by (k .rest) (k .climbs) (k .short)
+      where
+        by : (rest : List ℕ) → Climbs at rest → length rest ≤ n → toTop step wraps n to < toTop step wraps n at
+        by [] c z = absurd (true≢false c w)
+        by (x ∷ rest) c z =
+            let a = to-top n at (x ∷ rest) c z in
+            let b = to-top n to rest (subst (λ h. Climbs h rest) (sym (e ∙ c .1)) (c .2)) (omega arith) in
+            omega arith
 
   -- ---- the start: at the end of a link k of the ring
   climbs-from : (h p : ℕ) (t : List ℕ) → Along (Leads g v step) h p t → LastAlone (λ x. wraps (endOf g v x)) p t

@@ -102,6 +102,10 @@ module _ (g : Graph) (v k : ℕ) where
   pub end-link : linkOf (endOf g v k) ≡ k
   end-link = pick-ind (startsAt g v k) (aEnd k) (bEnd k) (λ h. linkOf h ≡ k) (λ _. a-link k) (λ _. b-link k)
 
+  -- so an end at node v is told by its link
+  pub end-again : endOf g v (linkOf (endOf g v k)) ≡ endOf g v k
+  end-again = ap (endOf g v) end-link
+
   pub end-sort : isA (endOf g v k) ≡ startsAt g v k
   end-sort =
       pick-ind (startsAt g v k) (aEnd k) (bEnd k) (λ h. isA h ≡ startsAt g v k) (λ e. a-is-a k ∙ sym e)
@@ -121,12 +125,15 @@ module _ (g : Graph) (v k : ℕ) where
       by true = ap (nodeOfEnd g) (far-a k) ∙ b-node g k
       by false = ap (nodeOfEnd g) (far-b k) ∙ a-node g k
 
--- two links have two ends at a node, each below 2 n where the links are below n
+-- two links have two ends at a node; the ends of n links are the numbers below 2 n
 pub end-once : (g : Graph) (v j k : ℕ) → endOf g v j ≡ endOf g v k → j ≡ k
 end-once g v j k q = sym (end-link g v j) ∙ ap linkOf q ∙ end-link g v k
 
 pub end-below : (g : Graph) (v k n : ℕ) → k < n → endOf g v k < 2 * n
 end-below g v k n l = pick-ind (startsAt g v k) (aEnd k) (bEnd k) (λ h. h < 2 * n) (λ _. omega arith) (λ _. omega arith)
+
+pub link-below : (h n : ℕ) → h < 2 * n → linkOf h < n
+link-below h n l = omega arith
 
 -- the end of an entry of node v is there
 pub entry-end : {g : Graph} {m : ℕ} → FineLists g m → (v k : ℕ) → Mem k (g .entries v) → nodeOfEnd g (endOf g v k) ≡ v

@@ -51,58 +51,6 @@ module _ (g : Graph) (v home : ℕ) (step : ℕ → ℕ) where
     pub short : length rest ≤ n
     pub is : firstUnvisited st rest ≡ answer
 
-  module _ {n : ℕ} {st : List ℕ} {answer : Next} {at : ℕ} where
-    -- the step leads to an end of the n links
-    pub step-below : Left n st answer at → step at < 2 * n
-    step-below k = by (k .rest) (k .follows) (k .below)
-      where
-        by : (rest : List ℕ) → Follows at rest → ((x : ℕ) → Mem x rest → x < n) → step at < 2 * n
-        by [] f b = subst (λ h. h < 2 * n) (sym f) (k .at-home)
-        by (x ∷ rest) f b = subst (λ h. h < 2 * n) (sym (f .0)) (end-below g v x n (b x (List·Memᴰ·head refl)))
-
-    -- it leads home: there is none
-    pub came-back : Left n st answer at → step at ≡ home → home ≡ nextEnd g v home answer
-    came-back k q = by (k .rest) (k .follows) (k .others) (k .is)
-      where
-        by : (rest : List ℕ) → Follows at rest → Others g v home rest → firstUnvisited st rest ≡ answer
-            → home ≡ nextEnd g v home answer
-        by [] f o i = ap (nextEnd g v home) i
-        by (x ∷ rest) f o i = absurd (o x (List·Memᴰ·head refl) (sym (f .0) ∙ q))
-
-    -- to an unvisited link: it is the answer
-    pub found : Left n st answer at → (step at ≡ home → ⊥) → isUnvisited st (linkOf (step at)) ≡ true
-        → step at ≡ nextEnd g v home answer
-    found k d t = by (k .rest) (k .follows) (k .is)
-      where
-        by : (rest : List ℕ) → Follows at rest → firstUnvisited st rest ≡ answer → step at ≡ nextEnd g v home answer
-        by [] f i = absurd (d f)
-        by (x ∷ rest) f i =
-            let o : isUnvisited st x ≡ true = subst (λ y. isUnvisited st y ≡ true) (ap linkOf (f .0) ∙ end-link g v x)
-            t in
-            f .0 ∙ ap (nextEnd g v home) (sym (first-found st x rest o) ∙ i)
-
-    -- to a visited one: the loop goes on from there
-    pub passed : Left n st answer at → (step at ≡ home → ⊥) → isUnvisited st (linkOf (step at)) ≡ false
-        → Left n st answer (step at)
-    passed k d t = by (k .rest) (k .follows) (k .others) (k .below) (k .short) (k .is)
-      where
-        by : (rest : List ℕ) → Follows at rest → Others g v home rest → ((x : ℕ) → Mem x rest → x < n) → length rest ≤ n
-            → firstUnvisited st rest ≡ answer → Left n st answer (step at)
-        by [] f o b s i = absurd (d f)
-        by (x ∷ rest) f o b s i =
-            let u : isUnvisited st x ≡ false = subst (λ y. isUnvisited st y ≡ false)
-            (ap linkOf (f .0) ∙ end-link g v x) t in
-            record {
-              here = step-below k;
-              at-home = k .at-home;
-              rest = rest;
-              follows = subst (λ h. Follows h rest) (sym (f .0)) (f .1);
-              others = λ y m. o y (List·Memᴰ·tail m);
-              below = λ y m. b y (List·Memᴰ·tail m);
-              short = omega arith;
-              is = sym (first-later st x rest u) ∙ i;
-            }
-
   -- ---- the measure is the length of what is left
   to-go : (n at : ℕ) (rest : List ℕ) → Follows at rest → Others g v home rest → length rest ≤ n
       → toGo step home n at ≡ length rest
@@ -115,18 +63,71 @@ module _ (g : Graph) (v home : ℕ) (step : ℕ → ℕ) where
       ∙ ap (λ (h : ℕ). suc (toGo step home n h)) (f .0)
       ∙ ap suc (to-go n (endOf g v x) rest (f .1) (λ y m. o y (List·Memᴰ·tail m)) (le-of-suc-le-suc s))
 
-  pub nearer : {n : ℕ} {st : List ℕ} {answer : Next} {at : ℕ} → Left n st answer at → (step at ≡ home → ⊥)
-      → toGo step home n (step at) < toGo step home n at
-  nearer {n} {at = at} k d = by (k .rest) (k .follows) (k .others) (k .short)
-    where
-      by : (rest : List ℕ) → Follows at rest → Others g v home rest → length rest ≤ n
-          → toGo step home n (step at) < toGo step home n at
-      by [] f o s = absurd (d f)
-      by (x ∷ rest) f o s =
-          let a = to-go n at (x ∷ rest) f o s in
-          let b = to-go n (step at) rest (subst (λ h. Follows h rest) (sym (f .0)) (f .1))
-          (λ y m. o y (List·Memᴰ·tail m)) (omega arith) in
-          omega arith
+  -- ---- a step, to end `to`
+  module _ {n : ℕ} {st : List ℕ} {answer : Next} {at to : ℕ} (k : Left n st answer at) (e : to ≡ step at) where
+    -- it is an end of the n links
+    pub step-below : to < 2 * n
+    step-below = by (k .rest) (k .follows) (k .below)
+      where
+        by : (rest : List ℕ) → Follows at rest → ((x : ℕ) → Mem x rest → x < n) → to < 2 * n
+        by [] f b = subst (λ h. h < 2 * n) (sym (e ∙ f)) (k .at-home)
+        by (x ∷ rest) f b = subst (λ h. h < 2 * n) (sym (e ∙ f .0)) (end-below g v x n (b x (List·Memᴰ·head refl)))
+
+    -- home: there is none
+    pub came-back : to ≡ home → home ≡ nextEnd g v home answer
+    came-back q = by (k .rest) (k .follows) (k .others) (k .is)
+      where
+        by : (rest : List ℕ) → Follows at rest → Others g v home rest → firstUnvisited st rest ≡ answer
+            → home ≡ nextEnd g v home answer
+        by [] f o i = ap (nextEnd g v home) i
+        by (x ∷ rest) f o i = absurd (o x (List·Memᴰ·head refl) (sym (e ∙ f .0) ∙ q))
+
+    -- not home: it is the end of the first of the rest
+    module _ (d : to ≡ home → ⊥) where
+      the-link : {x : ℕ} → step at ≡ endOf g v x → linkOf to ≡ x
+      the-link {x} f = ap linkOf (e ∙ f) ∙ end-link g v x
+
+      -- of an unvisited link: that is the answer
+      pub found : isUnvisited st (linkOf to) ≡ true → to ≡ nextEnd g v home answer
+      found t = by (k .rest) (k .follows) (k .is)
+        where
+          by : (rest : List ℕ) → Follows at rest → firstUnvisited st rest ≡ answer → to ≡ nextEnd g v home answer
+          by [] f i = absurd (d (e ∙ f))
+          by (x ∷ rest) f i =
+              let o : isUnvisited st x ≡ true = subst (λ y. isUnvisited st y ≡ true) (the-link (f .0)) t in
+              e ∙ f .0 ∙ ap (nextEnd g v home) (sym (first-found st x rest o) ∙ i)
+
+      -- of a visited one: the loop goes on from there, with less to go
+      pub passed : isUnvisited st (linkOf to) ≡ false → Left n st answer to
+      passed t = by (k .rest) (k .follows) (k .others) (k .below) (k .short) (k .is)
+        where
+          by : (rest : List ℕ) → Follows at rest → Others g v home rest → ((x : ℕ) → Mem x rest → x < n)
+              → length rest ≤ n → firstUnvisited st rest ≡ answer → Left n st answer to
+          by [] f o b s i = absurd (d (e ∙ f))
+          by (x ∷ rest) f o b s i =
+              let u : isUnvisited st x ≡ false = subst (λ y. isUnvisited st y ≡ false) (the-link (f .0)) t in
+              record {
+                here = step-below;
+                at-home = k .at-home;
+                rest = rest;
+                follows = subst (λ h. Follows h rest) (sym (e ∙ f .0)) (f .1);
+                others = λ y m. o y (List·Memᴰ·tail m);
+                below = λ y m. b y (List·Memᴰ·tail m);
+                short = omega arith;
+                is = sym (first-later st x rest u) ∙ i;
+              }
+
+      pub nearer : toGo step home n to < toGo step home n at
+      nearer = by (k .rest) (k .follows) (k .others) (k .short)
+        where
+          by : (rest : List ℕ) → Follows at rest → Others g v home rest → length rest ≤ n
+              → toGo step home n to < toGo step home n at
+          by [] f o s = absurd (d (e ∙ f))
+          by (x ∷ rest) f o s =
+              let a = to-go n at (x ∷ rest) f o s in
+              let b = to-go n to rest (subst (λ h. Follows h rest) (sym (e ∙ f .0)) (f .1))
+              (λ y m. o y (List·Memᴰ·tail m)) (omega arith) in
+              omega arith
 
   -- ---- the start: home is the end of a link e, and all of the round from e is left
   pub from-start : (e : ℕ) → endOf g v e ≡ home → {n : ℕ} {st rest : List ℕ} → Along (Leads g v step) e e rest

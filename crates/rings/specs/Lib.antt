@@ -18,6 +18,7 @@ pub mod FirstLoop
 pub mod Making
 pub mod Linking
 pub mod LinkOne
+pub mod LastEnd
 -- worked examples
 pub mod RingTest
 pub mod Examples

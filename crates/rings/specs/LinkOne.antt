@@ -57,14 +57,12 @@ module _ {g : Graph} {v q a : ℕ} {nxt prv nxt′ prv′ : ℕ → ℕ} where
     put-last m o k p = record {
       next = along-join (Leads g v nxt′) a a r m (q ∷ [])
           (along-kept (Leads g v nxt) (Leads g v nxt′) r a m
-          (λ x y i j e. p .next-kept x (early x i) (λ d. once-apart (a ∷ m) (r ∷ []) o x r i (List·Memᴰ·head refl) d)
-          ∙ e)
+          (λ x y i j e. p .next-kept x (early x i) (not-r x i) ∙ e)
           (along-part (Leads g v nxt) a a r m [] (k .next) .0))
           (p .next-r, p .next-q);
       back = along-join (λ x y. Leads g v prv′ y x) a a r m (q ∷ [])
           (along-kept (λ x y. Leads g v prv y x) (λ x y. Leads g v prv′ y x) r a m
-          (λ x y i j e. p .back-kept y (late y j) (λ d. once-apart (a ∷ []) (m ++ (r ∷ [])) o a y (List·Memᴰ·head refl)
-          (late′ y j) (sym d)) ∙ e)
+          (λ x y i j e. p .back-kept y (List·Memᴰ·tail (late y j)) (not-a y j) ∙ e)
           (along-part (λ x y. Leads g v prv y x) a a r m [] (k .back) .0))
           (p .back-q, p .back-a);
     }
@@ -72,13 +70,15 @@ module _ {g : Graph} {v q a : ℕ} {nxt prv nxt′ prv′ : ℕ → ℕ} where
         early : (x : ℕ) → Mem x (a ∷ m) → Mem x (a ∷ (m ++ (r ∷ [])))
         early x i = Memᴰ·append-left {s = a ∷ m} (r ∷ []) i
 
-        late′ : (y : ℕ) → Mem y (r ∷ m) → Mem y (m ++ (r ∷ []))
-        late′ y j =
-            ⊎-elim (λ e. Memᴰ·append-right m (List·Memᴰ·head e)) (λ i. Memᴰ·append-left (r ∷ []) i)
-            (List·Memᴰ·cases-cons j)
+        not-r : (x : ℕ) → Mem x (a ∷ m) → x ≡ r → ⊥
+        not-r x i d = once-apart (a ∷ m) (r ∷ []) o x r i (List·Memᴰ·head refl) d
 
-        late : (y : ℕ) → Mem y (r ∷ m) → Mem y (a ∷ (m ++ (r ∷ [])))
-        late y j = List·Memᴰ·tail (late′ y j)
+        late : (y : ℕ) → Mem y (r ∷ m) → Mem y (m ++ (r ∷ []))
+        late y j =
+            ⊎-elim (λ e. Memᴰ·append-right m (List·Memᴰ·head e)) (Memᴰ·append-left (r ∷ [])) (List·Memᴰ·cases-cons j)
+
+        not-a : (y : ℕ) → Mem y (r ∷ m) → y ≡ a → ⊥
+        not-a y j d = once-apart (a ∷ []) (m ++ (r ∷ [])) o a y (List·Memᴰ·head refl) (late y j) (sym d)
 
 -- ---- a linked ring may be read from another place
 pub linked-turned : {g : Graph} {v : ℕ} {nxt prv : ℕ → ℕ} (s t : List ℕ) → Linked g v (s ++ t) nxt prv

@@ -49,8 +49,7 @@ round-onward : (P : ℕ → ℕ → Type 0) (l : List ℕ) (e : ℕ) → Mem e l
 round-onward P l e m a = turned-round P (ahead e l) (e ∷ after e l) (subst (AllRound P) (split e l m) a)
 
 -- ---- the linked ring
--- `nxt` and `prv` lead from an end to an end: the code's lists, read at an end, whatever stands in them beside.
--- At node v e's end leads to f's
+-- at node v e's end leads to f's (`to` is what a list of the code holds at each end, without any mark that it bears)
 abbrev pub Leads : Graph → ℕ → (ℕ → ℕ) → ℕ → ℕ → Type 0
 Leads g v to e f = to (endOf g v e) ≡ endOf g v f
 

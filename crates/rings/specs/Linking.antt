@@ -4,12 +4,12 @@ use native.Mathlib.Numerals.{add-one}
 use native.Mathlib.Omega.{arith}
 use mathlib.Core.Path.{_≡_, refl, sym, ap, _∙_, subst}
 use mathlib.Core.Logic.{_⊎_, ⊎-elim}
-use mathlib.Core.List.{List, [], _∷_, List·Memᴰ·head, List·Memᴰ·tail, List·Memᴰ·cases-cons}
+use mathlib.Core.List.{List, [], _∷_, _++_, List·Memᴰ·head, List·Memᴰ·tail, List·Memᴰ·cases-cons}
 use lib.ListN.{length, getD}
 use Rattle.graph.specs.Graph.{Graph}
 use Rattle.next.specs.Choice.{Mem}
 use Rattle.rings.specs.Ends.{endOf, nodeOfEnd, end-node}
-use Rattle.rings.specs.Linked.{Along, AllRound, Leads, Linked}
+use Rattle.rings.specs.Linked.{Along, AllRound, along-part, Leads, Linked, Ringed}
 
 -- ---- from a list: each is followed by the next, and the last by the first
 along-places : (P : ℕ → ℕ → Type 0) (h p : ℕ) (l : List ℕ)
@@ -57,3 +57,20 @@ linked-kept {g} {v} {l} {nxt} {prv} {nxt′} {prv′} k f h = record {
 pub ends-apart : (g : Graph) (v w j k : ℕ) → (g .aNode j ≡ v) ⊎ (g .bNode j ≡ v) → (g .aNode k ≡ w) ⊎ (g .bNode k ≡ w)
     → endOf g v j ≡ endOf g w k → v ≡ w
 ends-apart g v w j k p q e = sym (end-node g v j p) ∙ ap (nodeOfEnd g) e ∙ end-node g w k q
+
+pub ringed-kept : {g : Graph} {state : List ℕ} {v : ℕ} {nxt prv nxt′ prv′ : ℕ → ℕ} → Ringed g state v nxt prv
+    → ((k : ℕ) → Mem k (g .entries v) → nxt′ (endOf g v k) ≡ nxt (endOf g v k))
+    → ((k : ℕ) → Mem k (g .entries v) → prv′ (endOf g v k) ≡ prv (endOf g v k)) → Ringed g state v nxt′ prv′
+ringed-kept r f h = record {
+  links = r .links;
+  ring = r .ring;
+  linked = linked-kept (r .linked) (λ k m. f k (r .ring .only k m .listed)) (λ k m. h k (r .ring .only k m .listed));
+}
+
+-- ---- what is read off the links: of two neighbours, and of the last and the first
+pub round-between : (P : ℕ → ℕ → Type 0) (s : List ℕ) (x y : ℕ) (t : List ℕ) → AllRound P (s ++ (x ∷ (y ∷ t))) → P x y
+round-between P [] x y t a = a .0
+round-between P (z ∷ s) x y t a = along-part P z z x s (y ∷ t) a .1 .0
+
+pub round-last : (P : ℕ → ℕ → Type 0) (a : ℕ) (m : List ℕ) (r : ℕ) → AllRound P (a ∷ (m ++ (r ∷ []))) → P r a
+round-last P a m r k = along-part P a a r m [] k .1

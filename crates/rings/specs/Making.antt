@@ -89,8 +89,7 @@ pub none-taken : (g : Graph) (state : List ℕ) (v : ℕ) → RingOf g state v [
 none-taken g state v = record {
   sorted = tt;
   only = λ k m. absurd (List·Memᴰ·not-nil m);
-  every = λ k m. absurd
-      (List·Memᴰ·not-nil m);
+  every = λ k m. absurd (List·Memᴰ·not-nil m);
 }
 
 -- all entries are taken
@@ -121,12 +120,7 @@ module _ {g : Graph} {state : List ℕ} {v : ℕ} {taken : List ℕ} (q : ℕ) w
   take-between s t r u hs ht = record {
     sorted = sorted-insert (InOrder g v) s t q (r .sorted) hs ht;
     only = λ k m. ⊎-elim (λ i. old k (Memᴰ·append-left t i))
-        (λ i. ⊎-elim (λ (p : k ≡ q). (
-          Memᴰ·append-right taken (List·Memᴰ·head p),
-          λ e. u
-              (subst (λ x. getD state x 0 ≡ 1) p e),
-        ))
-        (λ j. old k (Memᴰ·append-right s j)) (List·Memᴰ·cases-cons i))
+        (λ i. ⊎-elim (new k) (λ j. old k (Memᴰ·append-right s j)) (List·Memᴰ·cases-cons i))
         (List·Memᴰ·append-cases s m);
     every = λ k m d. ⊎-elim (λ i. more k (r .every k i d))
         (λ i. ⊎-elim (λ (p : k ≡ q). Memᴰ·append-right s (List·Memᴰ·head p)) (λ j. absurd (List·Memᴰ·not-nil j))
@@ -136,6 +130,9 @@ module _ {g : Graph} {state : List ℕ} {v : ℕ} {taken : List ℕ} (q : ℕ) w
     where
       old : (k : ℕ) → Mem k (s ++ t) → Mem k (taken ++ (q ∷ [])) × (getD state k 0 ≡ 1 → ⊥)
       old k m = let o = r .only k m in (Memᴰ·append-left (q ∷ []) (o .0), o .1)
+
+      new : (k : ℕ) → k ≡ q → Mem k (taken ++ (q ∷ [])) × (getD state k 0 ≡ 1 → ⊥)
+      new k p = (Memᴰ·append-right taken (List·Memᴰ·head p), λ e. u (subst (λ x. getD state x 0 ≡ 1) p e))
 
       more : (k : ℕ) → Mem k (s ++ t) → Mem k (s ++ (q ∷ t))
       more k m =

@@ -72,7 +72,7 @@ module _ (st : List ℕ) (lt : ℕ → ℕ → Bool) (irr : (x : ℕ) → Is (lt
       at false n ih = ih (rest n) ∙ sym (first-later st x l n)
 
 -- ---- the law
--- what is unvisited at node v was not skipped at entry: only unskipped links are ever marked
+-- what is unvisited at node v was not skipped at entry: a skipped link stays skipped
 abbrev pub Marked : Graph → List ℕ → ℕ → List ℕ → Type 0
 Marked g state v st = (k : ℕ) → Mem k (g .entries v) → isUnvisited st k ≡ true → getD state k 0 ≡ 1 → ⊥
 

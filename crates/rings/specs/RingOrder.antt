@@ -63,7 +63,8 @@ agree ax ay bx by s =
 by-signs : (ax ay bx by s : Sgn) → Is (not (eqS ax zer && eqS ay zer)) → Is (not (eqS bx zer && eqS by zer))
     → Is (plusOk (ax ⊗ by) (flip (ay ⊗ bx)) s)
     → inTurn (right ax ay) (right bx by) (eqS s pls) ≡ sooner (halfTurn ax ay) (halfTurn bx by) (flip s)
-by-signs ax ay bx by s p q r = ⇔-eq (mp (mp (mp (all6 (λ ax ay bx by s _. agree ax ay bx by s) tt ax ay bx by s zer) p) q) r)
+by-signs ax ay bx by s p q r =
+    ⇔-eq (mp (mp (mp (all6 (λ ax ay bx by s _. agree ax ay bx by s) tt ax ay bx by s zer) p) q) r)
 
 from-up : (e f : Vector) → Is (nonzero e) → Is (nonzero f)
     → inTurn (rightward e) (rightward f) (ltZ (pos 0) (cross e f)) ≡ metBefore false up e f

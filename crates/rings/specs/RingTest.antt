@@ -5,12 +5,13 @@ use mathlib.Core.Logic.{⊎-elim}
 use mathlib.Core.Bool.{Bool, true, false, not, _&&_, _||_}
 use mathlib.Core.List.{List, [], _∷_, List·Memᴰ·head, List·Memᴰ·tail, List·Memᴰ·cases-cons, List·Memᴰ·not-nil}
 use lib.Dec.{eqb}
+use lib.ListN.{getD}
 use borrow.Author.Tests.{eqb-true, eq-eqb}
 use Rattle.laws.specs.Test.{true≢false, not-is, and-true, or-true}
 use Rattle.graph.specs.Graph.{Graph}
 use Rattle.graph.specs.Checks.{skipped}
 use Rattle.next.specs.Choice.{Mem}
-use Rattle.rings.specs.RingOrder.{ringBefore}
+use Rattle.rings.specs.RingOrder.{ringBefore, Spoke}
 use Rattle.rings.specs.Sorted.{Sorted}
 use Rattle.rings.specs.Rings.{Ring}
 
@@ -27,11 +28,16 @@ abbrev pub isSorted : (ℕ → ℕ → Bool) → List ℕ → Bool
 isSorted lt [] = true
 isSorted lt (x ∷ l) = each (lt x) l && isSorted lt l
 
+-- k is an unskipped entry of node v; it is skipped or in the list
+abbrev isSpoke : Graph → List ℕ → ℕ → ℕ → Bool
+isSpoke g state v k = among k (g .entries v) && not (skipped state k)
+
+abbrev isTaken : List ℕ → List ℕ → ℕ → Bool
+isTaken state l k = skipped state k || among k l
+
 -- in ring order, unskipped entries alone, and all of them
 abbrev pub isRing : Graph → List ℕ → ℕ → List ℕ → Bool
-isRing g state v l =
-    isSorted (ringBefore g v) l && each (λ k. among k (g .entries v) && not (skipped state k)) l
-    && each (λ k. skipped state k || among k l) (g .entries v)
+isRing g state v l = isSorted (ringBefore g v) l && each (isSpoke g state v) l && each (isTaken state l) (g .entries v)
 
 -- ---- what the tests tell
 each-at : (test : ℕ → Bool) (l : List ℕ) → each test l ≡ true → (x : ℕ) → Mem x l → test x ≡ true
@@ -51,22 +57,22 @@ sorted-in lt [] e = tt
 sorted-in lt (x ∷ l) e =
     let p = and-true (each (lt x) l) (isSorted lt l) e in (each-at (lt x) l (p .0), sorted-in lt l (p .1))
 
+spoke-in : (g : Graph) (state : List ℕ) (v k : ℕ) → isSpoke g state v k ≡ true → Spoke g state v k
+spoke-in g state v k e =
+    let p = and-true (among k (g .entries v)) (not (skipped state k)) e in
+    record {
+      listed = among-in k (g .entries v) (p .0);
+      unskipped = λ s. true≢false (eq-eqb (getD state k 0) 1 s) (not-is (skipped state k) (p .1));
+    }
+
 pub ring-test : (g : Graph) (state : List ℕ) (v : ℕ) (l : List ℕ) → isRing g state v l ≡ true → Ring g state v l
 ring-test g state v l e =
-    let p = and-true (isSorted (ringBefore g v) l && each (λ k. among k (g .entries v) && not (skipped state k)) l)
-    (each (λ k. skipped state k || among k l) (g .entries v)) e in
-    let q = and-true (isSorted (ringBefore g v) l) (each (λ k. among k (g .entries v) && not (skipped state k)) l)
-    (p .0) in
+    let p = and-true (isSorted (ringBefore g v) l && each (isSpoke g state v) l)
+    (each (isTaken state l) (g .entries v)) e in
+    let q = and-true (isSorted (ringBefore g v) l) (each (isSpoke g state v) l) (p .0) in
     record {
       sorted = sorted-in (ringBefore g v) l (q .0);
-      only = λ k m. let t = and-true (among k (g .entries v)) (not (skipped state k))
-          (each-at (λ k. among k (g .entries v) && not (skipped state k)) l (q .1) k m) in
-          record {
-            listed = among-in k (g .entries v) (t .0);
-            unskipped = λ s. true≢false (eq-eqb _ _ s)
-                (not-is (skipped state k) (t .1));
-          };
-      every = λ k s. ⊎-elim (λ t. absurd (s .unskipped (eqb-true _ _ t))) (among-in k l)
-          (or-true (skipped state k) (among k l) (each-at (λ k. skipped state k || among k l) (g .entries v) (p .1) k
-          (s .listed)));
+      only = λ k m. spoke-in g state v k (each-at (isSpoke g state v) l (q .1) k m);
+      every = λ k s. ⊎-elim (λ t. absurd (s .unskipped (eqb-true (getD state k 0) 1 t))) (among-in k l)
+          (or-true (skipped state k) (among k l) (each-at (isTaken state l) (g .entries v) (p .1) k (s .listed)));
     }

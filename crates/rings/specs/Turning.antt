@@ -14,6 +14,7 @@ use Rattle.graph.specs.Checks.{awayFrom}
 use Rattle.next.specs.Next.{metFirst}
 use Rattle.rings.specs.RingOrder.{ringBefore, up, Forward, way-nonzero, to-turn, ring-transitive, ring-apart}
 
+-- ---- ways: in the order of turning from u; and from the next of three in turn
 module _ (w : Bool) (x y z : Vector) (hx : Is (nonzero x)) (hy : Is (nonzero y)) (hz : Is (nonzero z)) where
   in-turn : (u : Vector) → Is (nonzero u) → Is (metBefore w u x y) → Is (metBefore w u y z) → Is (metBefore w x y z)
   in-turn u hu p q =
