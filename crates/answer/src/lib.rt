@@ -11,7 +11,8 @@ ghost use Rattle.answer.specs.AnswerText.{answerText};
 // The starts of as many nodes as there may be, and the end of the last.
 const STARTS: usize = MAX_NODES + 1;
 
-// The answer to a file, from the start of `out`; it asks for room for the longest. The program's 4,096 visit states are all zero before reading.
+// The answer to a file, from the start of `out`; it asks for room for the longest.
+// The program's visit states, as many as there may be links, "are all zero before reading".
 pub fn answer(input: &[u8], out: &mut [u8]) -> usize
     requires { ⌜ answerBytes ≤ length (now out) ⌝ }
     ensures { λ r. ⌜ Wrote (now (out .entry)) (now (out .exit)) 0 r (answerText (now (input .entry))) ⌝ }

@@ -38,7 +38,8 @@ fn answer_contours(
     ensures { λ r. ⌜
         (let g : Lent = lent (now (ax .entry)) (now (ay .entry)) (now (bx .entry)) (now (by .entry))
         (now («a_id» .entry)) (now («b_id» .entry)) (now (start .entry)) (now (list .entry)) in
-        let b : Buffers = buffers (now (state .entry)) (now (points .entry)) (now (first .entry)) (now (len .entry)) (now (kind .entry)) in
+        let b : Buffers = buffers (now (state .entry)) (now (points .entry)) (now (first .entry))
+        (now (len .entry)) (now (kind .entry)) in
         Wrote (now (out .entry)) (now (out .exit)) 0 r (extractedText g (now (top .entry)) clockwise minimum b)) ⌝ }
 {
     let extraction = extract::extract(
@@ -82,7 +83,8 @@ pub fn answer_graph(
     ensures { λ r. ⌜
         (let g : Lent = lent (now (ax .entry)) (now (ay .entry)) (now (bx .entry)) (now (by .entry))
         (now («a_id» .entry)) (now («b_id» .entry)) (now (start .entry)) (now (list .entry)) in
-        Wrote (now (out .entry)) (now (out .exit)) 0 r (graphText g (now (top .entry)) clockwise minimum (now (state .entry)))) ⌝ }
+        Wrote (now (out .entry)) (now (out .exit)) 0 r
+        (graphText g (now (top .entry)) clockwise minimum (now (state .entry)))) ⌝ }
 {
     let mut points = [0i32; COORDINATES];
     let mut first = [0u32; MAX_CONTOURS];

@@ -1,4 +1,4 @@
-// What the program answers to what reading gave: its refusal, or the answer to the graph that it left in the lent lists.
+// What the program answers to what reading gave: its refusal, or the answer to the graph in the lent lists.
 use format::FileCounts;
 use format::FileRead;
 ghost use Prim.Native.Nat.{_≤_};
@@ -30,7 +30,8 @@ fn answer_fronts(
     requires { ⌜ answerBytes ≤ length (now out) ⌝ }
     ensures { λ r. ⌜
         (let b : FileLists = fileLists (now (ax .entry)) (now (ay .entry)) (now (bx .entry)) (now (by .entry))
-        (now («a_id» .entry)) (now («b_id» .entry)) (now (top .entry)) (now (state .entry)) (now (start .entry)) (now (list .entry)) in
+        (now («a_id» .entry)) (now («b_id» .entry)) (now (top .entry)) (now (state .entry))
+        (now (start .entry)) (now (list .entry)) in
         Wrote (now (out .entry)) (now (out .exit)) 0 r (frontText counts b)) ⌝ }
 {
     let n = counts.links;
@@ -75,7 +76,8 @@ pub fn answer_read(
     requires { ⌜ answerBytes ≤ length (now out) ⌝ }
     ensures { λ r. ⌜
         (let b : FileLists = fileLists (now (ax .entry)) (now (ay .entry)) (now (bx .entry)) (now (by .entry))
-        (now («a_id» .entry)) (now («b_id» .entry)) (now (top .entry)) (now (state .entry)) (now (start .entry)) (now (list .entry)) in
+        (now («a_id» .entry)) (now («b_id» .entry)) (now (top .entry)) (now (state .entry))
+        (now (start .entry)) (now (list .entry)) in
         Wrote (now (out .entry)) (now (out .exit)) 0 r (readText read b)) ⌝ }
 {
     match read {

@@ -23,7 +23,8 @@ fn answer_table(
     out: &mut [u8],
 ) -> usize
     requires { ⌜ answerBytes ≤ length (now out) ⌝ }
-    ensures { λ r. ⌜ (let t : Table = table (now (points .entry)) (now (first .entry)) (now (len .entry)) (now (kind .entry)) in
+    ensures { λ r. ⌜
+        (let t : Table = table (now (points .entry)) (now (first .entry)) (now (len .entry)) (now (kind .entry)) in
         Wrote (now (out .entry)) (now (out .exit)) 0 r (boundText t clockwise)) ⌝ }
 {
     let mut owner = [0u16; MAX_CONTOURS];
@@ -53,7 +54,8 @@ fn answer_kept(
 ) -> usize
     requires { ⌜ KeptFits counts (table (now points) (now first) (now len) (now kind)) ⌝ }
     requires { ⌜ answerBytes ≤ length (now out) ⌝ }
-    ensures { λ r. ⌜ (let t : Table = table (now (points .entry)) (now (first .entry)) (now (len .entry)) (now (kind .entry)) in
+    ensures { λ r. ⌜
+        (let t : Table = table (now (points .entry)) (now (first .entry)) (now (len .entry)) (now (kind .entry)) in
         Wrote (now (out .entry)) (now (out .exit)) 0 r (boundText (keptPart counts t) clockwise)) ⌝ }
 {
     let c = counts.contours;
@@ -80,7 +82,8 @@ pub fn answer_extraction(
 ) -> usize
     requires { ⌜ ExtractionFits extraction (table (now points) (now first) (now len) (now kind)) ⌝ }
     requires { ⌜ answerBytes ≤ length (now out) ⌝ }
-    ensures { λ r. ⌜ (let t : Table = table (now (points .entry)) (now (first .entry)) (now (len .entry)) (now (kind .entry)) in
+    ensures { λ r. ⌜
+        (let t : Table = table (now (points .entry)) (now (first .entry)) (now (len .entry)) (now (kind .entry)) in
         Wrote (now (out .entry)) (now (out .exit)) 0 r (extractionText clockwise extraction t)) ⌝ }
 {
     match extraction {

@@ -12,9 +12,7 @@ use Rattle.laws.specs.Test.{pick}
 use Rattle.format_numbers.specs.Bytes.{u16At, u32At}
 use Rattle.turn.specs.Limits.{maxLinks}
 use Rattle.format_records.specs.Limits.{maxEntries, fileBytes, maxRecords}
-use Rattle.format_records.specs.Records.{lengthAt, bodyAt, recordEnd, headNumber, bodyNumber, firstNumber, recordNumber, refusal, runTo, past, stepAt}
-use Rattle.format_records.specs.Records.{Ran, ran, fault, with, onStep, runFrom, runAt, looks, settingsRight, Form, form, refused, onRan, nodesAfter}
-use Rattle.format_records.specs.Records.{formOf}
+use Rattle.format_records.specs.Records.{lengthAt, bodyAt, recordEnd, headNumber, bodyNumber, firstNumber, recordNumber, refusal, runTo, past, stepAt, RunBodies, ran, fault, with, onStep, runFrom, runAt, looks, settingsRight, Form, form, refused, onRan, nodesAfter, formOf}
 use Rattle.format.specs.File.{fileFrom, fileOf}
 use Rattle.format_records.specs.Steps.{Told, next-tells, link-zero, node-zero}
 use Rattle.format_records.specs.Runs.{RecordsStand, stands}
@@ -166,10 +164,10 @@ module _ (n : ℕ) (enough : fileBytes ≤ n) (s : List ℕ) (more : n < length 
 
     same-after : (ls : List (List ℕ)) → nodesAfter (take n s) ls a ≡ nodesAfter s ls a
     same-after ls =
-        ap (λ (t : Ran). onRan t (λ x ns. pick (eqb (x .at) (length (take n s))) (form ls ns) (refused (refusal 13 (x .at))))) same-nodes
+        ap (λ (t : RunBodies). onRan t (λ x ns. pick (eqb (x .at) (length (take n s))) (form ls ns) (refused (refusal 13 (x .at))))) same-nodes
         ∙ by (runAt 2 s a) refl
       where
-        by : (t : Ran) → runAt 2 s a ≡ t
+        by : (t : RunBodies) → runAt 2 s a ≡ t
             → onRan t (λ x ns. pick (eqb (x .at) (length (take n s))) (form ls ns) (refused (refusal 13 (x .at))))
             ≡ onRan t (λ x ns. pick (eqb (x .at) (length s)) (form ls ns) (refused (refusal 13 (x .at))))
         by (fault f) e = refl
@@ -185,22 +183,15 @@ module _ (n : ℕ) (enough : fileBytes ≤ n) (s : List ℕ) (more : n < length 
   same-settings : settingsRight (take n s) ≡ settingsRight s
   unfolding settingsRight
   same-settings =
-      rw (
-        short-length,
-        le-leb 15 n (omega arith),
-        le-leb 15 (length s) (omega arith),
-        same-u32 0 (omega arith),
-        same-u16 4 (omega arith),
-        getD-take n s 6 0 (omega arith),
-      )
+      rw (short-length, le-leb 15 n (omega arith), le-leb 15 (length s) (omega arith), same-u32 0 (omega arith), same-u16 4 (omega arith), getD-take n s 6 0 (omega arith))
 
   same-form : formOf (take n s) ≡ formOf s
   unfolding formOf
   same-form =
       ap₂ (λ b (x : Form). pick b x (refused (refusal 13 0))) same-settings
-      (ap (λ (t : Ran). onRan t (λ r ls. nodesAfter (take n s) ls (r .at))) same-links ∙ by (runAt 1 s 15) refl)
+      (ap (λ (t : RunBodies). onRan t (λ r ls. nodesAfter (take n s) ls (r .at))) same-links ∙ by (runAt 1 s 15) refl)
     where
-      by : (t : Ran) → runAt 1 s 15 ≡ t → onRan t (λ r ls. nodesAfter (take n s) ls (r .at)) ≡ onRan t (λ r ls. nodesAfter s ls (r .at))
+      by : (t : RunBodies) → runAt 1 s 15 ≡ t → onRan t (λ r ls. nodesAfter (take n s) ls (r .at)) ≡ onRan t (λ r ls. nodesAfter s ls (r .at))
       by (fault f) e = refl
       by (ran r ls) e = same-after (r .at) (links-end r ls (stands 1 s looks (runTo 15 0 0) r ls e)) ls
 

@@ -22,13 +22,14 @@ pub struct FileCounts {
     pub minimum: u64,
 }
 
+// What came of reading: a graph in the lent lists, or a refusal.
 pub enum FileRead {
     Graph(FileCounts),
     Refused(Refusal),
 }
 
-// Reads a file into the lent lists. It asks for the room of the largest file, which its one caller has in arrays of these lengths;
-// a list that was too short would need an answer of its own, and document 01 has none.
+// Reads a file into the lent lists. It asks for the room of the largest file, which the program has in arrays of these
+// lengths; a list that was too short would need an answer of its own, and document 01 has none.
 pub fn read_graph(
     s: &[u8],
     ax: &mut [i32],
@@ -48,9 +49,11 @@ pub fn read_graph(
         FileRoom before) ⌝ }
     ensures { λ r. ⌜
         (let before : FileLists = fileLists (now (ax .entry)) (now (ay .entry)) (now (bx .entry)) (now (by .entry))
-        (now («a_id» .entry)) (now («b_id» .entry)) (now (top .entry)) (now (state .entry)) (now (start .entry)) (now (list .entry)) in
+        (now («a_id» .entry)) (now («b_id» .entry)) (now (top .entry)) (now (state .entry))
+        (now (start .entry)) (now (list .entry)) in
         let after : FileLists = fileLists (now (ax .exit)) (now (ay .exit)) (now (bx .exit)) (now (by .exit))
-        (now («a_id» .exit)) (now («b_id» .exit)) (now (top .exit)) (now (state .exit)) (now (start .exit)) (now (list .exit)) in
+        (now («a_id» .exit)) (now («b_id» .exit)) (now (top .exit)) (now (state .exit))
+        (now (start .exit)) (now (list .exit)) in
         reading r after ≡ readInto (fileOf (now (s .entry))) before) ⌝ }
 {
     match format_records::shape_of(s) {

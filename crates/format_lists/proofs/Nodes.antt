@@ -5,7 +5,7 @@ use mathlib.Core.List.{List}
 use native.Mathlib.Nat.{add-assoc}
 use native.Mathlib.Omega.{arith}
 use lib.ListN.{length, set, length-set}
-use Rattle.writing.specs.Put.{put, atFront, put-none, put-put, put-cons, set-put}
+use Rattle.writing.specs.Put.{putAt, atFront, put-none, put-put, put-cons, set-put}
 use Rattle.format_numbers.specs.Bytes.{u16At, every, length-every}
 use Rattle.format_records.specs.Limits.{maxEntries}
 use Rattle.format_records.specs.Records.{lengthAt, recordEnd}
@@ -17,8 +17,8 @@ pub record Noding (s : List ℕ) (from m : ℕ) (start₀ list₀ start list : L
   pub starts-long : length start ≡ length start₀
   pub list-long : length list ≡ length list₀
   pub stand : NodesStand s maxEntries (m - k) at e
-  pub starts : put start k (startsFrom s (m - k) at e) ≡ atFront (startsFrom s m from 0) start₀
-  pub entries : put list e (entriesFrom s (m - k) at) ≡ atFront (entriesFrom s m from) list₀
+  pub starts : putAt start k (startsFrom s (m - k) at e) ≡ atFront (startsFrom s m from 0) start₀
+  pub entries : putAt list e (entriesFrom s (m - k) at) ≡ atFront (entriesFrom s m from) list₀
 
 -- the next node's record
 pub record Here (s : List ℕ) (at e : ℕ) : Type 0 where
@@ -43,18 +43,17 @@ zero-less : (n : ℕ) → n - 0 ≡ n
 zero-less n = omega arith
 
 one-start : (s : List ℕ) (m at e k : ℕ) (start : List ℕ) → k < length start
-    → put (set start k e) (k + 1) (startsFrom s m (recordEnd s at) (e + lengthAt s at / 2)) ≡ put start k (startsFrom s (suc m) at e)
+    → putAt (set start k e) (k + 1) (startsFrom s m (recordEnd s at) (e + lengthAt s at / 2)) ≡ putAt start k (startsFrom s (suc m) at e)
 unfolding startsFrom
 one-start s m at e k start h = put-cons start k e (startsFrom s m (recordEnd s at) (e + lengthAt s at / 2)) h
 
 one-node : (s : List ℕ) (m at e : ℕ) (list : List ℕ) → e + lengthAt s at / 2 ≤ length list
-    → put (put list e (every (u16At s) 2 (at + 6) (lengthAt s at / 2))) (e + lengthAt s at / 2) (entriesFrom s m (recordEnd s at))
-    ≡ put list e (entriesFrom s (suc m) at)
+    → putAt (putAt list e (every (u16At s) 2 (at + 6) (lengthAt s at / 2))) (e + lengthAt s at / 2) (entriesFrom s m (recordEnd s at)) ≡ putAt list e (entriesFrom s (suc m) at)
 unfolding entriesFrom
 one-node s m at e list h =
     let here = every (u16At s) 2 (at + 6) (lengthAt s at / 2) in
     let l : length here ≡ lengthAt s at / 2 = length-every (u16At s) 2 (at + 6) (lengthAt s at / 2) in
-    ap (λ i. put (put list e here) (e + i) (entriesFrom s m (recordEnd s at))) (sym l)
+    ap (λ i. putAt (putAt list e here) (e + i) (entriesFrom s m (recordEnd s at))) (sym l)
     ∙ put-put list e here (entriesFrom s m (recordEnd s at)) (omega arith)
 
 module _ (s : List ℕ) (from m : ℕ) (start₀ list₀ : List ℕ) where
@@ -64,8 +63,8 @@ module _ (s : List ℕ) (from m : ℕ) (start₀ list₀ : List ℕ) where
     starts-long = refl;
     list-long = refl;
     stand = rw zero-less h;
-    starts = ap (λ i. put start₀ 0 (startsFrom s i from 0)) (zero-less m);
-    entries = ap (λ i. put list₀ 0 (entriesFrom s i from)) (zero-less m);
+    starts = ap (λ i. putAt start₀ 0 (startsFrom s i from 0)) (zero-less m);
+    entries = ap (λ i. putAt list₀ 0 (entriesFrom s i from)) (zero-less m);
   }
 
   module _ (start list : List ℕ) (at e k : ℕ) (h : Noding s from m start₀ list₀ start list at e k) where
@@ -76,7 +75,7 @@ module _ (s : List ℕ) (from m : ℕ) (start₀ list₀ : List ℕ) where
     noding-here l = here s (m - (k + 1)) at e (rw (left l) at (h .stand))
 
     pub noding-next : k < m → m < length start₀ → maxEntries ≤ length list₀ → (len : ℕ) → len ≡ lengthAt s at
-        → (list′ : List ℕ) → list′ ≡ put list e (every (u16At s) 2 (at + 6) (len / 2)) → length list′ ≡ length list
+        → (list′ : List ℕ) → list′ ≡ putAt list e (every (u16At s) 2 (at + 6) (len / 2)) → length list′ ≡ length list
         → Noding s from m start₀ list₀ (set start k e) list′ (at + (6 + len)) (e + len / 2) (k + 1)
     noding-next l few room len p list′ q long =
         subst (λ n. Noding s from m start₀ list₀ (set start k e) list′ (at + (6 + n)) (e + n / 2) (k + 1)) (sym p)
@@ -87,12 +86,12 @@ module _ (s : List ℕ) (from m : ℕ) (start₀ list₀ : List ℕ) where
           list-long = long ∙ h .list-long;
           stand = beyond s (m - (k + 1)) at e (rw (left l) at (h .stand));
           starts = one-start s (m - (k + 1)) at e k start (omega (arith, h .starts-long))
-              ∙ ap (λ i. put start k (startsFrom s i at e)) (sym (left l))
+              ∙ ap (λ i. putAt start k (startsFrom s i at e)) (sym (left l))
               ∙ h .starts;
-          entries = ap (λ (t : List ℕ). put t (e + lengthAt s at / 2) (entriesFrom s (m - (k + 1)) (recordEnd s at)))
-              (q ∙ ap (λ n. put list e (every (u16At s) 2 (at + 6) (n / 2))) p)
+          entries = ap (λ (t : List ℕ). putAt t (e + lengthAt s at / 2) (entriesFrom s (m - (k + 1)) (recordEnd s at)))
+              (q ∙ ap (λ n. putAt list e (every (u16At s) 2 (at + 6) (n / 2))) p)
               ∙ one-node s (m - (k + 1)) at e list (omega (arith, noding-here l .room, h .list-long))
-              ∙ ap (λ i. put list e (entriesFrom s i at)) (sym (left l))
+              ∙ ap (λ i. putAt list e (entriesFrom s i at)) (sym (left l))
               ∙ h .entries;
         }))
 
@@ -105,12 +104,12 @@ module _ (s : List ℕ) (from m : ℕ) (start₀ list₀ : List ℕ) where
         let z : m ≡ k = omega (arith, h .done) in
         ap (λ i. set start i e) z
         ∙ set-put start k e (omega (arith, h .starts-long))
-        ∙ ap (λ i. put start k (startsFrom s i at e)) (sym (none-left l))
+        ∙ ap (λ i. putAt start k (startsFrom s i at e)) (sym (none-left l))
         ∙ h .starts
 
     pub noding-list : m ≤ k → list ≡ atFront (entriesFrom s m from) list₀
     unfolding entriesFrom
-    noding-list l = sym (put-none list e) ∙ ap (λ i. put list e (entriesFrom s i at)) (sym (none-left l)) ∙ h .entries
+    noding-list l = sym (put-none list e) ∙ ap (λ i. putAt list e (entriesFrom s i at)) (sym (none-left l)) ∙ h .entries
 
     pub noding-small : e ≤ maxEntries
     noding-small = small s (m - k) at e (h .stand)

@@ -2,7 +2,7 @@
 ghost use mathlib.Core.Path.{_≡_};
 ghost use Prim.Native.Nat.{ℕ, _+_, _*_, _<_, _≤_};
 ghost use lib.ListN.{length, getD};
-ghost use Rattle.writing.specs.Put.{put, atFront};
+ghost use Rattle.writing.specs.Put.{putAt, atFront};
 ghost use Rattle.format_numbers.specs.Bytes.{u16At, i32At, every};
 ghost use Rattle.format_records.specs.Limits.{maxEntries};
 ghost use Rattle.format_lists.specs.Columns.{Columns, columns, LinkRoom, linksInto};
@@ -25,8 +25,9 @@ fn fill_i32(s: &[u8], from: usize, n: usize, out: &mut [i32])
 
 // The numbers at every so many bytes, written from index `to` on.
 fn fill_u16(s: &[u8], from: usize, step: usize, n: usize, out: &mut [u32], to: usize)
-    requires { ⌜ (step ≤ 28) × ((k : ℕ) → k < n → from + step * k + 2 ≤ length (now s)) × (to + n ≤ length (now out)) ⌝ }
-    ensures { λ _. ⌜ now (out .exit) ≡ put (now (out .entry)) to (every (u16At (now (s .entry))) step from n) ⌝ }
+    requires { ⌜ (step ≤ 28) × ((k : ℕ) → k < n → from + step * k + 2 ≤ length (now s))
+        × (to + n ≤ length (now out)) ⌝ }
+    ensures { λ _. ⌜ now (out .exit) ≡ putAt (now (out .entry)) to (every (u16At (now (s .entry))) step from n) ⌝ }
 {
     let mut at = from;
     let mut k = 0;
@@ -37,9 +38,11 @@ fn fill_u16(s: &[u8], from: usize, step: usize, n: usize, out: &mut [u32], to: u
     }
 }
 
+// The bytes at every 28th.
 fn fill_u8(s: &[u8], from: usize, n: usize, out: &mut [u8])
     requires { ⌜ (from + 28 * n ≤ length (now s) + 27) × (n ≤ length (now out)) ⌝ }
-    ensures { λ _. ⌜ now (out .exit) ≡ atFront (every (λ (i : ℕ). getD (now (s .entry)) i 0) 28 from n) (now (out .entry)) ⌝ }
+    ensures { λ _. ⌜
+        now (out .exit) ≡ atFront (every (λ (i : ℕ). getD (now (s .entry)) i 0) 28 from n) (now (out .entry)) ⌝ }
 {
     let mut at = from;
     let mut k = 0;
@@ -64,7 +67,8 @@ pub fn fill_links(
     state: &mut [u8],
 )
     requires { ⌜ 15 + 28 * n ≤ length (now s) ⌝ }
-    requires { ⌜ LinkRoom n (columns (now ax) (now ay) (now bx) (now by) (now «a_id») (now «b_id») (now top) (now state)) ⌝ }
+    requires { ⌜
+        LinkRoom n (columns (now ax) (now ay) (now bx) (now by) (now «a_id») (now «b_id») (now top) (now state)) ⌝ }
     ensures { λ _. ⌜
         (let before : Columns = columns (now (ax .entry)) (now (ay .entry)) (now (bx .entry)) (now (by .entry))
         (now («a_id» .entry)) (now («b_id» .entry)) (now (top .entry)) (now (state .entry)) in
@@ -84,7 +88,8 @@ pub fn fill_links(
 
 // The starts and the entries of m nodes whose records stand from an offset on.
 pub fn fill_nodes(s: &[u8], from: usize, m: usize, start: &mut [u32], list: &mut [u32])
-    requires { ⌜ (m < length (now start)) × (maxEntries ≤ length (now list)) × NodesStand (now s) maxEntries m from 0 ⌝ }
+    requires { ⌜ (m < length (now start)) × (maxEntries ≤ length (now list))
+        × NodesStand (now s) maxEntries m from 0 ⌝ }
     ensures { λ _. ⌜ now (start .exit) ≡ atFront (startsFrom (now (s .entry)) m from 0) (now (start .entry)) ⌝ }
     ensures { λ _. ⌜ now (list .exit) ≡ atFront (entriesFrom (now (s .entry)) m from) (now (list .entry)) ⌝ }
 {

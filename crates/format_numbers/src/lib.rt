@@ -4,6 +4,7 @@ ghost use Prim.Native.Nat.{_+_, _<_, _≤_};
 ghost use lib.ListN.{length};
 ghost use Rattle.format_numbers.specs.Bytes.{u16At, u32At, u64At, signed};
 
+// Two bytes.
 pub fn u16_at(s: &[u8], i: usize) -> u32
     requires { ⌜ i + 2 ≤ length (now s) ⌝ }
     ensures { λ r. ⌜ (r ≡ u16At (now (s .entry)) i) × (r < 65536) ⌝ }
@@ -13,6 +14,7 @@ pub fn u16_at(s: &[u8], i: usize) -> u32
     low + 256 * high
 }
 
+// Four bytes.
 pub fn u32_at(s: &[u8], i: usize) -> u32
     requires { ⌜ i + 4 ≤ length (now s) ⌝ }
     ensures { λ r. ⌜ r ≡ u32At (now (s .entry)) i ⌝ }
@@ -22,6 +24,7 @@ pub fn u32_at(s: &[u8], i: usize) -> u32
     low + 65536 * high
 }
 
+// Eight bytes.
 pub fn u64_at(s: &[u8], i: usize) -> u64
     requires { ⌜ i + 8 ≤ length (now s) ⌝ }
     ensures { λ r. ⌜ r ≡ u64At (now (s .entry)) i ⌝ }

@@ -10,8 +10,7 @@ use lib.ListN.{length, length-take, length-drop, length-append}
 use Rattle.laws.specs.Test.{and-true, pick-ind, pick}
 use Rattle.format_numbers.specs.Bytes.{u16At, length-every}
 use Rattle.format_records.specs.Limits.{maxRecords}
-use Rattle.format_records.specs.Records.{lengthAt, bodyAt, refusal, runTo, past, Ran, ran, fault, runAt, looks, form, nodesAfter, formOf}
-use Rattle.format_records.specs.Records.{settingsRight, nodeEntries, flatList, onRan, Form, refused}
+use Rattle.format_records.specs.Records.{lengthAt, bodyAt, refusal, runTo, past, RunBodies, ran, fault, runAt, looks, form, nodesAfter, formOf, settingsRight, nodeEntries, flatList, onRan, Form, refused}
 use Rattle.format_records.specs.Shape.{runEndOf, fileShapeOf}
 use Rattle.format_records.specs.Steps.{Told, link-zero, node-zero, count-below}
 use Rattle.format_records.specs.Runs.{never, RecordsStand, stands}
@@ -23,15 +22,15 @@ use Rattle.format_records.specs.declared.FileShape.the-variants as shape
 
 -- ---- a run's end with the bodies that were taken
 
-pub record Taken (t : Ran) (r : Run) : Type 0 where
+pub record Taken (t : RunBodies) (r : Run) : Type 0 where
   pub bodies : List (List ℕ)
   pub is : t ≡ ran r bodies
 
-pub taken : (t : Ran) (r : Run) → end.To r ≡ runEndOf t → Taken t r
+pub taken : (t : RunBodies) (r : Run) → end.To r ≡ runEndOf t → Taken t r
 taken (ran x bs) r e = record { bodies = bs; is = (cc) }
 taken (fault f) r e = let z : _≡_ {A = ℕ} 0 1 = cc in absurd (never z)
 
-pub faulted : (t : Ran) (f : Refusal) → end.Fault f ≡ runEndOf t → t ≡ fault f
+pub faulted : (t : RunBodies) (f : Refusal) → end.Fault f ≡ runEndOf t → t ≡ fault f
 faulted (fault g) f e = cc
 faulted (ran x bs) f e = let z : _≡_ {A = ℕ} 0 1 = cc in absurd (never z)
 
@@ -90,8 +89,7 @@ module _ (s : List ℕ) (at : ℕ) (r : Run) (links : List (List ℕ)) (n : ℕ)
   pub nodes-wrong : end.To r ≡ runEndOf (runAt 2 s at) → (r .at ≡ length s → ⊥) → shape.Wrong (refusal 13 (r .at)) ≡ fileShapeOf (nodesAfter s links at)
   nodes-wrong h e = let t = taken (runAt 2 s at) r h in rw (t .is, ne-eqb (r .at) (length s) e)
 
-pub nodes-fault : (s : List ℕ) (at : ℕ) (f : Refusal) (links : List (List ℕ)) → end.Fault f ≡ runEndOf (runAt 2 s at) → shape.Wrong f
-    ≡ fileShapeOf (nodesAfter s links at)
+pub nodes-fault : (s : List ℕ) (at : ℕ) (f : Refusal) (links : List (List ℕ)) → end.Fault f ≡ runEndOf (runAt 2 s at) → shape.Wrong f ≡ fileShapeOf (nodesAfter s links at)
 nodes-fault s at f links h = rw (faulted (runAt 2 s at) f h)
 
 module _ (s : List ℕ) where
@@ -133,7 +131,7 @@ pub record FormPlaced (s : List ℕ) (links nodes : List (List ℕ)) : Type 0 wh
   pub ends : last .at ≡ length s
 
 module _ (s : List ℕ) (links nodes : List (List ℕ)) (right : settingsRight s ≡ true) where
-  placed-nodes : (ls : List (List ℕ)) (r : Run) (t : Ran) → RecordsStand 1 s (runTo 15 0 0) ls r → runAt 2 s (r .at) ≡ t
+  placed-nodes : (ls : List (List ℕ)) (r : Run) (t : RunBodies) → RecordsStand 1 s (runTo 15 0 0) ls r → runAt 2 s (r .at) ≡ t
       → onRan t (λ x ns. pick (eqb (x .at) (length s)) (form ls ns) (refused (refusal 13 (x .at)))) ≡ form links nodes → FormPlaced s links nodes
   placed-nodes ls r (fault f) st q = λ e. let z : _≡_ {A = ℕ} 0 1 = cc in absurd (never z)
   placed-nodes ls r (ran x ns) st q =
@@ -151,7 +149,7 @@ module _ (s : List ℕ) (links nodes : List (List ℕ)) (right : settingsRight s
       })
       (λ h e. let z : _≡_ {A = ℕ} 0 1 = cc in absurd (never z))
 
-  placed-links : (t : Ran) → runAt 1 s 15 ≡ t → onRan t (λ r ls. nodesAfter s ls (r .at)) ≡ form links nodes → FormPlaced s links nodes
+  placed-links : (t : RunBodies) → runAt 1 s 15 ≡ t → onRan t (λ r ls. nodesAfter s ls (r .at)) ≡ form links nodes → FormPlaced s links nodes
   placed-links (fault f) q e = let z : _≡_ {A = ℕ} 0 1 = cc in absurd (never z)
   placed-links (ran r ls) q e = placed-nodes ls r (runAt 2 s (r .at)) (stands 1 s looks (runTo 15 0 0) r ls q) refl e
 

@@ -75,21 +75,21 @@ stepAt kind s r =
     Other
 
 -- the run's end and the bodies of its records, or a refusal
-pub data Ran : Type 0 where
-  ran : Run → List (List ℕ) → Ran
-  fault : Refusal → Ran
+pub data RunBodies : Type 0 where
+  ran : Run → List (List ℕ) → RunBodies
+  fault : Refusal → RunBodies
 
-abbrev pub with : List ℕ → Ran → Ran
+abbrev pub with : List ℕ → RunBodies → RunBodies
 with b (ran r bs) = ran r (b ∷ bs)
 with b (fault e) = fault e
 
-abbrev pub onStep : RunStep → (Run → Ran) → Ran → Ran
+abbrev pub onStep : RunStep → (Run → RunBodies) → RunBodies → RunBodies
 onStep (Next r) go stop = go r
 onStep Other go stop = stop
 onStep (Fault e) go stop = fault e
 
 -- the rest of a run, in at most so many looks
-unfoldable pub runFrom : ℕ → ℕ → List ℕ → Run → Ran
+unfoldable pub runFrom : ℕ → ℕ → List ℕ → Run → RunBodies
 runFrom zero kind s r = ran r []
 runFrom (suc looks) kind s r = onStep (stepAt kind s r) (λ r′. with (bodyAt s (r .at)) (runFrom looks kind s r′)) (ran r [])
 
@@ -97,7 +97,7 @@ runFrom (suc looks) kind s r = onStep (stepAt kind s r) (λ r′. with (bodyAt s
 abbrev pub looks : ℕ
 looks = suc maxRecords
 
-abbrev pub runAt : ℕ → List ℕ → ℕ → Ran
+abbrev pub runAt : ℕ → List ℕ → ℕ → RunBodies
 runAt kind s at = runFrom looks kind s (runTo at 0 0)
 
 -- ---- the whole file
@@ -111,7 +111,7 @@ pub data Form : Type 0 where
   form : List (List ℕ) → List (List ℕ) → Form
   refused : Refusal → Form
 
-abbrev pub onRan : Ran → (Run → List (List ℕ) → Form) → Form
+abbrev pub onRan : RunBodies → (Run → List (List ℕ) → Form) → Form
 onRan (ran r bs) go = go r bs
 onRan (fault e) go = refused e
 

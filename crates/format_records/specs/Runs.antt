@@ -5,7 +5,7 @@ use mathlib.Core.List.{List, [], _∷_}
 use native.Mathlib.Omega.{arith}
 use lib.ListN.{length}
 use Rattle.format_records.specs.Limits.{maxRecords}
-use Rattle.format_records.specs.Records.{lengthAt, bodyAt, runTo, past, stepAt, Ran, ran, fault, with, onStep, runFrom, runAt, looks}
+use Rattle.format_records.specs.Records.{lengthAt, bodyAt, runTo, past, stepAt, RunBodies, ran, fault, with, onStep, runFrom, runAt, looks}
 use Rattle.format_records.specs.Shape.{runEndOf}
 use Rattle.format_records.specs.Steps.{Told, next-tells, count-below}
 use Rattle.format_records.specs.declared.Run.{Run}
@@ -16,7 +16,7 @@ use Rattle.format_records.specs.declared.RunEnd.the-variants as end
 
 -- ---- the loop that looks for a run's end
 
-end-with : (b : List ℕ) (t : Ran) → runEndOf (with b t) ≡ runEndOf t
+end-with : (b : List ℕ) (t : RunBodies) → runEndOf (with b t) ≡ runEndOf t
 end-with b (ran r bs) = refl
 end-with b (fault e) = refl
 
@@ -100,7 +100,7 @@ module _ (kind : ℕ) (s : List ℕ) (r r′ : Run) (bs : List (List ℕ)) where
       let q : [] ≡ bs = cc in
       subst (λ (l : List (List ℕ)). RecordsStand kind s r l r′) q p
 
-  stands-one : (y : Run) (t : Ran) → stepAt kind s r ≡ Next y → ((x : Run) (cs : List (List ℕ)) → t ≡ ran x cs → RecordsStand kind s y cs x)
+  stands-one : (y : Run) (t : RunBodies) → stepAt kind s r ≡ Next y → ((x : Run) (cs : List (List ℕ)) → t ≡ ran x cs → RecordsStand kind s y cs x)
       → with (bodyAt s (r .at)) t ≡ ran r′ bs → RecordsStand kind s r bs r′
   stands-one y (fault f) q ih e = let z : _≡_ {A = ℕ} 0 1 = cc in absurd (never z)
   stands-one y (ran x cs) q ih e =

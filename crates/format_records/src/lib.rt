@@ -1,4 +1,4 @@
-// The form of the file, looked at by the heads of its records: how many links, nodes and entries it has, or its first fault.
+// The form of the file, by the heads of its records: how many links, nodes and entries it has, or its first fault.
 ghost use mathlib.Core.Path.{_≡_};
 ghost use Prim.Native.Nat.{ℕ, _+_, _^_, _<_, _≤_};
 ghost use mathlib.Core.List.{List};
@@ -71,6 +71,7 @@ fn head_number(kind: u32, count: usize, size: usize, len: usize) -> u32
     }
 }
 
+// A refusal of a record at an offset: 13 names the offset, 1 and 5 nothing.
 fn refused(number: u32, at: usize) -> Refusal
     ensures { λ r. ⌜ r ≡ refusal number at ⌝ }
 {
@@ -147,10 +148,11 @@ fn settings_right(s: &[u8]) -> bool
     (format_numbers::u32_at(s, 0) == 9) & ((format_numbers::u16_at(s, 4) == 3) & (s[6] <= 1))
 }
 
-// The form of the whole file: after so many links the nodes, and after them the end.
+// The form of what follows so many links: the nodes, and after them the end.
 fn nodes_after(s: &[u8], links: usize, at: usize) -> FileShape
     requires { ⌜ at ≤ length (now s) ⌝ }
-    ensures { λ r. ⌜ ((bodies : List (List ℕ)) → length bodies ≡ links → r ≡ fileShapeOf (nodesAfter (now (s .entry)) bodies at)) ⌝ }
+    ensures { λ r. ⌜ ((bodies : List (List ℕ)) → length bodies ≡ links
+        → r ≡ fileShapeOf (nodesAfter (now (s .entry)) bodies at)) ⌝ }
 {
     match run_at(s, 2, at) {
         RunEnd::Fault(e) => FileShape::Wrong(e),
@@ -170,6 +172,7 @@ fn nodes_after(s: &[u8], links: usize, at: usize) -> FileShape
     }
 }
 
+// The form of the whole file: the settings, then the links.
 pub fn shape_of(s: &[u8]) -> FileShape
     ensures { λ r. ⌜ r ≡ fileShapeOf (formOf (now (s .entry))) ⌝ }
 {

@@ -8,7 +8,8 @@ ghost use lib.ListN.{length};
 ghost use Rattle.writing.specs.Cuts.{Cut};
 ghost use Rattle.writing.specs.Write.{Wrote};
 ghost use Rattle.print.specs.Room.{answerBytes, refusalBytes, RangesInside, Printable};
-ghost use Rattle.print.specs.Answer.{OwnedTable, pointLines, contourLines, contoursFrom, ownedTable, printed, printedRefusal};
+ghost use Rattle.print.specs.Answer.{OwnedTable, ownedTable, pointLines, contourLines, contoursFrom};
+ghost use Rattle.print.specs.Answer.{printed, printedRefusal};
 
 // The most contours of a table: each has at least 3 points.
 pub const MAX_CONTOURS: usize = MAX_LINKS / 3;
@@ -16,6 +17,7 @@ pub const MAX_CONTOURS: usize = MAX_LINKS / 3;
 // Room for every answer: the first line, 24 bytes for a contour's line and 16 for a point's.
 pub const ANSWER_BYTES: usize = 51 + 24 * MAX_CONTOURS + 16 * MAX_LINKS;
 
+// So many points from a number on, one a line.
 fn write_points(points: &[i32], first: usize, count: usize, out: &mut [u8], at: usize) -> usize
     requires { ⌜ 2 * (first + count) ≤ length (now points) ⌝ }
     requires { ⌜ at + length (pointLines (now points) first count) ≤ length (now out) ⌝ }
@@ -50,7 +52,8 @@ fn write_contour(
         at + length (contourLines t i) ≤ length (now out)) ⌝ }
     ensures { λ r. ⌜
         (let t : OwnedTable =
-        ownedTable (now (points .entry)) (now (first .entry)) (now (len .entry)) (now (kind .entry)) (now (owner .entry)) in
+        ownedTable (now (points .entry)) (now (first .entry)) (now (len .entry))
+        (now (kind .entry)) (now (owner .entry)) in
         Wrote (now (out .entry)) (now (out .exit)) at r (contourLines t i)) ⌝ }
 {
     let count = len[i];
@@ -58,6 +61,7 @@ fn write_contour(
     write_points(points, first[i] as usize, count as usize, out, next)
 }
 
+// The contours in the order of their numbers.
 fn write_contours(
     points: &[i32],
     first: &[u32],
@@ -74,7 +78,8 @@ fn write_contours(
         at + length (contoursFrom t 0 contours) ≤ length (now out)) ⌝ }
     ensures { λ r. ⌜
         (let t : OwnedTable =
-        ownedTable (now (points .entry)) (now (first .entry)) (now (len .entry)) (now (kind .entry)) (now (owner .entry)) in
+        ownedTable (now (points .entry)) (now (first .entry)) (now (len .entry))
+        (now (kind .entry)) (now (owner .entry)) in
         Wrote (now (out .entry)) (now (out .exit)) at r (contoursFrom t 0 contours)) ⌝ }
 {
     let mut i = 0;
@@ -86,8 +91,8 @@ fn write_contours(
     next
 }
 
-// The whole answer, from the start of the buffer. It asks for a table that passed check 10, as its one caller has it after binding: the answer
-// is then never longer than ANSWER_BYTES.
+// The whole answer, from the start of the buffer. It asks for a table that passed check 10, as its one caller has it
+// after binding: the answer is then never longer than ANSWER_BYTES.
 pub fn write_answer(
     points: &[i32],
     first: &[u32],
@@ -102,7 +107,8 @@ pub fn write_answer(
     requires { ⌜ answerBytes ≤ length (now out) ⌝ }
     ensures { λ r. ⌜
         (let t : OwnedTable =
-        ownedTable (now (points .entry)) (now (first .entry)) (now (len .entry)) (now (kind .entry)) (now (owner .entry)) in
+        ownedTable (now (points .entry)) (now (first .entry)) (now (len .entry))
+        (now (kind .entry)) (now (owner .entry)) in
         Wrote (now (out .entry)) (now (out .exit)) 0 r (printed t totals)) ⌝ }
     ensures { λ r. ⌜ Cut r (now (out .exit)) ⌝ }
 {
@@ -111,6 +117,7 @@ pub fn write_answer(
     write_contours(points, first, len, kind, owner, contours, out, next)
 }
 
+// "A program's refusal prints one line, as `refused 3 at 2`".
 pub fn write_refusal(number: u32, place: usize, out: &mut [u8]) -> usize
     requires { ⌜ refusalBytes ≤ length (now out) ⌝ }
     ensures { λ r. ⌜ Wrote (now (out .entry)) (now (out .exit)) 0 r (printedRefusal number place) ⌝ }

@@ -16,6 +16,7 @@ pub struct Totals {
     pub dropped: usize,
 }
 
+// A point: its x, then its y.
 pub fn write_point(x: i32, y: i32, out: &mut [u8], at: usize) -> usize
     requires { ⌜ at + length (pointLine x y) ≤ length (now out) ⌝ }
     ensures { λ r. ⌜ Wrote (now (out .entry)) (now (out .exit)) at r (pointLine x y) ⌝ }
@@ -40,6 +41,7 @@ fn write_role(kind: u8, owner: u16, out: &mut [u8], at: usize) -> usize
     print_text::write_said(b" hole ", owner as u64, out, at)
 }
 
+// A contour: its number, what it is, its owner and how many points it has.
 pub fn write_contour_line(
     number: usize,
     kind: u8,
@@ -57,6 +59,7 @@ pub fn write_contour_line(
     print_text::write_text(b"\n", out, c)
 }
 
+// The first line.
 pub fn write_header(t: Totals, out: &mut [u8]) -> usize
     requires { ⌜ length (header t) ≤ length (now out) ⌝ }
     ensures { λ r. ⌜ Wrote (now (out .entry)) (now (out .exit)) 0 r (header t) ⌝ }

@@ -6,6 +6,7 @@ ghost use lib.ListN.{length};
 ghost use Rattle.writing.specs.Write.{Wrote};
 ghost use Rattle.print_text.specs.Decimal.{decimal, decimalZ, said};
 
+// The bytes of a text.
 pub fn write_text(word: &[u8], out: &mut [u8], at: usize) -> usize
     requires { ⌜ at + length (now word) ≤ length (now out) ⌝ }
     ensures { λ r. ⌜ Wrote (now (out .entry)) (now (out .exit)) at r (now (word .entry)) ⌝ }
@@ -18,7 +19,7 @@ pub fn write_text(word: &[u8], out: &mut [u8], at: usize) -> usize
     at + i
 }
 
-// The digits before the last, then the last.
+// A number: the digits before the last, then the last.
 pub fn write_decimal(n: u64, out: &mut [u8], at: usize) -> usize
     requires { ⌜ at + length (decimal n) ≤ length (now out) ⌝ }
     ensures { λ r. ⌜ Wrote (now (out .entry)) (now (out .exit)) at r (decimal n) ⌝ }
@@ -32,6 +33,7 @@ pub fn write_decimal(n: u64, out: &mut [u8], at: usize) -> usize
     last + 1
 }
 
+// A signed number: a minus sign where it is below 0, then its size.
 pub fn write_signed(x: i32, out: &mut [u8], at: usize) -> usize
     requires { ⌜ at + length (decimalZ x) ≤ length (now out) ⌝ }
     ensures { λ r. ⌜ Wrote (now (out .entry)) (now (out .exit)) at r (decimalZ x) ⌝ }

@@ -6,18 +6,18 @@ use native.Mathlib.Nat.{add-assoc, add-zero}
 use native.Mathlib.Omega.{arith}
 use lib.ListN.{length, set, drop, length-append}
 use Rattle.writing.specs.Cuts.{Cut, cut}
-use Rattle.writing.specs.Put.{put, put-none, put-put, set-put, length-put}
+use Rattle.writing.specs.Put.{putAt, put-none, put-put, set-put, length-put}
 
 pub record Wrote (old new : List ℕ) (at after : ℕ) (t : List ℕ) : Type 0 where
   pub next : after ≡ at + length t
-  pub bytes : new ≡ put old at t
+  pub bytes : new ≡ putAt old at t
 
 module _ (a b c : List ℕ) (p q r : ℕ) (t u : List ℕ) where
   -- one after the other
   pub wrote-both : p + length t ≤ length a → Wrote a b p q t → Wrote b c q r u → Wrote a c p r (t ++ u)
   wrote-both h x y = record {
     next = y .next ∙ ap (λ i. i + length u) (x .next) ∙ add-assoc p (length t) (length u) ∙ ap (λ i. p + i) (sym (length-append t u));
-    bytes = y .bytes ∙ ap₂ (λ (l : List ℕ) i. put l i u) (x .bytes) (x .next) ∙ put-put a p t u h;
+    bytes = y .bytes ∙ ap₂ (λ (l : List ℕ) i. putAt l i u) (x .bytes) (x .next) ∙ put-put a p t u h;
   }
 
 -- one byte
@@ -38,7 +38,7 @@ wrote-as {old} {new} {at} {after} e w = subst (λ (x : List ℕ). Wrote old new 
 
 -- what was written from the start of a buffer may be cut off
 pub wrote-cut : {old new : List ℕ} {next : ℕ} {t : List ℕ} → Wrote old new 0 next t → Cut next new
-unfolding put
+unfolding putAt
 wrote-cut {old} {new} {next} {t} w =
     cut next new (omega (arith, w .next, ap length (w .bytes), length-append t (drop (0 + length t) old)))
 
@@ -48,7 +48,7 @@ pub record Unwritten (old new : List ℕ) (at next : ℕ) (left whole : List ℕ
   pub long : length new ≡ length old
   pub room : next + length left ≡ at + length whole
   pub fits : at + length whole ≤ length old
-  pub same : put new next left ≡ put old at whole
+  pub same : putAt new next left ≡ putAt old at whole
 
 pub left-all : (old : List ℕ) (at : ℕ) (whole : List ℕ) → at + length whole ≤ length old → Unwritten old old at at whole whole
 left-all old at whole h = record { long = refl; room = refl; fits = h; same = refl }
@@ -65,7 +65,7 @@ module _ {old new : List ℕ} {at next : ℕ} {whole : List ℕ} (piece left : L
     long = wrote-long piece-fits x ∙ w .long;
     room = omega (arith, x .next, w .room, length-append piece left);
     fits = w .fits;
-    same = ap₂ (λ (l : List ℕ) i. put l i left) (x .bytes) (x .next) ∙ put-put new next piece left piece-fits ∙ w .same;
+    same = ap₂ (λ (l : List ℕ) i. putAt l i left) (x .bytes) (x .next) ∙ put-put new next piece left piece-fits ∙ w .same;
   }
 
 pub left-none : {old new : List ℕ} {at next : ℕ} {whole : List ℕ} → Unwritten old new at next [] whole → Wrote old new at next whole

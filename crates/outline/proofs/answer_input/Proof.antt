@@ -1,7 +1,7 @@
 -- `outline::answer_input` meets its contract: the answer to what was read.
 use native.Mathlib.Omega.{arith}
 use Rattle.outline.proofs.Counted.{read-within}
-use Rattle.writing.specs.Cuts.{cut}
+use Rattle.writing.specs.Cuts.{cut-long}
 use borrow.Author.Needs.{needs}
 use Rattle.outline.proofs.answer_input.Statement.{statement}
 use Rattle.outline.proofs.answer_input.Tie as tie
@@ -32,12 +32,12 @@ slice-reshare-prefix-print-answer c =
 
 slice-aggregate-print-answer : tie.Need-slice-aggregate-print-answer
 slice-aggregate-print-answer c =
-    cut _ _ (omega (
+    cut-long _ (omega (
       arith,
       read-within (c .before .before .n .given .1) (c .before .before .before .before
           .before .before .read-input .ensures),
       c .before .before .before .before .before .input .given,
-    )) .long
+    ))
 
 print-answer-requires : tie.Need-print-answer-requires
 print-answer-requires c κs = search needs
