@@ -12,7 +12,9 @@ use Rattle.laws.specs.Test.{pick}
 use Rattle.format_numbers.specs.Bytes.{u16At, u32At}
 use Rattle.turn.specs.Limits.{maxLinks}
 use Rattle.format_records.specs.Limits.{maxEntries, fileBytes, maxRecords}
-use Rattle.format_records.specs.Records.{lengthAt, bodyAt, recordEnd, headNumber, bodyNumber, firstNumber, recordNumber, refusal, runTo, past, stepAt, RunBodies, ran, fault, with, onStep, runFrom, runAt, looks, settingsRight, Form, form, refused, onRan, nodesAfter, formOf}
+use Rattle.format_records.specs.Records.{lengthAt, bodyAt, recordEnd, headNumber, bodyNumber, firstNumber, recordNumber, refusal, runTo, past, stepAt}
+use Rattle.format_records.specs.Records.{RunBodies, ran, fault, with, onStep, runFrom, runAt, looks, settingsRight, Form, form, refused, onRan}
+use Rattle.format_records.specs.Records.{nodesAfter, formOf}
 use Rattle.format.specs.File.{fileFrom, fileOf}
 use Rattle.format_records.specs.Steps.{Told, next-tells, link-zero, node-zero}
 use Rattle.format_records.specs.Runs.{RecordsStand, stands}
@@ -183,7 +185,14 @@ module _ (n : ℕ) (enough : fileBytes ≤ n) (s : List ℕ) (more : n < length 
   same-settings : settingsRight (take n s) ≡ settingsRight s
   unfolding settingsRight
   same-settings =
-      rw (short-length, le-leb 15 n (omega arith), le-leb 15 (length s) (omega arith), same-u32 0 (omega arith), same-u16 4 (omega arith), getD-take n s 6 0 (omega arith))
+      rw (
+        short-length,
+        le-leb 15 n (omega arith),
+        le-leb 15 (length s) (omega arith),
+        same-u32 0 (omega arith),
+        same-u16 4 (omega arith),
+        getD-take n s 6 0 (omega arith),
+      )
 
   same-form : formOf (take n s) ≡ formOf s
   unfolding formOf

@@ -48,7 +48,8 @@ unfolding startsFrom
 one-start s m at e k start h = put-cons start k e (startsFrom s m (recordEnd s at) (e + lengthAt s at / 2)) h
 
 one-node : (s : List ℕ) (m at e : ℕ) (list : List ℕ) → e + lengthAt s at / 2 ≤ length list
-    → putAt (putAt list e (every (u16At s) 2 (at + 6) (lengthAt s at / 2))) (e + lengthAt s at / 2) (entriesFrom s m (recordEnd s at)) ≡ putAt list e (entriesFrom s (suc m) at)
+    → putAt (putAt list e (every (u16At s) 2 (at + 6) (lengthAt s at / 2))) (e + lengthAt s at / 2) (entriesFrom s m (recordEnd s at))
+    ≡ putAt list e (entriesFrom s (suc m) at)
 unfolding entriesFrom
 one-node s m at e list h =
     let here = every (u16At s) 2 (at + 6) (lengthAt s at / 2) in

@@ -10,7 +10,8 @@ use lib.ListN.{length, length-take, length-drop, length-append}
 use Rattle.laws.specs.Test.{and-true, pick-ind, pick}
 use Rattle.format_numbers.specs.Bytes.{u16At, length-every}
 use Rattle.format_records.specs.Limits.{maxRecords}
-use Rattle.format_records.specs.Records.{lengthAt, bodyAt, refusal, runTo, past, RunBodies, ran, fault, runAt, looks, form, nodesAfter, formOf, settingsRight, nodeEntries, flatList, onRan, Form, refused}
+use Rattle.format_records.specs.Records.{lengthAt, bodyAt, refusal, runTo, past, RunBodies, ran, fault, runAt, looks, form, nodesAfter, formOf}
+use Rattle.format_records.specs.Records.{settingsRight, nodeEntries, flatList, onRan, Form, refused}
 use Rattle.format_records.specs.Shape.{runEndOf, fileShapeOf}
 use Rattle.format_records.specs.Steps.{Told, link-zero, node-zero, count-below}
 use Rattle.format_records.specs.Runs.{never, RecordsStand, stands}
@@ -89,7 +90,8 @@ module _ (s : List ℕ) (at : ℕ) (r : Run) (links : List (List ℕ)) (n : ℕ)
   pub nodes-wrong : end.To r ≡ runEndOf (runAt 2 s at) → (r .at ≡ length s → ⊥) → shape.Wrong (refusal 13 (r .at)) ≡ fileShapeOf (nodesAfter s links at)
   nodes-wrong h e = let t = taken (runAt 2 s at) r h in rw (t .is, ne-eqb (r .at) (length s) e)
 
-pub nodes-fault : (s : List ℕ) (at : ℕ) (f : Refusal) (links : List (List ℕ)) → end.Fault f ≡ runEndOf (runAt 2 s at) → shape.Wrong f ≡ fileShapeOf (nodesAfter s links at)
+pub nodes-fault : (s : List ℕ) (at : ℕ) (f : Refusal) (links : List (List ℕ)) → end.Fault f ≡ runEndOf (runAt 2 s at) → shape.Wrong f
+    ≡ fileShapeOf (nodesAfter s links at)
 nodes-fault s at f links h = rw (faulted (runAt 2 s at) f h)
 
 module _ (s : List ℕ) where
