@@ -20,6 +20,8 @@ const RUN: usize = 4;
 /// A list of more words than this is shown by its ends and sums.
 const WORDS: usize = 80;
 const END: usize = 8;
+/// Lists stand in one line as long as it is no wider than this.
+const WIDTH: usize = 110;
 
 /// An answer, or a refusal as the program prints it.
 pub fn said<T>(answer: Result<T, Refusal>, words: impl Fn(T) -> String) -> String {
@@ -53,11 +55,19 @@ impl fmt::Display for Outcome {
         if is_kept {
             return Ok(());
         }
+        let mut line = String::new();
         for (name, list) in &self.after {
             let words = words(list);
             let shown = if words.len() > WORDS { shortened(list) } else { words.join(" ") };
-            writeln!(f, "{}", format!("  {name:7} {shown}").trim_end())?;
+            let part = if shown.is_empty() { format!("{name} none") } else { format!("{name} {shown}") };
+            if line.is_empty() {
+                line = part;
+            } else if line.len() + part.len() < WIDTH {
+                line = format!("{line}; {part}");
+            } else {
+                writeln!(f, "  {}", std::mem::replace(&mut line, part))?;
+            }
         }
-        Ok(())
+        if line.is_empty() { Ok(()) } else { writeln!(f, "  {line}") }
     }
 }
