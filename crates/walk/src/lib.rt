@@ -18,9 +18,9 @@ ghost use Rattle.graph.specs.Checks.{checked, room};
 ghost use Rattle.turn.specs.declared.Checked.the-variants.{Fine};
 ghost use Rattle.walk.specs.Extract.{extractedAs, buffers, afterScan, extracted};
 ghost use Rattle.walk.specs.Code.{put, unmark, plain, otherNode, Shape, Marks, stepOut, stepOf, Goes, Kept, WalkLeaves, Counted, Within, Roomy, WalkNoted, FirstNoted, Fewer, ScanLeaves, Ends, noCounts, tables, enterKept, enterLost, enter};
+use turn::Checked;
 use next::Across;
 use next::Next;
-use turn::Checked;
 use turn::Point;
 
 // What extraction returns on success. `kept` and `lost` are the signed doubled totals of kept and of rejected walks.
