@@ -47,16 +47,5 @@ returns c =
     c .before .loop .inv .1 ∙ rw e
 
 pub any-misflagged-spec : {M : Type 1} → statement M
-any-misflagged-spec =
-    tie.close
-    (tie.spec
-    Inv-loop
-    μ-loop
-    loop-holds
-    shared-slice-read-misflagged
-    shared-slice-read-misflagged-2
-    misflagged-requires
-    add-k
-    loop-less
-    loop-again
-    returns)
+any-misflagged-spec = tie.close (tie.spec Inv-loop μ-loop loop-holds shared-slice-read-misflagged
+    shared-slice-read-misflagged-2 misflagged-requires add-k loop-less loop-again returns)

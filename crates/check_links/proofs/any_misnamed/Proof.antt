@@ -70,19 +70,6 @@ returns c =
     c .before .loop .inv .1 ∙ rw e
 
 pub any-misnamed-spec : {M : Type 1} → statement M
-any-misnamed-spec =
-    tie.close
-    (tie.spec
-    Inv-loop
-    μ-loop
-    last-id-requires
-    loop-holds
-    mul-misnamed-past
-    shared-slice-read-misnamed-past
-    mul-misnamed-past-2
-    shared-slice-read-misnamed-past-2
-    misnamed-past-requires
-    add-k
-    loop-less
-    loop-again
-    returns)
+any-misnamed-spec = tie.close (tie.spec Inv-loop μ-loop last-id-requires loop-holds mul-misnamed-past
+    shared-slice-read-misnamed-past mul-misnamed-past-2 shared-slice-read-misnamed-past-2 misnamed-past-requires add-k
+    loop-less loop-again returns)

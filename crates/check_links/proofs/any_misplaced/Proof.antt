@@ -86,22 +86,6 @@ returns-2 c =
     c .before .loop .inv .2 ∙ rw e
 
 pub any-misplaced-spec : {M : Type 1} → statement M
-any-misplaced-spec =
-    tie.close
-    (tie.spec
-    Inv-loop
-    μ-loop
-    returns
-    point-at-requires
-    point-at-requires-2
-    misplaced-requires
-    loop-holds
-    sub-point-at
-    point-at-requires-3
-    point-at-requires-4
-    point-at-requires-5
-    misplaced-after-requires
-    add-k
-    loop-less
-    loop-again
-    returns-2)
+any-misplaced-spec = tie.close (tie.spec Inv-loop μ-loop returns point-at-requires point-at-requires-2
+    misplaced-requires loop-holds sub-point-at point-at-requires-3 point-at-requires-4 point-at-requires-5
+    misplaced-after-requires add-k loop-less loop-again returns-2)

@@ -64,15 +64,5 @@ returns-3 c =
     ap (Refused 4) place ∙ sym (refused-4 _ _ _ wrong no-link)
 
 pub check-each-spec : {M : Type 1} → statement M
-check-each-spec =
-    tie.close
-    (tie.spec
-    any-misplaced-requires
-    sub-any-misnamed
-    any-misnamed-requires
-    any-misflagged-requires
-    returns
-    bad-link-requires
-    returns-2
-    out-of-order-requires
-    returns-3)
+check-each-spec = tie.close (tie.spec any-misplaced-requires sub-any-misnamed any-misnamed-requires
+    any-misflagged-requires returns bad-link-requires returns-2 out-of-order-requires returns-3)

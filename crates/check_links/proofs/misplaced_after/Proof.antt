@@ -35,6 +35,5 @@ returns c =
     )
 
 pub misplaced-after-spec : {M : Type 1} → statement M
-misplaced-after-spec =
-    tie.close
-    (tie.spec outside-requires outside-requires-2 before-requires before-requires-2 returns)
+misplaced-after-spec = tie.close (tie.spec outside-requires outside-requires-2 before-requires before-requires-2
+    returns)
