@@ -5,10 +5,6 @@ use Rattle.answer_graph.proofs.Extracts.{extraction-fits, extracted-tex
 use borrow.Author.Needs.{needs}
 use Rattle.answer_graph.proofs.answer_contours.Statement.{statement}
 use Rattle.answer_graph.proofs.answer_contours.Tie as tie
-use Rattle.answer_graph.proofs.answer_contours.Reads as reads
-use Rattle.answer_graph.proofs.answer_contours.Lts as lts
-use Rattle.answer_table.proofs.answer_extraction.Reads as answer-extraction-reads
-use Rattle.extract.proofs.extract.Reads as extract-reads
 use Rattle.finish.specs.Finish.{Buffers, buffers}
 
 abbrev g : tie.Start → Lent

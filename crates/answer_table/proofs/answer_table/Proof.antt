@@ -5,11 +5,6 @@ use Rattle.writing.specs.Write.{wrote-as}
 use borrow.Author.Needs.{needs}
 use Rattle.answer_table.proofs.answer_table.Statement.{statement}
 use Rattle.answer_table.proofs.answer_table.Tie as tie
-use Rattle.answer_table.proofs.answer_table.Reads as reads
-use Rattle.answer_table.proofs.answer_table.Lts as lts
-use Rattle.bind.proofs.bind.Reads as bind-reads
-use Rattle.print.proofs.write_answer.Reads as write-answer-reads
-use Rattle.print.proofs.write_refusal.Reads as write-refusal-reads
 
 abbrev t : tie.Start → Table
 t s = table (s .args .points .now) (s .args .first .now) (s .args .len .now) (s .args .kind .now)

@@ -13,12 +13,6 @@ use Rattle.turn.specs.Points.{Coord, Grid}
 use borrow.Author.Needs.{needs}
 use Rattle.corners.proofs.area.Statement.{statement}
 use Rattle.corners.proofs.area.Tie as tie
-use Rattle.corners.proofs.area.Reads as reads
-use Rattle.corners.proofs.area.Lts as lts
-use Rattle.corners.proofs.say.Reads as say-reads
-use Rattle.io.proofs.write_all.Reads as write-all-reads
-use Rattle.turn.proofs.absolute.Reads as absolute-reads
-use Rattle.turn.proofs.doubled_area.Reads as doubled-area-reads
 
 -- a coordinate as the array holds it
 abbrev held : ℤ → ℤ

@@ -4,12 +4,8 @@ use Rattle.graph.specs.Graph.{Lent, lent}
 use Rattle.extract.proofs.Answers.{after-refusal, after-fine}
 use Rattle.extract.proofs.extract.Statement.{statement}
 use Rattle.extract.proofs.extract.Tie as tie
-use Rattle.extract.proofs.extract.Reads as reads
-use Rattle.extract.proofs.extract.Lts as lts
-use Rattle.extract.proofs.extract_fine.Reads as extract-fine-reads
 use Rattle.finish.specs.Finish.{Buffers, buffers}
 use borrow.Author.Needs.{needs}
-use Rattle.check_graph.proofs.check_graph.Reads as check-graph-reads
 
 abbrev g : tie.Start → Lent
 g s = lent (s .args .ax .now) (s .args .ay .now) (s .args .bx .now) (s .args .by .now) (s .args .aid .now) (s .args .bid .now) (s .args .start .now)

@@ -10,10 +10,6 @@ use Rattle.finish.specs.Finish.{Buffers, buffers}
 use Rattle.extract.proofs.Answers.{shape-of, roomy-of, tops-long, unmarked, holds, finished-as}
 use Rattle.extract.proofs.extract_fine.Statement.{statement}
 use Rattle.extract.proofs.extract_fine.Tie as tie
-use Rattle.extract.proofs.extract_fine.Reads as reads
-use Rattle.extract.proofs.extract_fine.Lts as lts
-use Rattle.finish.proofs.finish.Reads as finish-reads
-use Rattle.scan.proofs.scan_links.Reads as scan-links-reads
 
 abbrev g : tie.Start → Lent
 g s = lent (s .args .ax .now) (s .args .ay .now) (s .args .bx .now) (s .args .by .now) (s .args .aid .now) (s .args .bid .now) (s .args .start .now)

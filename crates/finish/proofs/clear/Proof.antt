@@ -2,12 +2,6 @@
 use borrow.Author.Needs.{needs}
 use Rattle.finish.proofs.clear.Statement.{statement}
 use Rattle.finish.proofs.clear.Tie as tie
-use Rattle.finish.proofs.clear.Reads as reads
-use Rattle.finish.proofs.clear.Lts as lts
-use Rattle.finish.proofs.restore.Reads as restore-reads
-use Rattle.finish.proofs.zero_bytes.Reads as zero-bytes-reads
-use Rattle.finish.proofs.zero_numbers.Reads as zero-numbers-reads
-use Rattle.finish.proofs.zero_points.Reads as zero-points-reads
 
 restore-requires : tie.Need-restore-requires
 restore-requires c κs = search needs

@@ -5,10 +5,6 @@ use Rattle.scan.specs.declared.Extraction.{Extraction}
 use Rattle.finish.specs.Finish.{Buffers, buffers, finishedBy, Holds}
 use Rattle.finish.proofs.finish.Statement.{statement}
 use Rattle.finish.proofs.finish.Tie as tie
-use Rattle.finish.proofs.finish.Reads as reads
-use Rattle.finish.proofs.finish.Lts as lts
-use Rattle.finish.proofs.clear.Reads as clear-reads
-use Rattle.finish.proofs.trim.Reads as trim-reads
 
 -- the buffers at the start
 abbrev b : tie.Start → Buffers

@@ -6,9 +6,6 @@ use lib.ListN.{length}
 use Rattle.finish.proofs.Rewrites.{Rewriting, rewriting-again, rewritten}
 use Rattle.finish.proofs.restore.Statement.{statement}
 use Rattle.finish.proofs.restore.Tie as tie
-use Rattle.finish.proofs.restore.Reads as reads
-use Rattle.finish.proofs.restore.Lts as lts
-use Rattle.finish.proofs.unmarked.Reads as unmarked-reads
 use Rattle.walk.specs.Code.{unmark}
 
 abbrev Inv-loop : tie.InvT-loop

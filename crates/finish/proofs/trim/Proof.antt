@@ -2,11 +2,6 @@
 use borrow.Author.Needs.{needs}
 use Rattle.finish.proofs.trim.Statement.{statement}
 use Rattle.finish.proofs.trim.Tie as tie
-use Rattle.finish.proofs.trim.Reads as reads
-use Rattle.finish.proofs.trim.Lts as lts
-use Rattle.finish.proofs.zero_bytes.Reads as zero-bytes-reads
-use Rattle.finish.proofs.zero_numbers.Reads as zero-numbers-reads
-use Rattle.finish.proofs.zero_points.Reads as zero-points-reads
 
 mul-zero-points : tie.Need-mul-zero-points
 mul-zero-points c = search needs

@@ -2,8 +2,6 @@
 use borrow.Author.Tests.{eq-eqb, ne-eqb}
 use Rattle.finish.proofs.unmarked.Statement.{statement}
 use Rattle.finish.proofs.unmarked.Tie as tie
-use Rattle.finish.proofs.unmarked.Reads as reads
-use Rattle.finish.proofs.unmarked.Lts as lts
 
 returns : tie.Need-returns
 returns c = rw (eq-eqb _ _ (c .if1 .taken))

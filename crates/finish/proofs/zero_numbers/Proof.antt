@@ -6,8 +6,6 @@ use lib.ListN.{length}
 use Rattle.finish.proofs.Rewrites.{Rewriting, rewriting-again, rewritten}
 use Rattle.finish.proofs.zero_numbers.Statement.{statement}
 use Rattle.finish.proofs.zero_numbers.Tie as tie
-use Rattle.finish.proofs.zero_numbers.Reads as reads
-use Rattle.finish.proofs.zero_numbers.Lts as lts
 
 abbrev Inv-loop : tie.InvT-loop
 Inv-loop s₀ from i₀ s i = Rewriting (λ _. 0) from s₀ i s

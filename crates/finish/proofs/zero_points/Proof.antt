@@ -6,8 +6,6 @@ use lib.ListN.{length}
 use Rattle.finish.proofs.Rewrites.{Rewriting, rewriting-again, rewritten}
 use Rattle.finish.proofs.zero_points.Statement.{statement}
 use Rattle.finish.proofs.zero_points.Tie as tie
-use Rattle.finish.proofs.zero_points.Reads as reads
-use Rattle.finish.proofs.zero_points.Lts as lts
 use lib.IntN.{pos}
 
 abbrev Inv-loop : tie.InvT-loop

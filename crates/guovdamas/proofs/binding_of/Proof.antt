@@ -4,8 +4,6 @@ use Rattle.guovdamas.specs.Numbers.{bindingOf}
 use borrow.Author.Needs.{needs}
 use Rattle.guovdamas.proofs.binding_of.Statement.{statement}
 use Rattle.guovdamas.proofs.binding_of.Tie as tie
-use Rattle.guovdamas.proofs.binding_of.Reads as reads
-use Rattle.guovdamas.proofs.binding_of.Lts as lts
 
 -- src/lib.rt:79:26
 enum-known-answer : tie.Need-enum-known-answer

@@ -6,8 +6,6 @@ use Rattle.guovdamas.specs.Numbers.{extractionOf}
 use borrow.Author.Needs.{needs}
 use Rattle.guovdamas.proofs.extraction_of.Statement.{statement}
 use Rattle.guovdamas.proofs.extraction_of.Tie as tie
-use Rattle.guovdamas.proofs.extraction_of.Reads as reads
-use Rattle.guovdamas.proofs.extraction_of.Lts as lts
 
 -- src/lib.rt:50:26
 enum-known-answer : tie.Need-enum-known-answer

@@ -4,11 +4,6 @@ use Rattle.guovdamas.specs.Numbers.{foundRecord}
 use borrow.Author.Needs.{needs}
 use Rattle.guovdamas.proofs.found_record.Statement.{statement}
 use Rattle.guovdamas.proofs.found_record.Tie as tie
-use Rattle.guovdamas.proofs.found_record.Reads as reads
-use Rattle.guovdamas.proofs.found_record.Lts as lts
-use Rattle.guovdamas.proofs.role_number.Reads as role-number-reads
-use Rattle.guovdamas.proofs.role_owner.Reads as role-owner-reads
-use Rattle.guovdamas.proofs.as_u32.Reads as as-u32-reads
 
 -- src/lib.rt:105:15
 role-number-requires : tie.Need-role-number-requires

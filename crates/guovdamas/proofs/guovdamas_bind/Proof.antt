@@ -3,10 +3,6 @@ use Rattle.guovdamas.proofs.Numbered.{binding-numbered}
 use borrow.Author.Needs.{needs}
 use Rattle.guovdamas.proofs.guovdamas_bind.Statement.{statement}
 use Rattle.guovdamas.proofs.guovdamas_bind.Tie as tie
-use Rattle.guovdamas.proofs.guovdamas_bind.Reads as reads
-use Rattle.guovdamas.proofs.guovdamas_bind.Lts as lts
-use Rattle.bind.proofs.bind.Reads as bind-reads
-use Rattle.guovdamas.proofs.binding_of.Reads as binding-of-reads
 
 -- src/lib.rt:189:9
 bind-requires : tie.Need-bind-requires

@@ -3,10 +3,6 @@ use Rattle.guovdamas.proofs.Numbered.{extraction-numbered}
 use borrow.Author.Needs.{needs}
 use Rattle.guovdamas.proofs.guovdamas_extract.Statement.{statement}
 use Rattle.guovdamas.proofs.guovdamas_extract.Tie as tie
-use Rattle.guovdamas.proofs.guovdamas_extract.Reads as reads
-use Rattle.guovdamas.proofs.guovdamas_extract.Lts as lts
-use Rattle.guovdamas.proofs.extraction_of.Reads as extraction-of-reads
-use Rattle.extract.proofs.extract.Reads as extract-reads
 
 -- src/lib.rt:150:9
 extract-requires : tie.Need-extract-requires

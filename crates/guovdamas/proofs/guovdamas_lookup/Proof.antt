@@ -4,10 +4,6 @@ use Rattle.guovdamas.specs.Numbers.{recordNumbers}
 use borrow.Author.Needs.{needs}
 use Rattle.guovdamas.proofs.guovdamas_lookup.Statement.{statement}
 use Rattle.guovdamas.proofs.guovdamas_lookup.Tie as tie
-use Rattle.guovdamas.proofs.guovdamas_lookup.Reads as reads
-use Rattle.guovdamas.proofs.guovdamas_lookup.Lts as lts
-use Rattle.guovdamas.proofs.record_of.Reads as record-of-reads
-use Rattle.lookup.proofs.lookup.Reads as lookup-reads
 
 -- src/lib.rt:168:15
 lookup-requires : tie.Need-lookup-requires

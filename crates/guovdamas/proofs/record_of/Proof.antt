@@ -4,9 +4,6 @@ use Rattle.guovdamas.specs.Numbers.{recordNumbers}
 use borrow.Author.Needs.{needs}
 use Rattle.guovdamas.proofs.record_of.Statement.{statement}
 use Rattle.guovdamas.proofs.record_of.Tie as tie
-use Rattle.guovdamas.proofs.record_of.Reads as reads
-use Rattle.guovdamas.proofs.record_of.Lts as lts
-use Rattle.guovdamas.proofs.found_record.Reads as found-record-reads
 
 -- src/lib.rt:116:23
 enum-known-answer : tie.Need-enum-known-answer

@@ -4,9 +4,6 @@ use lib.ListN.{set}
 use borrow.Author.Needs.{needs}
 use Rattle.keep.proofs.enter_contour.Statement.{statement}
 use Rattle.keep.proofs.enter_contour.Tie as tie
-use Rattle.keep.proofs.enter_contour.Reads as reads
-use Rattle.keep.proofs.enter_contour.Lts as lts
-use Rattle.keep.proofs.kind_of.Reads as kind-of-reads
 
 cast-first : tie.Need-cast-first
 cast-first c = search needs

@@ -8,8 +8,6 @@ use Rattle.keep.specs.Tables.{sum-within}
 use Rattle.keep.proofs.Counting.{area-fits}
 use Rattle.keep.proofs.kept_counts.Statement.{statement}
 use Rattle.keep.proofs.kept_counts.Tie as tie
-use Rattle.keep.proofs.kept_counts.Reads as reads
-use Rattle.keep.proofs.kept_counts.Lts as lts
 use borrow.Author.Needs.{needs}
 
 -- the sum and both of its parts fit

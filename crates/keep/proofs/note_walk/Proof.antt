@@ -11,16 +11,9 @@ use Rattle.turn.specs.Area.{wedgeBound}
 use Rattle.keep.proofs.Counting.{note-kept, note-rejected, part-bound, part-short, area-fits}
 use Rattle.keep.proofs.note_walk.Statement.{statement}
 use Rattle.keep.proofs.note_walk.Tie as tie
-use Rattle.keep.proofs.note_walk.Reads as reads
-use Rattle.keep.proofs.note_walk.Lts as lts
-use Rattle.keep.proofs.enter_contour.Reads as enter-contour-reads
-use Rattle.keep.proofs.kept_counts.Reads as kept-counts-reads
-use Rattle.keep.proofs.rejected_counts.Reads as rejected-counts-reads
 use Rattle.keep.specs.Tables.{tables}
 use Rattle.keep.specs.Ledger.{kept-three}
 use borrow.Author.Needs.{needs}
-use Rattle.turn.proofs.doubled_area.Reads as doubled-area-reads
-use Rattle.turn.proofs.is_kept.Reads as is-kept-reads
 
 abbrev at-start : tie.After-doubled-area → tie.Start
 at-start c = c .before .before .before .before .before

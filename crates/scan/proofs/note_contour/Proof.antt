@@ -11,12 +11,6 @@ use Rattle.next.specs.Next.{unvisited}
 use Rattle.scan.proofs.Noting.{marks-of, Finish, finish, stuck-at, stuck-noted, part-grid, walk-noted, walk-fewer, within-less}
 use Rattle.scan.proofs.note_contour.Statement.{statement}
 use Rattle.scan.proofs.note_contour.Tie as tie
-use Rattle.scan.proofs.note_contour.Reads as reads
-use Rattle.scan.proofs.note_contour.Lts as lts
-use Rattle.walk.proofs.find_contour.Reads as find-contour-reads
-use Rattle.scan.proofs.mark_of.Reads as mark-of-reads
-use Rattle.keep.proofs.note_walk.Reads as note-walk-reads
-use Rattle.scan.proofs.same.Reads as same-reads
 use Rattle.walk.specs.Walk.{Walked, walkFrom, markOf}
 use Rattle.walk.specs.Code.{plain, Counted, WalkLeaves}
 use Rattle.keep.specs.Tables.{Tables, tables}

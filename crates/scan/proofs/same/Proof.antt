@@ -3,8 +3,6 @@ use mathlib.Core.Path.{_≡_, refl}
 use mathlib.Core.Bool.{Bool, true, false, not, _&&_, _||_, Bool·beq}
 use Rattle.scan.proofs.same.Statement.{statement}
 use Rattle.scan.proofs.same.Tie as tie
-use Rattle.scan.proofs.same.Reads as reads
-use Rattle.scan.proofs.same.Lts as lts
 
 both : (a b : Bool) → (a && b) || (not a && not b) ≡ Bool·beq a b
 both true true = refl

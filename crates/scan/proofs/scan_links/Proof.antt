@@ -13,9 +13,6 @@ use Rattle.scan.proofs.Noting.{within-less}
 use Rattle.scan.proofs.Scans.{Scanning, scan-moves, scan-refused, scan-again, scan-over, none-yet, fewer-of}
 use Rattle.scan.proofs.scan_links.Statement.{statement}
 use Rattle.scan.proofs.scan_links.Tie as tie
-use Rattle.scan.proofs.scan_links.Reads as reads
-use Rattle.scan.proofs.scan_links.Lts as lts
-use Rattle.scan.proofs.scan_walk.Reads as scan-walk-reads
 use Rattle.scan.specs.Notes.{Roomy}
 use Rattle.walk.specs.Marks.{kept-then}
 

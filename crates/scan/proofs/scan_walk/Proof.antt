@@ -6,13 +6,9 @@ use Rattle.graph.specs.Graph.{Lent, lent}
 use Rattle.scan.proofs.Noting.{first-nothing, first-link}
 use Rattle.scan.proofs.scan_walk.Statement.{statement}
 use Rattle.scan.proofs.scan_walk.Tie as tie
-use Rattle.scan.proofs.scan_walk.Reads as reads
-use Rattle.scan.proofs.scan_walk.Lts as lts
-use Rattle.scan.proofs.note_contour.Reads as note-contour-reads
 use Rattle.keep.specs.Tables.{Tables, tables}
 use Rattle.walk.specs.Marks.{kept-none}
 use borrow.Author.Needs.{needs}
-use Rattle.next.proofs.find_left_top_link.Reads as find-left-top-link-reads
 
 abbrev g : tie.Start → Lent
 g s = lent (s .args .ax .now) (s .args .ay .now) (s .args .bx .now) (s .args .by .now) (s .args .aid .now) (s .args .bid .now) (s .args .start .now)

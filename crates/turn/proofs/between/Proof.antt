@@ -4,9 +4,6 @@ use Rattle.laws.specs.Bounds.{same32, same64}
 use borrow.Author.Needs.{needs}
 use Rattle.turn.proofs.between.Statement.{statement}
 use Rattle.turn.proofs.between.Tie as tie
-use Rattle.turn.proofs.between.Reads as reads
-use Rattle.turn.proofs.between.Lts as lts
-use Rattle.turn.proofs.difference.Reads as difference-reads
 
 difference-requires : tie.Need-difference-requires
 difference-requires c κs = search needs

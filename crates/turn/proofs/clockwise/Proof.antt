@@ -7,9 +7,6 @@ use Rattle.laws.specs.Bounds.{same64}
 use borrow.Author.Needs.{needs}
 use Rattle.turn.proofs.clockwise.Statement.{statement}
 use Rattle.turn.proofs.clockwise.Tie as tie
-use Rattle.turn.proofs.clockwise.Reads as reads
-use Rattle.turn.proofs.clockwise.Lts as lts
-use Rattle.turn.proofs.turn_of.Reads as turn-of-reads
 
 turn-of-requires : tie.Need-turn-of-requires
 turn-of-requires c κs = search needs

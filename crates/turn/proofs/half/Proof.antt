@@ -6,9 +6,6 @@ use mathlib.Core.Path.{ap}
 use borrow.Author.Needs.{needs}
 use Rattle.turn.proofs.half.Statement.{statement}
 use Rattle.turn.proofs.half.Tie as tie
-use Rattle.turn.proofs.half.Reads as reads
-use Rattle.turn.proofs.half.Lts as lts
-use Rattle.turn.proofs.absolute.Reads as absolute-reads
 
 absolute-requires : tie.Need-absolute-requires
 absolute-requires c κs = search needs

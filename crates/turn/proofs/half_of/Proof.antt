@@ -14,11 +14,6 @@ use Rattle.turn.proofs.Halves.{told, in-early, in-late, in-flat}
 use borrow.Author.Needs.{needs}
 use Rattle.turn.proofs.half_of.Statement.{statement}
 use Rattle.turn.proofs.half_of.Tie as tie
-use Rattle.turn.proofs.half_of.Reads as reads
-use Rattle.turn.proofs.half_of.Lts as lts
-use Rattle.turn.proofs.cross_product.Reads as cross-product-reads
-use Rattle.turn.proofs.dot_product.Reads as dot-product-reads
-use Rattle.turn.proofs.turns.Reads as turns-reads
 
 cross-product-requires : tie.Need-cross-product-requires
 cross-product-requires c κs = search needs

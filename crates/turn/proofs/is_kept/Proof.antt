@@ -7,9 +7,6 @@ use lib.Dec.{leb, eqb}
 use borrow.Author.Needs.{needs}
 use Rattle.turn.proofs.is_kept.Statement.{statement}
 use Rattle.turn.proofs.is_kept.Tie as tie
-use Rattle.turn.proofs.is_kept.Reads as reads
-use Rattle.turn.proofs.is_kept.Lts as lts
-use Rattle.turn.proofs.half.Reads as half-reads
 
 half-requires : tie.Need-half-requires
 half-requires c κs = search needs

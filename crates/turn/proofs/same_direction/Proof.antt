@@ -7,10 +7,6 @@ use Rattle.laws.specs.Sign.{zer, pls, sgn, eqS, eq0-sgn, gtZ-sgn}
 use borrow.Author.Needs.{needs}
 use Rattle.turn.proofs.same_direction.Statement.{statement}
 use Rattle.turn.proofs.same_direction.Tie as tie
-use Rattle.turn.proofs.same_direction.Reads as reads
-use Rattle.turn.proofs.same_direction.Lts as lts
-use Rattle.turn.proofs.cross_product.Reads as cross-product-reads
-use Rattle.turn.proofs.dot_product.Reads as dot-product-reads
 
 cross-product-requires : tie.Need-cross-product-requires
 cross-product-requires c κs = search needs

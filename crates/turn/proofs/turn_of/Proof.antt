@@ -4,10 +4,6 @@ use Rattle.laws.specs.Bounds.{same64}
 use borrow.Author.Needs.{needs}
 use Rattle.turn.proofs.turn_of.Statement.{statement}
 use Rattle.turn.proofs.turn_of.Tie as tie
-use Rattle.turn.proofs.turn_of.Reads as reads
-use Rattle.turn.proofs.turn_of.Lts as lts
-use Rattle.turn.proofs.between.Reads as between-reads
-use Rattle.turn.proofs.cross_product.Reads as cross-product-reads
 
 between-requires : tie.Need-between-requires
 between-requires c κs = search needs

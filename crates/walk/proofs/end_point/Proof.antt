@@ -5,8 +5,6 @@ use borrow.Author.Needs.{sfits-of}
 use borrow.Author.Needs.{needs}
 use Rattle.walk.proofs.end_point.Statement.{statement}
 use Rattle.walk.proofs.end_point.Tie as tie
-use Rattle.walk.proofs.end_point.Reads as reads
-use Rattle.walk.proofs.end_point.Lts as lts
 
 mul-t9 : tie.Need-mul-t9
 mul-t9 c = search needs

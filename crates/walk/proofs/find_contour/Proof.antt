@@ -9,13 +9,6 @@ use Rattle.next.specs.Next.{unvisited}
 use Rattle.walk.proofs.Steps.{end-there, starts-nowhere, starts-on, counted-on}
 use Rattle.walk.proofs.find_contour.Statement.{statement}
 use Rattle.walk.proofs.find_contour.Tie as tie
-use Rattle.walk.proofs.find_contour.Reads as reads
-use Rattle.walk.proofs.find_contour.Lts as lts
-use Rattle.walk.proofs.end_node.Reads as end-node-reads
-use Rattle.walk.proofs.end_point.Reads as end-point-reads
-use Rattle.walk.proofs.last_link.Reads as last-link-reads
-use Rattle.walk.proofs.put_point.Reads as put-point-reads
-use Rattle.walk.proofs.walk_on.Reads as walk-on-reads
 use Rattle.walk.specs.Code.{plain, Kept}
 use Rattle.walk.specs.Marks.{kept-mark, kept-then, fewer}
 use borrow.Author.Needs.{needs}

@@ -3,8 +3,6 @@ use native.Mathlib.Omega.{arith}
 use borrow.Author.Needs.{needs}
 use Rattle.walk.proofs.node_at.Statement.{statement}
 use Rattle.walk.proofs.node_at.Tie as tie
-use Rattle.walk.proofs.node_at.Reads as reads
-use Rattle.walk.proofs.node_at.Lts as lts
 
 mul-result : tie.Need-mul-result
 mul-result c = search needs

@@ -10,12 +10,6 @@ use Rattle.next.specs.Next.{unvisited}
 use Rattle.walk.proofs.Steps.{step-went, step-nowhere, other-there}
 use Rattle.walk.proofs.one_step.Statement.{statement}
 use Rattle.walk.proofs.one_step.Tie as tie
-use Rattle.walk.proofs.one_step.Reads as reads
-use Rattle.walk.proofs.one_step.Lts as lts
-use Rattle.walk.proofs.end_point.Reads as end-point-reads
-use Rattle.walk.proofs.node_at.Reads as node-at-reads
-use Rattle.walk.proofs.other_node.Reads as other-node-reads
-use Rattle.walk.proofs.put_point.Reads as put-point-reads
 use Rattle.walk.specs.Marks.{kept-mark, kept-none, fewer}
 use borrow.Author.Needs.{needs}
 

@@ -4,9 +4,6 @@ use borrow.Author.Tests.{eq-eqb, ne-eqb}
 use borrow.Author.Needs.{needs}
 use Rattle.walk.proofs.other_node.Statement.{statement}
 use Rattle.walk.proofs.other_node.Tie as tie
-use Rattle.walk.proofs.other_node.Reads as reads
-use Rattle.walk.proofs.other_node.Lts as lts
-use Rattle.walk.proofs.node_at.Reads as node-at-reads
 
 node-at-requires : tie.Need-node-at-requires
 node-at-requires c κs = search needs

@@ -9,9 +9,6 @@ use Rattle.next.specs.Next.{unvisited}
 use Rattle.walk.proofs.Steps.{Walking, walking-again, walking-less, ends-home, ends-away, ends-nowhere}
 use Rattle.walk.proofs.walk_on.Statement.{statement}
 use Rattle.walk.proofs.walk_on.Tie as tie
-use Rattle.walk.proofs.walk_on.Reads as reads
-use Rattle.walk.proofs.walk_on.Lts as lts
-use Rattle.walk.proofs.one_step.Reads as one-step-reads
 use Rattle.walk.specs.Code.{plain}
 use Rattle.walk.specs.Marks.{kept-none, kept-then}
 
