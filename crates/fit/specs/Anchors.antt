@@ -1,18 +1,16 @@
 -- Check 11: every hole's anchor is the least point of its walk, and the anchors come in order.
-use Prim.Native.Nat.{ℕ, zero, suc, _+_, _≤_, _<_}
+use Prim.Native.Nat.{ℕ, zero, suc, _≤_, _<_}
 use native.Mathlib.Omega.{arith}
 use native.Mathlib.Decide.{ℕ-discrete, decLe}
-use mathlib.Core.Path.{_≡_, refl, sym, ap, ap₂, _∙_, subst}
-use mathlib.Core.Logic.{_⊎_, inl, inr, ⊎-elim}
-use mathlib.Core.Bool.{Bool, true, false, not, Bool·beq}
-use mathlib.Core.List.{List, [], _∷_, map, List·Memᴰ, List·Memᴰ·head, List·Memᴰ·tail, List·Memᴰ·cases-cons, List·Memᴰ·not-nil}
-use lib.ListN.{length, getD, set, length-set}
-use lib.Dec.{eqb, ltb}
-use Rattle.laws.specs.Test.{pick, pick-ind, true≢false, not-true}
-use Rattle.laws.specs.Lowest.{None, Found, some-of}
-use Rattle.turn.specs.declared.Point.{Point}
+use mathlib.Core.Path.{_≡_, refl, sym, ap, _∙_, subst}
+use mathlib.Core.Logic.{_⊎_, ⊎-elim}
+use mathlib.Core.Bool.{Bool, true, false, not}
+use mathlib.Core.List.{List, [], _∷_, List·Memᴰ, List·Memᴰ·head, List·Memᴰ·tail}
+use lib.ListN.{length, set}
+use lib.Dec.{ltb}
+use Rattle.laws.specs.Test.{pick, pick-ind, true≢false}
+use Rattle.laws.specs.Lowest.{None, some-of}
 use Rattle.turn.specs.Points.{before, clockwise}
-use Rattle.turn.specs.PointOrder.{before-transitive}
 use Rattle.graph.specs.Graph.{Graph, Lent, graphOf}
 use Rattle.graph.specs.Checks.{Room}
 use Rattle.graph.specs.Fine.{FineGraph}

@@ -1,14 +1,13 @@
 -- The areas add up: a contour's range in the table holds its walk's points, and the areas of all contours sum to the kept total that extraction returns.
-use Prim.Native.Nat.{ℕ, zero, suc, _+_, _*_, _≤_, _<_}
+use Prim.Native.Nat.{ℕ, zero, suc, _+_, _<_}
 use native.Mathlib.Omega.{arith}
-use mathlib.Core.Path.{_≡_, refl, sym, ap, ap₂, _∙_, subst}
+use mathlib.Core.Path.{_≡_, refl, sym, ap, ap₂, _∙_}
 use mathlib.Core.Bool.{Bool}
-use mathlib.Core.List.{List, [], _∷_, _++_, map}
+use mathlib.Core.List.{List, [], _∷_, _++_}
 use lib.ListN.{length, getD, take, drop, length-map}
 use lib.Seq.{take-at, drop-append-add}
 use lib.IntN.{ℤ, pos, _+ℤ_}
-use Rattle.turn.specs.declared.Point.{Point}
-use Rattle.turn.specs.Area.{area, pointsOf}
+use Rattle.turn.specs.Area.{area}
 use Rattle.graph.specs.Graph.{Graph, Lent, graphOf}
 use Rattle.keep.specs.declared.Counts.{Counts}
 use Rattle.scan.specs.declared.Extraction.the-variants.{Done}
@@ -19,7 +18,7 @@ use Rattle.extract.specs.Extract.{extractedAs, extracted}
 use Rattle.finish.specs.Finish.{Buffers}
 use Rattle.table.specs.Table.{Table, contour, contourCount}
 use Rattle.fit.specs.Places.{tableOf, walkAt, firsts-length, firsts-from, lens-length}
-use Rattle.fit.specs.Fit.{writtenTable, Ran, ran}
+use Rattle.fit.specs.Fit.{writtenTable, ran}
 
 -- f 0 + f 1 + .. + f (n - 1)
 abbrev pub sumTo : (ℕ → ℤ) → ℕ → ℤ

@@ -5,10 +5,9 @@ use mathlib.Core.Path.{_≡_, refl, sym, ap, ap₂, _∙_, subst}
 use mathlib.Core.Bool.{Bool, true, false}
 use mathlib.Core.List.{List, [], _∷_, map, List·Memᴰ, List·Memᴰ·head, List·Memᴰ·tail}
 use lib.ListN.{length, getD, take, length-map}
-use lib.Seq.{take-append-seam, take-at}
-use lib.Dec.{eqb}
+use lib.Seq.{take-at}
 use borrow.Author.Tests.{eqb-true}
-use Rattle.laws.specs.Test.{pick, true≢false}
+use Rattle.laws.specs.Test.{pick}
 use Rattle.turn.specs.Points.{before}
 use Rattle.graph.specs.Graph.{Graph, Lent, graphOf}
 use Rattle.graph.specs.Checks.{Room, room, checked}
@@ -30,10 +29,9 @@ use Rattle.anchor.specs.Anchor.{anchorPoint}
 use Rattle.table.specs.TableChecks.{tableChecked}
 use Rattle.anchor.specs.AnchorChecks.{anchorsChecked}
 use Rattle.turn.specs.declared.Checked.the-variants as check
-use Rattle.anchor.specs.Anchored.{Anchored}
 use Rattle.table.specs.Passing.{passes-sound}
 use Rattle.anchor.specs.Anchoring.{passes-anchored}
-use Rattle.fit.specs.Places.{tableOf, walkAt, noWalk, origin, firsts-length, lens-length, lens-at, kinds-at, point-at}
+use Rattle.fit.specs.Places.{tableOf, walkAt, origin, firsts-length, lens-length, lens-at, kinds-at, point-at}
 use Rattle.fit.specs.Sizes.{table-sound, at-walks, three, links-in}
 use Rattle.fit.specs.Anchors.{AllBegin, Led, scan-begins}
 use Rattle.fit.specs.Leads.{lead, Leads, all-lead, all-ordered, kept-ordered, ordered-at, anchor-lead}

@@ -1,14 +1,13 @@
 -- The point at which a walk leads: the a of its first link is least among the walk's points and not before an earlier walk's; for a hole it is the anchor.
-use Prim.Native.Nat.{ℕ, zero, suc, _+_, _≤_, _<_}
+use Prim.Native.Nat.{ℕ, zero, suc, _≤_, _<_}
 use native.Mathlib.Omega.{arith}
 use mathlib.Core.Path.{_≡_, refl, sym, ap, _∙_, subst}
-use mathlib.Core.Logic.{_⊎_, inl, inr, ⊎-elim}
+use mathlib.Core.Logic.{_⊎_, ⊎-elim}
 use mathlib.Core.Bool.{Bool, true, false, not, Bool·beq}
 use mathlib.Core.List.{List, [], _∷_, map, List·Memᴰ, List·Memᴰ·head, List·Memᴰ·tail, List·Memᴰ·cases-cons, List·Memᴰ·not-nil}
 use lib.ListN.{length, getD, set}
-use Rattle.laws.specs.Test.{pick, pick-ind, true≢false, not-true}
+use Rattle.laws.specs.Test.{pick, true≢false, not-true}
 use Rattle.laws.specs.Lists.{member}
-use Rattle.turn.specs.declared.Point.{Point}
 use Rattle.turn.specs.Points.{before}
 use Rattle.turn.specs.PointOrder.{before-transitive}
 use Rattle.graph.specs.Graph.{Graph, Lent, graphOf}
@@ -21,7 +20,7 @@ use Rattle.keep.specs.Outcome.{keeps, kept}
 use Rattle.walk.specs.States.{Mark, set-of}
 use Rattle.walk.specs.Visits.{Fresh, mark-of}
 use Rattle.scan.specs.Visits.{AllFresh}
-use Rattle.tour.specs.Statement.{Line, nodeLeft, nodeReached, reached}
+use Rattle.tour.specs.Statement.{Line}
 use Rattle.fit.specs.Places.{origin, walkAt, noWalk}
 use Rattle.fit.specs.Rounds.{Links, meets}
 use Rattle.fit.specs.Sizes.{kept-of}

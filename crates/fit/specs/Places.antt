@@ -1,18 +1,18 @@
 -- Where the points of a walk stand in the table that extraction writes: contour c of the table is the c-th kept walk.
 use Prim.Native.Nat.{ℕ, zero, suc, _+_, _*_, _≤_, _<_}
 use native.Mathlib.Omega.{arith}
-use mathlib.Core.Path.{_≡_, refl, sym, ap, ap₂, _∙_, subst}
-use mathlib.Core.Bool.{Bool, true, false}
-use mathlib.Core.List.{List, [], _∷_, _++_, map}
-use lib.ListN.{length, getD, length-map, length-append, List·getD-append, List·getD-map}
+use mathlib.Core.Path.{_≡_, refl, ap, ap₂, _∙_}
+use mathlib.Core.Bool.{false}
+use mathlib.Core.List.{List, [], _∷_, _++_}
+use lib.ListN.{length, getD, length-map, List·getD-append, List·getD-map}
 use lib.Seq.{getD-append-add}
-use lib.IntN.{ℤ, pos}
+use lib.IntN.{pos}
 use Rattle.laws.specs.Test.{pick}
 use Rattle.turn.specs.declared.Point.{Point}
 use Rattle.graph.specs.Graph.{Graph}
 use Rattle.table.specs.Table.{Table, table, pointIn}
 use Rattle.walk.specs.Walk.{Walk, left, points}
-use Rattle.keep.specs.Outcome.{lens, firsts, kinds, allPoints, coordinates, sum, kept}
+use Rattle.keep.specs.Outcome.{lens, firsts, kinds, allPoints, coordinates, sum}
 
 -- what extraction writes of its kept walks
 abbrev pub tableOf : Graph → List Walk → Table

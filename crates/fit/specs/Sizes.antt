@@ -1,10 +1,10 @@
 -- Check 10: the table of the kept walks of a graph that passes checks 1 to 7.
-use Prim.Native.Nat.{ℕ, zero, suc, _+_, _*_, _-_, _/_, _≤_, _<_}
+use Prim.Native.Nat.{ℕ, zero, suc, _+_, _*_, _-_, _≤_, _<_}
 use native.Mathlib.Omega.{arith}
 use native.Mathlib.Numerals.{add-one}
 use native.Mathlib.Decide.{ℕ-discrete}
 use mathlib.Core.Path.{_≡_, refl, sym, ap, ap₂, _∙_, subst}
-use mathlib.Core.Logic.{_⊎_, inl, inr, ⊎-elim}
+use mathlib.Core.Logic.{_⊎_, ⊎-elim}
 use mathlib.Core.Bool.{Bool, true, false}
 use mathlib.Core.List.{List, [], _∷_, _++_, map, List·Memᴰ, List·Memᴰ·head, List·Memᴰ·tail, List·Memᴰ·cases-cons, List·Memᴰ·not-nil}
 use lib.ListN.{length, getD, length-map}
@@ -12,7 +12,6 @@ use lib.Dec.{eqb}
 use Rattle.laws.specs.Test.{pick, pick-ind}
 use Rattle.laws.specs.Lists.{member}
 use Rattle.turn.specs.declared.Point.{Point}
-use Rattle.turn.specs.Limits.{maxLinks}
 use Rattle.turn.specs.Points.{differ, Grid, OnGrid}
 use Rattle.graph.specs.Graph.{Graph, Lent, graphOf}
 use Rattle.graph.specs.Checks.{Room, checked}
@@ -24,15 +23,15 @@ use Rattle.scan.specs.Scan.{walks, scan}
 use Rattle.keep.specs.Outcome.{keeps, kept, lens, firsts, kinds, allPoints, coordinates, sum}
 use Rattle.keep.specs.Ledger.{coordinates-length, all-points-length}
 use Rattle.scan.specs.Visits.{scanned}
-use Rattle.tour.specs.Statement.{Closed, Line, nodeLeft}
+use Rattle.tour.specs.Statement.{Line}
 use Rattle.tour.specs.ThreePoints.{finished}
-use Rattle.table.specs.Table.{Table, firstOf, rangeEnd, lenOf, contourCount, pointCount, point, next, nextIn}
+use Rattle.table.specs.Table.{Table, firstOf, rangeEnd, lenOf, contourCount, pointCount, point, next}
 use Rattle.table.specs.TableChecks.{startIn}
 use Rattle.table.specs.TableLaws.{next-inside, next-last}
 use Rattle.table.specs.Sound.{Sound}
 use Rattle.fit.specs.Places.{tableOf, walkAt, noWalk, origin, firsts-length, firsts-follow, firsts-end, firsts-within, lens-at, kinds-at}
 use Rattle.fit.specs.Places.{lens-length, point-at}
-use Rattle.fit.specs.Rounds.{Links, left-grid, line-next, line-last, walked-below}
+use Rattle.fit.specs.Rounds.{left-grid, line-next, line-last, walked-below}
 
 -- ---- a kept walk is one of the walks, and has three points or more
 pub kept-of : (g : Graph) (minimum : ℕ) (ws : List Walk) (w : Walk) → List·Memᴰ w (kept g minimum ws) → List·Memᴰ w ws

@@ -8,14 +8,12 @@ use mathlib.Core.List.{List}
 use lib.Dec.{ltb, eqb}
 use lib.ListN.{length, getD}
 use borrow.Author.Tests.{eqb-false, ne-eqb, lt-ltb}
-use Rattle.laws.specs.Test.{pick, and-false, true≢false}
-use Rattle.laws.specs.Fails.{Iff, Fails, then, lt-fails, le-fails, eq-fails, ne-fails, not-fails, or-fails, some-fails}
+use Rattle.laws.specs.Test.{and-false, true≢false}
+use Rattle.laws.specs.Fails.{Fails, then, lt-fails, le-fails, eq-fails, ne-fails, not-fails, or-fails, some-fails}
 use Rattle.laws.specs.Lowest.{some, None, none-of, some-no}
 use Rattle.turn.specs.declared.Point.{Point}
 use Rattle.turn.specs.Points.{before, OnGrid}
 use Rattle.turn.specs.Angle.{sameDirection}
-use Rattle.turn.specs.declared.Checked.{Checked}
-use Rattle.turn.specs.declared.Checked.the-variants.{Fine, Refused}
 use Rattle.graph.specs.Graph.{Lent}
 use Rattle.graph.specs.Checks.{unlike, unlikeBand, fewContours, misplaced, misnamed, misflagged, outOfOrder, badStarts, stray, someTwo, endAt}
 use Rattle.graph.specs.Checks.{away, apart, skipped, alike}

@@ -1,7 +1,7 @@
 -- Document 01's numbers and values for each case of each answer, as they stand in the structs that cross the boundary.
 use Prim.Native.Nat.{ℕ}
 use mathlib.Core.List.{List}
-use lib.IntN.{ℤ, pos}
+use lib.IntN.{pos}
 use Rattle.scan.specs.declared.Extraction.{Extraction}
 use Rattle.scan.specs.declared.Extraction.the-variants.{Done, Refused}
 use Rattle.extract.specs.Extract.{Extracted}

@@ -4,10 +4,7 @@ use Rattle.check_graph.proofs.any_node_wrong.Tie as tie
 use Prim.Native.Nat.{ℕ, _≤_, _-_}
 use native.Mathlib.Omega.{arith}
 use mathlib.Core.Path.{_≡_, sym, ap, _∙_}
-use mathlib.Core.Bool.{Bool}
 use mathlib.Core.List.{List}
-use lib.ListN.{length}
-use borrow.Author.Needs.{needs}
 use borrow.Author.Count.{below-none, below-more}
 use Rattle.laws.specs.Lowest.{None, some-yes, some-no}
 use Rattle.graph.specs.Graph.{pointAt, part}

@@ -3,7 +3,7 @@ use Rattle.check_graph.proofs.bridge_wrong.Statement.{statement}
 use Rattle.check_graph.proofs.bridge_wrong.Tie as tie
 use Prim.Native.Nat.{_<_}
 use mathlib.Core.Path.{_≡_, sym, ap, ap₂, _∙_}
-use mathlib.Core.Bool.{Bool, false, _||_}
+use mathlib.Core.Bool.{Bool, _||_}
 use lib.Dec.{eqb}
 use lib.ListN.{length}
 use borrow.Author.Needs.{needs}

@@ -1,6 +1,5 @@
 -- `extract::extract_fine` meets its contract: the checks give the scan what it asks for, and what it leaves is finished.
 use borrow.Author.Needs.{needs}
-use mathlib.Core.Path.{_≡_}
 use lib.ListN.{length}
 use Rattle.graph.specs.Graph.{Lent, lent, graphOf}
 use Rattle.graph.specs.Checks.{room}

@@ -1,7 +1,7 @@
 -- `guovdamas::extraction_of` meets its contract: by the answer's case.
 use mir.ValLaws.{toZ-ofZ}
 use mir.Syntax.{w64}
-use mathlib.Core.Path.{_≡_, refl, sym, ap, _∙_}
+use mathlib.Core.Path.{sym, ap}
 use Rattle.guovdamas.specs.Numbers.{extractionOf}
 use borrow.Author.Needs.{needs}
 use Rattle.guovdamas.proofs.extraction_of.Statement.{statement}

@@ -1,6 +1,5 @@
 -- `guovdamas::found_record` meets its contract: field by field.
-use mathlib.Core.Path.{_≡_, refl, sym, ap, _∙_}
-use Rattle.guovdamas.specs.Numbers.{foundRecord}
+use mathlib.Core.Path.{refl}
 use borrow.Author.Needs.{needs}
 use Rattle.guovdamas.proofs.found_record.Statement.{statement}
 use Rattle.guovdamas.proofs.found_record.Tie as tie

@@ -1,5 +1,5 @@
 -- `guovdamas::guovdamas_lookup` meets its contract: what `table::lookup` promises, by numbers.
-use mathlib.Core.Path.{_≡_, refl, sym, ap, _∙_}
+use mathlib.Core.Path.{ap, _∙_}
 use Rattle.guovdamas.specs.Numbers.{recordNumbers}
 use borrow.Author.Needs.{needs}
 use Rattle.guovdamas.proofs.guovdamas_lookup.Statement.{statement}

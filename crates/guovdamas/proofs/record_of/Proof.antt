@@ -1,5 +1,5 @@
 -- `guovdamas::record_of` meets its contract: by the answer's case.
-use mathlib.Core.Path.{_≡_, refl, sym, ap, _∙_}
+use mathlib.Core.Path.{sym, ap, _∙_}
 use Rattle.guovdamas.specs.Numbers.{recordNumbers}
 use borrow.Author.Needs.{needs}
 use Rattle.guovdamas.proofs.record_of.Statement.{statement}

@@ -3,7 +3,6 @@ use native.Mathlib.Omega.{arith}
 use mathlib.Core.Path.{ap, _∙_}
 use Rattle.laws.specs.Bounds.{same64}
 use Rattle.laws.specs.Sign.{sgn, is-mns}
-use Rattle.turn.specs.Points.{cross}
 use Rattle.turn.specs.Angle.{turned}
 use borrow.Author.Tests.{lt-ltb, le-ltb}
 use borrow.Author.Needs.{needs}
