@@ -27,11 +27,13 @@ returns c =
     let bx = toZ-ofZ w32 (x .b .x) (record { sfits = b .0 .1 }) in
     let by = toZ-ofZ w32 (x .b .y) (record { sfits = b .1 .0 .1 }) in
     simp (
-      rw ay at (c .before .before .before .before .before .before .outside .ensures),
-      bx,
-      rw by at (c .before .before .outside2 .ensures),
+      c .before .before .before .before .before .before .outside .ensures,
+      c .before .before .outside2 .ensures,
       c .before .before2 .ensures,
       c .before3 .ensures,
+      ay,
+      bx,
+      by,
     )
 
 pub misplaced-after-spec : {M : Type 1} → statement M
