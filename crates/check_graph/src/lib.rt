@@ -7,21 +7,22 @@ ghost use Rattle.turn.specs.Limits.{maxLinks};
 ghost use Rattle.turn.specs.declared.Point.{Point};
 ghost use Rattle.graph.specs.Graph.{Lent, lent, pointAt, part};
 ghost use Rattle.graph.specs.Checks.{room, nodeAt, nodesChecked, checked};
-ghost use Rattle.graph.specs.Quick.{standsBefore, alikeBefore, clashAt, bridgeWrong, nodeWrong};
+ghost use Rattle.graph.specs.Quick.{standsBefore, alikeBefore, clashAt, likeWrong, bridgeWrong, nodeWrong};
 ghost use Rattle.graph.specs.Passes.{Rising};
-ghost use Rattle.graph.specs.Known.{Points, Grids, Ids, Below};
+ghost use Rattle.graph.specs.Known.{Points, Grids, Ids, Runs, Below};
 use check_ends::alike;
 use check_ends::alike_node;
 use check_ends::apart_node;
 use check_links::check_links;
 use check_lists::bad_nodes;
 use check_lists::bad_starts;
-use check_lists::stray;
 use check_lists::stray_in;
 use graph::end_at;
 use graph::entries;
+use graph::point_at;
 use turn::Checked;
-use turn::before;
+use turn::between;
+use turn::cross_product;
 use turn::differ;
 use turn::wide;
 
@@ -128,7 +129,41 @@ fn any_clash(
     false
 }
 
-// Whether checks 5 to 7 find something wrong with node v, a `Bridge` with entries e and f.
+// Checks 5 to 7 of node v, a `Bridge` with entries e and f, where f has its end p and e has not its end q there: whether e has no end there,
+// is f, has another point than f, or is parallel to f and both are unskipped. With a and b for p and q, or b and a.
+fn like_wrong(
+    px: &[i32],
+    py: &[i32],
+    qx: &[i32],
+    qy: &[i32],
+    pid: &[u32],
+    state: &[u8],
+    v: usize,
+    e: usize,
+    f: usize,
+) -> bool
+    requires { ⌜ Points (now px) (now py) (now qx) (now qy) (length (now pid)) ⌝ }
+    requires { ⌜ Grids (now px) (now py) (now qx) (now qy) (length (now pid)) ⌝ }
+    requires { ⌜ length (now state) ≡ length (now pid) ⌝ }
+    requires { ⌜ (e < length (now pid)) × (f < length (now pid)) ⌝ }
+    ensures { λ r. ⌜ (let p : ℕ → Point = pointAt (now (px .entry)) (now (py .entry)) in
+        let q : ℕ → Point = pointAt (now (qx .entry)) (now (qy .entry)) in
+        r ≡ likeWrong (now (pid .entry)) p q (now (state .entry)) v e f) ⌝ }
+{
+    let p = point_at(px, py, e);
+    let r = point_at(px, py, f);
+    if (wide(pid[e]) != v) | (e == f) | differ(p, r) {
+        return true;
+    }
+    let along = between(p, point_at(qx, qy, e));
+    if cross_product(along, between(r, point_at(qx, qy, f))) != 0 {
+        return false;
+    }
+    !(state[e] == 1) & !(state[f] == 1)
+}
+
+// Whether checks 5 to 7 find something wrong with node v, a `Bridge` with entries e and f. A link's a is before its b, so an a end and a b end
+// never run in one direction.
 fn bridge_wrong(
     ax: &[i32],
     ay: &[i32],
@@ -144,19 +179,27 @@ fn bridge_wrong(
     requires { ⌜ Points (now ax) (now ay) (now bx) (now by) (length (now aid)) ⌝ }
     requires { ⌜ Grids (now ax) (now ay) (now bx) (now by) (length (now aid)) ⌝ }
     requires { ⌜ length (now state) ≡ length (now aid) ⌝ }
-    requires { ⌜ length (now bid) ≡ length (now aid) ⌝ }
+    requires { ⌜ Runs (now ax) (now ay) (now bx) (now by) (now aid) (now bid) ⌝ }
     ensures { λ r. ⌜ (let a : ℕ → Point = pointAt (now (ax .entry)) (now (ay .entry)) in
         let b : ℕ → Point = pointAt (now (bx .entry)) (now (by .entry)) in
         r ≡ bridgeWrong (now (aid .entry)) (now (bid .entry)) a b (nodeAt (now (aid .entry))) (now (state .entry)) v e f) ⌝ }
 {
-    if stray(aid, bid, v, e) | stray(aid, bid, v, f) | (e == f) {
+    if (aid.len() <= e) | (aid.len() <= f) {
         return true;
     }
-    differ(
-        end_at(ax, ay, bx, by, aid, v, e),
-        end_at(ax, ay, bx, by, aid, v, f),
-    )
-        | alike(ax, ay, bx, by, aid, state, v, e, f)
+    if wide(aid[f]) == v {
+        if wide(bid[e]) == v {
+            return differ(point_at(bx, by, e), point_at(ax, ay, f));
+        }
+        return like_wrong(ax, ay, bx, by, aid, state, v, e, f);
+    }
+    if wide(bid[f]) != v {
+        return true;
+    }
+    if wide(aid[e]) == v {
+        return differ(point_at(ax, ay, e), point_at(bx, by, f));
+    }
+    like_wrong(bx, by, ax, ay, bid, state, v, e, f)
 }
 
 // Whether checks 5 to 7 find something wrong with node v, which has these entries. Most nodes are `Bridge`s.
@@ -174,7 +217,7 @@ fn node_wrong(
     requires { ⌜ Points (now ax) (now ay) (now bx) (now by) (length (now aid)) ⌝ }
     requires { ⌜ Grids (now ax) (now ay) (now bx) (now by) (length (now aid)) ⌝ }
     requires { ⌜ length (now state) ≡ length (now aid) ⌝ }
-    requires { ⌜ length (now bid) ≡ length (now aid) ⌝ }
+    requires { ⌜ Runs (now ax) (now ay) (now bx) (now by) (now aid) (now bid) ⌝ }
     ensures { λ r. ⌜ (let a : ℕ → Point = pointAt (now (ax .entry)) (now (ay .entry)) in
         let b : ℕ → Point = pointAt (now (bx .entry)) (now (by .entry)) in
         r ≡ nodeWrong (now (aid .entry)) (now (bid .entry)) a b (nodeAt (now (aid .entry))) (now (state .entry)) (now (here .entry)) v) ⌝ }
@@ -214,7 +257,7 @@ fn any_node_wrong(
     requires { ⌜ Points (now ax) (now ay) (now bx) (now by) (length (now aid)) ⌝ }
     requires { ⌜ Grids (now ax) (now ay) (now bx) (now by) (length (now aid)) ⌝ }
     requires { ⌜ length (now state) ≡ length (now aid) ⌝ }
-    requires { ⌜ (length (now bid) ≡ length (now aid)) × (Rising (now start) (now list)) ⌝ }
+    requires { ⌜ (Runs (now ax) (now ay) (now bx) (now by) (now aid) (now bid)) × (Rising (now start) (now list)) ⌝ }
     ensures { λ r. ⌜ (let a : ℕ → Point = pointAt (now (ax .entry)) (now (ay .entry)) in
         let b : ℕ → Point = pointAt (now (bx .entry)) (now (by .entry)) in
         r ≡ some (λ v. nodeWrong (now (aid .entry)) (now (bid .entry)) a b (nodeAt (now (aid .entry))) (now (state .entry))
@@ -291,7 +334,8 @@ fn check_nodes(
     requires { ⌜ Points (now ax) (now ay) (now bx) (now by) (length (now aid)) ⌝ }
     requires { ⌜ Grids (now ax) (now ay) (now bx) (now by) (length (now aid)) ⌝ }
     requires { ⌜ length (now state) ≡ length (now aid) ⌝ }
-    requires { ⌜ (Ids (now aid) (now bid) (length (now start) - 1)) × (length (now aid) ≤ maxLinks) ⌝ }
+    requires { ⌜ (Ids (now aid) (now bid) (length (now start) - 1)) × (length (now aid) ≤ maxLinks)
+        × (Runs (now ax) (now ay) (now bx) (now by) (now aid) (now bid)) ⌝ }
     requires { ⌜ 1 ≤ length (now start) ⌝ }
     ensures { λ r. ⌜ (let g : Lent = lent (now (ax .entry)) (now (ay .entry)) (now (bx .entry)) (now (by .entry)) (now (aid .entry))
         (now (bid .entry)) (now (start .entry)) (now (list .entry)) in

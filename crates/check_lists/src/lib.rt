@@ -43,7 +43,7 @@ pub fn bad_starts(start: &[u32], list: &[u32]) -> bool
 }
 
 // Whether e is no link with an end at node v.
-pub fn stray(aid: &[u32], bid: &[u32], v: usize, e: usize) -> bool
+fn stray(aid: &[u32], bid: &[u32], v: usize, e: usize) -> bool
     requires { ⌜ length (now bid) ≡ length (now aid) ⌝ }
     ensures { λ r. ⌜ r ≡ stray (now (aid .entry)) (now (bid .entry)) v e ⌝ }
 {

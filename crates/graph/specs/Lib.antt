@@ -12,4 +12,5 @@ pub mod Exact
 pub mod Fine
 pub mod Sound
 pub mod EndLaws
+pub mod BridgeLaws
 pub mod Told

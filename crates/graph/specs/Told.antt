@@ -1,7 +1,7 @@
 -- What checks that find nothing tell the checks after them.
-use Prim.Native.Nat.{ℕ, _-_, _≤_}
+use Prim.Native.Nat.{ℕ, _-_, _≤_, _<_}
 use mathlib.Core.Path.{_≡_}
-use mathlib.Core.Bool.{false}
+use mathlib.Core.Bool.{true, false}
 use mathlib.Core.List.{List}
 use lib.ListN.{length, getD}
 use Rattle.laws.specs.Test.{or-false}
@@ -9,18 +9,20 @@ use Rattle.laws.specs.Lowest.{some, none-of}
 use Rattle.laws.specs.Fails.{some-fails}
 use Rattle.turn.specs.declared.Checked.the-variants.{Fine}
 use Rattle.turn.specs.Limits.{maxLinks}
+use Rattle.turn.specs.Points.{before}
 use Rattle.graph.specs.Graph.{Lent, linkCount, nodeCount, part}
-use Rattle.graph.specs.Checks.{Room, badStarts, strayAt, missed, badNodes, linksChecked}
+use Rattle.graph.specs.Checks.{Room, aOf, bOf, badStarts, strayAt, missed, badNodes, linksChecked}
 use Rattle.graph.specs.Passes.{Rising}
 use Rattle.graph.specs.Known.{Points, Grids, Ids, Entries}
 use Rattle.graph.specs.Tests.{rising, no-stray}
 use Rattle.graph.specs.Exact.{by-links}
 
--- 1 to 4: few links, lists of one length, points on the grid, ids of nodes
+-- 1 to 4: few links, lists of one length, points on the grid, a before b, ids of nodes
 pub record LinksTold (g : Lent) (state : List ℕ) : Type 0 where
   pub few : linkCount g ≤ maxLinks
   pub points : Points (g .ax) (g .ay) (g .bx) (g .by) (linkCount g)
   pub grids : Grids (g .ax) (g .ay) (g .bx) (g .by) (linkCount g)
+  pub strict : (k : ℕ) → k < linkCount g → before (aOf g k) (bOf g k) ≡ true
   pub states : length state ≡ linkCount g
   pub ids : Ids (g .aId) (g .bId) (nodeCount g)
   pub starts : 1 ≤ length (g .start)
@@ -34,6 +36,7 @@ links-told g top state r e =
       few = h .0;
       points = record { ax-long = even .ax; ay-long = even .ay; bx-long = even .bx; by-long = even .by };
       grids = record { a-grid = λ k l. link k l .0 .0 .0 .0; b-grid = λ k l. link k l .0 .0 .0 .1 };
+      strict = λ k l. link k l .0 .0 .1;
       states = h .1 .0 .0 .1 .1;
       ids = record {
         same = even .bId;

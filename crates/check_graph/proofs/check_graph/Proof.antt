@@ -34,7 +34,7 @@ check-nodes-requires : tie.Need-check-nodes-requires
 check-nodes-requires c κs =
     let t = told (c .before .before .before .before .before .before .before .before .before) (sym (c .before .before .check-links .ensures)
     ∙ c .enum-told .given .1) in
-    (t .points, (t .grids, (t .states, ((t .ids, t .few), t .starts))))
+    (t .points, (t .grids, (t .states, ((t .ids, t .few, record { same = t .ids .same; strict = t .strict; two = t .ids .two }), t .starts))))
 
 returns : tie.Need-returns
 unfolding checked

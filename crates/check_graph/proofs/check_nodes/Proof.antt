@@ -53,7 +53,7 @@ rises c =
 
 any-node-wrong-requires : tie.Need-any-node-wrong-requires
 any-node-wrong-requires c κs =
-    let p = c .before .before .before .before .before .before .before .pre in (p .0, (p .1 .0, (p .1 .1 .0, (p .1 .1 .1 .0 .0 .same, rises c))))
+    let p = c .before .before .before .before .before .before .before .pre in (p .0, (p .1 .0, (p .1 .1 .0, (p .1 .1 .1 .0 .2, rises c))))
 
 returns-2 : tie.Need-returns-2
 returns-2 c =
