@@ -155,32 +155,8 @@ returns-6 c =
     (λ h. u .if5 .left (u .before .wide4 .ensures ∙ h))
 
 pub bridge-wrong-spec : {M : Type 1} → statement M
-bridge-wrong-spec =
-    tie.close
-    (tie.spec
-    returns
-    mul-wide
-    shared-slice-read-wide
-    wide-requires
-    mul-wide-2
-    shared-slice-read-wide-2
-    wide-requires-2
-    point-at-requires
-    point-at-requires-2
-    differ-requires
-    returns-2
-    like-wrong-requires
-    returns-3
-    mul-wide-3
-    shared-slice-read-wide-3
-    wide-requires-3
-    returns-4
-    mul-wide-4
-    shared-slice-read-wide-4
-    wide-requires-4
-    point-at-requires-3
-    point-at-requires-4
-    differ-requires-2
-    returns-5
-    like-wrong-requires-2
-    returns-6)
+bridge-wrong-spec = tie.close (tie.spec returns mul-wide shared-slice-read-wide wide-requires mul-wide-2
+    shared-slice-read-wide-2 wide-requires-2 point-at-requires point-at-requires-2 differ-requires returns-2
+    like-wrong-requires returns-3 mul-wide-3 shared-slice-read-wide-3 wide-requires-3 returns-4 mul-wide-4
+    shared-slice-read-wide-4 wide-requires-4 point-at-requires-3 point-at-requires-4 differ-requires-2 returns-5
+    like-wrong-requires-2 returns-6)

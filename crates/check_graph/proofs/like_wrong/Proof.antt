@@ -128,22 +128,6 @@ returns-3 c =
     sym (pick-false _ _ (passed (past d)) ∙ pick-true _ _ (parallel d ∙ eq-eqb _ 0 (c .before .before .if2 .left)))
 
 pub like-wrong-spec : {M : Type 1} → statement M
-like-wrong-spec =
-    tie.close
-    (tie.spec
-    point-at-requires
-    point-at-requires-2
-    mul-wide
-    shared-slice-read-wide
-    wide-requires
-    differ-requires
-    returns
-    point-at-requires-3
-    between-requires
-    point-at-requires-4
-    between-requires-2
-    cross-product-requires
-    returns-2
-    shared-slice-read-result
-    shared-slice-read-result-2
-    returns-3)
+like-wrong-spec = tie.close (tie.spec point-at-requires point-at-requires-2 mul-wide shared-slice-read-wide
+    wide-requires differ-requires returns point-at-requires-3 between-requires point-at-requires-4 between-requires-2
+    cross-product-requires returns-2 shared-slice-read-result shared-slice-read-result-2 returns-3)
