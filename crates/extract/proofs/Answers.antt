@@ -22,12 +22,11 @@ use Rattle.keep.specs.Outcome.{lens}
 use Rattle.scan.specs.Visits.{scanned}
 use Rattle.keep.specs.Ledger.{Fits, finished}
 use Rattle.keep.specs.Tables.{Tables, tables, noCounts, allNoted}
-use Rattle.finish.specs.Finish.{finishedBy, Holds}
+use Rattle.finish.specs.Finish.{finishedBy, Holds, Buffers, buffers}
 use Rattle.scan.specs.Notes.{Ends, ScanLeaves, Roomy}
 use Rattle.walk.specs.Code.{Shape, Kept, unmark}
 use Rattle.walk.specs.States.{unvisited-some}
 use Rattle.extract.specs.Extract.{extractedAs, afterScan, afterChecks, extracted}
-use Rattle.finish.specs.Finish.{Buffers, buffers}
 
 -- ---- what the checks give the walks
 module _ (g : Lent) (top st : List ℕ) (points firsts lens kinds : ℕ) (f : FineGraph g top st (room points firsts lens kinds)) where

@@ -51,12 +51,6 @@ module _ (pts : List ℤ) (at : ℕ) (l : List Point) (room : (at + length l) * 
   front : length (take (at * 2) pts) ≡ at * 2
   front = length-take-le (at * 2) pts (omega arith)
 
-  -- what stood before stays
-  pub paste-before : take (at * 2) (paste pts at l) ≡ take (at * 2) pts
-  paste-before =
-      rw (paste-is, append-assoc (take (at * 2) pts) (coordinates l) (drop (at * 2 + length (coordinates l)) pts))
-      (take-at (take (at * 2) pts) _ (at * 2) front)
-
   -- and the points follow it
   pub paste-take : take ((at + length l) * 2) (paste pts at l) ≡ take (at * 2) pts ++ coordinates l
   paste-take = rw paste-is (take-at (take (at * 2) pts ++ coordinates l) _ ((at + length l) * 2) long)

@@ -8,7 +8,7 @@ use mathlib.Core.Path.{_≡_, refl, sym, ap, _∙_}
 use mathlib.Core.Logic.{⊎-elim}
 use mathlib.Core.List.{List, [], _∷_, _++_, map, append-nil, List·Memᴰ, List·Memᴰ·head, List·Memᴰ·tail, List·Memᴰ·not-nil, List·Memᴰ·cases-cons}
 use lib.ListN.{length, getD, set, take, drop, replicate, drop-of-length-le}
-use lib.Seq.{getD-set-same, getD-set-other, set-getD, take-all}
+use lib.Seq.{getD-set-same, getD-set-other, take-all}
 
 -- ---- a list that a loop fills by rising index, read by place
 module _ {A : Type 0} (d : A) where
@@ -39,10 +39,6 @@ module _ {A : Type 0} (f : A → A) where
   -- a turn that stores
   pub map-more : (i : ℕ) (l : List A) (d y : A) → i < length l → y ≡ f (getD l i d) → mapFrom f (i + 1) (set l i y) ≡ mapFrom f i l
   map-more i l d y h e = rw (add-one i) (map-suc i l d y h e)
-
-  -- a turn that leaves the element
-  pub map-keep : (i : ℕ) (l : List A) (d : A) → i < length l → getD l i d ≡ f (getD l i d) → mapFrom f (i + 1) l ≡ mapFrom f i l
-  map-keep i l d h e = ap (mapFrom f (i + 1)) (sym (set-getD l i d)) ∙ map-more i l d (getD l i d) h e
 
   -- past the end
   pub map-end : (i : ℕ) (l : List A) → length l ≤ i → mapFrom f i l ≡ l

@@ -79,13 +79,6 @@ finds test (suc n) h = at (test zero) refl (finds (λ j. test (suc j)) n) h
 pub some-of : (test : ℕ → Bool) (n : ℕ) → some test n ≡ true → Found test n (lowest test n)
 some-of test n e = finds test n (ltb-true (lowest test n) n e)
 
--- two tests that agree below n have one lowest number
-pub lowest-same : (f g : ℕ → Bool) (n : ℕ) → ((k : ℕ) → k < n → f k ≡ g k) → lowest f n ≡ lowest g n
-unfolding lowest
-lowest-same f g zero h = refl
-lowest-same f g (suc n) h =
-    simp (h zero (suc-le-suc zero-le), lowest-same (λ k. f (suc k)) (λ k. g (suc k)) n (λ k l. h (suc k) (suc-le-suc l)))
-
 -- one number more: what a loop that looks at every number has to show
 pub some-more : (test : ℕ → Bool) (n : ℕ) → some test (n + 1) ≡ some test n || test n
 some-more test n = go (some test n) refl (test n) refl

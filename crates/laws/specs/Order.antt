@@ -7,12 +7,10 @@ use Prim.Native.Nat.{ℕ, zero, suc, _+_, _≤_, _<_}
 use native.Mathlib.Omega.{arith}
 use native.Mathlib.Decide.{decLe}
 use lib.Dec.{T, leb→le, le→leb, ltb→lt, lt→ltb}
-use lib.IntN.{ℤ, pos, negsuc, negℤ, _+ℤ_, _-ℤ_, _*ℤ_}
+use lib.IntN.{ℤ, pos, negsuc, negℤ, _-ℤ_, _*ℤ_}
 use lib.Signed.{_≤ℤ_, _<ℤ_, leZ, ltZ}
-use mathlib.Core.List.{[], _∷_}
 use borrow.Author.Tests.{ltb-false}
 use Rattle.laws.specs.Test.{yes!, is-true, not-true}
-use Rattle.laws.specs.Ring.{ring, var, _:-_, _:*_}
 use Rattle.laws.specs.Sign.{Sgn, mns, zer, pls, sgn, _⊗_, sgn-mul}
 use Rattle.laws.specs.Int.{up, dn, same, +-parts, negℤ-parts}
 
@@ -97,17 +95,8 @@ isPls pls = Unit {0}
 pub ≤-trans : {a b c : ℤ} → a ≤ℤ b → b ≤ℤ c → a ≤ℤ c
 ≤-trans h k = omega lin
 
-pub <-trans : {a b c : ℤ} → a <ℤ b → b <ℤ c → a <ℤ c
-<-trans h k = omega lin
-
-pub +-mono : {a b c d : ℤ} → a ≤ℤ b → c <ℤ d → (a +ℤ c) <ℤ (b +ℤ d)
-+-mono {a} {b} {c} {d} h k = omega (lin, +-parts a c, +-parts b d)
-
 pub sub-pos : (a b : ℤ) → a <ℤ b → pos 0 <ℤ (b -ℤ a)
 sub-pos a b h = omega (lin, sub-parts b a)
-
-pub sub-le : (x y z : ℤ) → (x -ℤ y) ≤ℤ z → x ≤ℤ (z +ℤ y)
-sub-le x y z h = omega (lin, sub-parts x y, +-parts z y)
 
 pub antisym : {a b : ℤ} → a ≤ℤ b → b ≤ℤ a → a ≡ b
 antisym h k = ≡out (omega lin)
@@ -132,13 +121,3 @@ sgn-< (negsuc n) e = absurd (subst isPls (sym e) tt)
 
 pub mul-pos : {x y : ℤ} → pos 0 <ℤ x → pos 0 <ℤ y → pos 0 <ℤ (x *ℤ y)
 mul-pos {x} {y} h k = sgn-< (x *ℤ y) (sgn-mul x y ∙ ap₂ _⊗_ (<-sgn x h) (<-sgn y k))
-
-pub mul-mono : {a b c : ℤ} → a <ℤ b → pos 0 <ℤ c → (a *ℤ c) <ℤ (b *ℤ c)
-mul-mono {a} {b} {c} h k =
-    let e : (b -ℤ a) *ℤ c ≡ b *ℤ c -ℤ a *ℤ c = ring (a ∷ b ∷ c ∷ []) ((var 1 :- var 0) :* var 2) (var 1 :* var 2 :- var 0 :* var 2) tt in
-    let m : pos 0 <ℤ (b *ℤ c -ℤ a *ℤ c) = rw e at (mul-pos (sub-pos a b h) k) in
-    omega (lin, sub-parts (b *ℤ c) (a *ℤ c))
-
--- a product whose factor is known
-pub pos-of-mul : {x y : ℤ} → pos 0 <ℤ x → pos 0 <ℤ (x *ℤ y) → pos 0 <ℤ y
-pos-of-mul {x} {y} h k = sgn-< y (rw (<-sgn x h) at (sym (sgn-mul x y) ∙ <-sgn (x *ℤ y) k))

@@ -8,8 +8,7 @@ ghost use lib.ListN.{length};
 ghost use Rattle.writing.specs.Cuts.{Cut};
 ghost use Rattle.writing.specs.Write.{Wrote};
 ghost use Rattle.print.specs.Room.{answerBytes, refusalBytes, RangesInside, Printable};
-ghost use Rattle.print.specs.Answer.{OwnedTable, ownedTable, pointLines, contourLines, contoursFrom};
-ghost use Rattle.print.specs.Answer.{printed, printedRefusal};
+ghost use Rattle.print.specs.Answer.{OwnedTable, ownedTable, pointLines, contourLines, contoursFrom, printed, printedRefusal};
 
 // The most contours of a table: each has at least 3 points.
 pub const MAX_CONTOURS: usize = MAX_LINKS / 3;

@@ -4,8 +4,7 @@ use Prim.Native.Nat.{ℕ}
 use mathlib.Core.Path.{_≡_, refl, sym, ap, _∙_, subst}
 use mathlib.Core.Logic.{⊎-elim}
 use mathlib.Core.Bool.{Bool, true, false}
-use mathlib.Core.List.{List, [], _∷_, _++_, append-assoc, List·Memᴰ·head, List·Memᴰ·tail, List·Memᴰ·cases-cons}
-use mathlib.Core.List.{List·Memᴰ·not-nil}
+use mathlib.Core.List.{List, [], _∷_, _++_, append-assoc, List·Memᴰ·head, List·Memᴰ·tail, List·Memᴰ·cases-cons, List·Memᴰ·not-nil}
 use mathlib.Core.List.{Memᴰ·append-left, Memᴰ·append-right, List·Memᴰ·append-cases}
 use lib.IntN.{ℤ, pos, _-ℤ_, _*ℤ_}
 use lib.ListN.{getD}
@@ -21,8 +20,7 @@ use Rattle.graph.specs.Graph.{Graph}
 use Rattle.graph.specs.Checks.{awayFrom}
 use Rattle.next.specs.Choice.{Mem}
 use Rattle.rings.specs.Ends.{startsAt}
-use Rattle.rings.specs.RingOrder.{inTurn, ringBefore, Forward, Spoke, Spread, ring-transitive, ring-total}
-use Rattle.rings.specs.RingOrder.{ring-apart}
+use Rattle.rings.specs.RingOrder.{inTurn, ringBefore, Forward, Spoke, Spread, ring-transitive, ring-total, ring-apart}
 use Rattle.rings.specs.Sorted.{Sorted, BeforeAll, sorted-insert, sorted-parts, sorted-two}
 use Rattle.rings.specs.Rings.{InOrder, Ring}
 

@@ -23,13 +23,12 @@ use Rattle.walk.specs.declared.Ended.{Ended}
 use Rattle.walk.specs.declared.Ended.the-variants as ended
 use Rattle.scan.specs.declared.Noted.{Noted}
 use Rattle.scan.specs.declared.Noted.the-variants as noting
-use Rattle.keep.specs.Tables.{sum-within}
+use Rattle.keep.specs.Tables.{sum-within, Tables, tables, enter, enterKept, enterRejected, withPoints, noted, Within}
 use Rattle.walk.specs.Walk.{Step, Walk, Walked, stuck, done, walkFrom, left, points, markOf}
 use Rattle.scan.specs.Scan.{senseOf, walkOf}
 use Rattle.keep.specs.Outcome.{coordinates}
 use Rattle.keep.specs.Ledger.{paste-part, points-back, kept-three}
 use Rattle.walk.specs.Code.{paste, plain, Shape, Marks, WalkLeaves}
-use Rattle.keep.specs.Tables.{Tables, tables, enter, enterKept, enterRejected, withPoints, noted, Within}
 use Rattle.scan.specs.Notes.{WalkNoted, FirstNoted, Fewer}
 use Rattle.walk.specs.Tops.{from-tops}
 

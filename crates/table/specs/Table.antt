@@ -70,8 +70,6 @@ abbrev pub previous : Table → ℕ → ℕ → ℕ
 previous t c p = previousIn (firstOf t c) (rangeEnd t c) p
 
 -- ---- hulls and holes
-abbrev pub isHull : Table → ℕ → Bool
-isHull t c = eqb (kindOf t c) 0
 
 abbrev pub isHole : Table → ℕ → Bool
 isHole t c = eqb (kindOf t c) 1

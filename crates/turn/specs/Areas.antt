@@ -1,8 +1,7 @@
 -- Laws of the signed doubled area: that of a triangle is its turn, it does not depend on the starting point, and what it stays within.
-use mathlib.Core.Path.{_≡_, refl, sym, ap, _∙_, subst}
-use mathlib.Core.Logic.{⊎-elim}
-use mathlib.Core.List.{List, [], _∷_, _++_, List·Memᴰ, List·Memᴰ·head, List·Memᴰ·tail, List·Memᴰ·not-nil, List·Memᴰ·cases-cons}
-use Prim.Native.Nat.{ℕ, suc, _*_, _≤_, suc-le-suc}
+use mathlib.Core.Path.{_≡_, refl, sym, ap, _∙_}
+use mathlib.Core.List.{List, [], _∷_, _++_, List·Memᴰ, List·Memᴰ·head, List·Memᴰ·tail}
+use Prim.Native.Nat.{ℕ, _*_, _≤_}
 use native.Mathlib.Omega.{arith}
 use lib.ListN.{length}
 use lib.IntN.{ℤ, natAbs, _+ℤ_, _*ℤ_, +ℤ-comm, +ℤ-assoc}
@@ -10,8 +9,8 @@ use Rattle.laws.specs.Ring.{ring, var, _:+_, _:-_, _:*_}
 use Rattle.laws.specs.Bounds.{abs-add, abs-sub, mul-below}
 use Rattle.turn.specs.declared.Point.{Point}
 use Rattle.turn.specs.Limits.{maxCoordinate}
-use Rattle.turn.specs.Points.{OnGrid, Grid, turn}
-use Rattle.turn.specs.Area.{wedge, wedgeBound, areaTo, area, pointsOf}
+use Rattle.turn.specs.Points.{OnGrid, turn}
+use Rattle.turn.specs.Area.{wedge, wedgeBound, areaTo, area}
 
 -- ---- positive when counterclockwise: the area of three points is their turn
 pub area-triangle : (a b c : Point) → area (a ∷ b ∷ c ∷ []) ≡ turn a b c
@@ -57,12 +56,3 @@ module _ (m : ℕ) where
 -- on the grid
 pub area-bound : (l : List Point) → ((p : Point) → List·Memᴰ p l → OnGrid p) → natAbs (area l) ≤ length l * wedgeBound
 area-bound l h = area-within maxCoordinate l h
-
--- the points of a list of coordinates within the bounds are
-pub points-on-grid : (l : List ℤ) → Grid l → (p : Point) → List·Memᴰ p (pointsOf l) → OnGrid p
-points-on-grid [] g p m = absurd (List·Memᴰ·not-nil m)
-points-on-grid (x ∷ []) g p m = absurd (List·Memᴰ·not-nil m)
-points-on-grid (x ∷ (y ∷ l)) g p m =
-    ⊎-elim (λ (e : p ≡ record { x = x; y = y }). subst OnGrid (sym e) (g 0 (omega arith), g 1 (omega arith)))
-    (λ (n : List·Memᴰ p (pointsOf l)). points-on-grid l (λ i h. g (suc (suc i)) (suc-le-suc (suc-le-suc h))) p n)
-    (List·Memᴰ·cases-cons m)

@@ -2,7 +2,7 @@
 use Prim.Native.Nat.{ℕ, _+_, _-_, _≤_, _<_}
 use mathlib.Core.Path.{_≡_, refl, sym, ap, ap₂, _∙_, subst}
 use mathlib.Core.List.{List, [], _∷_, _++_}
-use native.Mathlib.Nat.{add-assoc, add-zero}
+use native.Mathlib.Nat.{add-assoc}
 use native.Mathlib.Omega.{arith}
 use lib.ListN.{length, set, drop, length-append}
 use Rattle.writing.specs.Cuts.{Cut, cut}
@@ -23,10 +23,6 @@ module _ (a b c : List ℕ) (p q r : ℕ) (t u : List ℕ) where
 -- one byte
 pub wrote-byte : (a : List ℕ) (p x : ℕ) → p < length a → Wrote a (set a p x) p (p + 1) (x ∷ [])
 wrote-byte a p x h = record { next = refl; bytes = set-put a p x h }
-
--- nothing
-pub wrote-none : (a : List ℕ) (p : ℕ) → Wrote a a p p []
-wrote-none a p = record { next = sym (add-zero p); bytes = sym (put-none a p) }
 
 -- the length stays
 pub wrote-long : {a b : List ℕ} {p q : ℕ} {t : List ℕ} → p + length t ≤ length a → Wrote a b p q t → length b ≡ length a

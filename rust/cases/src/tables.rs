@@ -33,7 +33,6 @@ pub fn answers(cases: &[Case], side: Side) -> String {
         for outcome in case.ask(side) {
             outcome.to_string().lines().for_each(|line| writeln!(out, "  {line}").expect("strings take all"));
         }
-        out.push('\n');
     }
     out
 }

@@ -24,10 +24,9 @@ pub struct Case {
 /// What stands between the lines of a stored answer, which is one line.
 const BETWEEN: &str = "; ";
 
-/// Reads the sample: a line `graph` with the file, then the answer on a line, then an empty line.
+/// Reads the sample: a line `graph` with the file, then the answer on a line.
 pub fn parse(text: &str) -> Vec<Case> {
-    let case = |block: &str| {
-        let (file, answer) = block.split_once('\n').expect("a case has an answer");
+    let case = |(file, answer): (&str, &str)| {
         let digits = file.strip_prefix("graph ").expect("a case begins with its graph");
         let bytes = digits.as_bytes().chunks_exact(2).map(|pair| {
             let pair = std::str::from_utf8(pair).expect("hexadecimal digits");
@@ -35,7 +34,8 @@ pub fn parse(text: &str) -> Vec<Case> {
         });
         Case { file: bytes.collect(), answer: format!("{}\n", answer.trim_end().replace(BETWEEN, "\n")) }
     };
-    text.split("\n\n").filter(|block| !block.trim().is_empty()).map(case).collect()
+    let (files, answers) = (text.lines().step_by(2), text.lines().skip(1).step_by(2));
+    files.zip(answers).map(case).collect()
 }
 
 /// Most links of a stored graph.
@@ -67,7 +67,7 @@ pub fn write(count: usize) -> String {
             let file = encode(&Study { settings, graph, state });
             let digits: String = file.iter().map(|byte| format!("{byte:02x}")).collect();
             let answer = answer.trim_end().replace('\n', BETWEEN);
-            write!(out, "graph {digits}\n{answer}\n\n").expect("strings take all");
+            write!(out, "graph {digits}\n{answer}\n").expect("strings take all");
             written += 1;
         }
     }

@@ -1,9 +1,8 @@
 -- `print::write_decimal` meets its contract.
-use Prim.Native.Nat.{_+_}
+use Prim.Native.Nat.{_+_, ℕ, _<_}
 use native.Mathlib.Omega.{arith}
 use lib.ListN.{length-set}
 use Rattle.print_text.proofs.Numbers.{one-fits, one-digit, before-fit, last-digit-fits, last-digit}
-use Prim.Native.Nat.{ℕ, _<_}
 use borrow.Fn.Kinds.{In}
 use borrow.Fn.PlainCycle.{Measures, is, falls, and}
 use Rattle.print_text.proofs.write_decimal.Reads as write-decimal

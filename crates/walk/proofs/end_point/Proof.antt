@@ -1,8 +1,7 @@
 -- `walk::end_point` meets its contract: by the end that is chosen.
 use mir.Syntax.{w32}
 use mir.ValLaws.{toZ-ofZ}
-use borrow.Author.Needs.{sfits-of}
-use borrow.Author.Needs.{needs}
+use borrow.Author.Needs.{sfits-of, needs}
 use Rattle.walk.proofs.end_point.Statement.{statement}
 use Rattle.walk.proofs.end_point.Tie as tie
 
