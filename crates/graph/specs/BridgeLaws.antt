@@ -1,75 +1,32 @@
 -- `Bridge`s by the sorts of their ends. A link's a is strictly before its b, so from a to b it runs to the right, or straight up. Ends of
 -- unlike sort then never run in one direction, and ends of one sort do exactly where the links' cross product is 0.
 use Prim.Native.Nat.{ℕ, _<_}
-use native.Mathlib.Omega.{arith}
 use mathlib.Core.Path.{_≡_, refl, sym, ap, ap₂, _∙_, subst}
-use mathlib.Core.Logic.{⊎-elim}
 use mathlib.Core.Bool.{Bool, true, false, not, _||_, _&&_}
-use mathlib.Core.List.{List, [], _∷_}
+use mathlib.Core.List.{List}
 use lib.Dec.{eqb, leb}
-use lib.IntN.{ℤ, pos, negℤ, _-ℤ_, _*ℤ_}
-use lib.Signed.{ltZ}
+use lib.IntN.{ℤ}
 use lib.ListN.{length, getD}
 use borrow.Author.Tests.{eq-eqb, ne-eqb, lt-leb}
-use Rattle.laws.specs.Test.{pick, Is, yes!, true≢false, not-is, is-true, or-true, and-true, _⇒_, _⇔_, ⇔-eq, mp}
-use Rattle.laws.specs.Ring.{ring, var, _:-_, neg}
-use Rattle.laws.specs.Sign.{Sgn, mns, zer, pls, sgn, flip, _⊗_, is-mns, eqS, plusOk, all6, sgn-mul, sgn-neg, sgn-add, ltZ-sgn}
-use Rattle.laws.specs.Order.{lin, sub-parts, ltZ-true, ltZ-false, false-ltZ, <-sgn}
+use Rattle.laws.specs.Test.{pick, Is, true≢false, not-is, is-true, _⇒_, _⇔_, ⇔-eq, mp}
+use Rattle.laws.specs.Sign.{Sgn, zer, pls, sgn, flip, _⊗_, eqS, plusOk, all6}
 use Rattle.turn.specs.declared.Point.{Point}
 use Rattle.turn.specs.declared.Vector.{Vector}
 use Rattle.turn.specs.Points.{before, differ, fromTo, cross, dot}
 use Rattle.turn.specs.Angle.{sameDirection}
+use Rattle.turn.specs.Directions.{cross-sign, dot-sign}
+use Rattle.turn.specs.Rightward.{right, Right, right-before, sgn-back}
 use Rattle.graph.specs.Graph.{pointAt}
 use Rattle.graph.specs.Checks.{nodeAt, skipped}
 use Rattle.graph.specs.Quick.{likeWrong, bridgeWrong}
 use Rattle.graph.specs.Known.{Runs}
 
--- ---- to the right, or straight up; and the other way
-abbrev right : Sgn → Sgn → Bool
-right mns d = false
-right zer mns = false
-right zer zer = false
-right zer pls = true
-right pls d = true
-
-abbrev Right : Vector → Type 0
-Right u = Is (right (sgn (u .x)) (sgn (u .y)))
-
+-- ---- the other way
 abbrev Left : Vector → Type 0
 Left u = Is (right (flip (sgn (u .x))) (flip (sgn (u .y))))
 
-right-before : (p q : Point) → before p q ≡ true → Right (fromTo p q)
-right-before p q e =
-    ⊎-elim
-    (λ (h : ltZ (p .x) (q .x) ≡ true). rw (rising (p .x) (q .x) h) (yes! tt))
-    (λ h. let k = and-true (not (ltZ (q .x) (p .x))) (ltZ (p .y) (q .y)) h in
-    rw (rising (p .y) (q .y) (k .1))
-    (up (sgn (q .x -ℤ p .x)) (sym (ltZ-sgn (q .x -ℤ p .x)) ∙ falling (p .x) (q .x) (not-is (ltZ (q .x) (p .x)) (k .0)))))
-    (or-true (ltZ (p .x) (q .x)) _ e)
-  where
-    rising : (a b : ℤ) → ltZ a b ≡ true → sgn (b -ℤ a) ≡ pls
-    rising a b h = <-sgn (b -ℤ a) (omega (lin, sub-parts b a, ltZ-true a b h))
-
-    falling : (a b : ℤ) → ltZ b a ≡ false → ltZ (b -ℤ a) (pos 0) ≡ false
-    falling a b h = false-ltZ (b -ℤ a) (pos 0) (omega (arith, sub-parts b a, ltZ-false b a h))
-
-    up : (s : Sgn) → is-mns s ≡ false → Is (right s pls)
-    up mns n = absurd (true≢false refl n)
-    up zer n = yes! tt
-    up pls n = yes! tt
-
 left-before : (p q : Point) → before p q ≡ true → Left (fromTo q p)
-left-before p q e = subst (λ b. Is b) (ap₂ right (back (p .x) (q .x)) (back (p .y) (q .y))) (right-before p q e)
-  where
-    back : (a b : ℤ) → sgn (b -ℤ a) ≡ flip (sgn (a -ℤ b))
-    back a b = ap sgn (ring (a ∷ b ∷ []) (var 1 :- var 0) (neg (var 0 :- var 1)) tt) ∙ sgn-neg (a -ℤ b)
-
--- ---- the products of two vectors by their signs
-cross-sign : (u v : Vector) → Is (plusOk (sgn (u .x) ⊗ sgn (v .y)) (flip (sgn (u .y) ⊗ sgn (v .x))) (sgn (cross u v)))
-cross-sign u v = rw (sgn-mul (u .x) (v .y), sgn-neg (u .y *ℤ v .x), sgn-mul (u .y) (v .x)) at (sgn-add (u .x *ℤ v .y) (negℤ (u .y *ℤ v .x)))
-
-dot-sign : (u v : Vector) → Is (plusOk (sgn (u .x) ⊗ sgn (v .x)) (sgn (u .y) ⊗ sgn (v .y)) (sgn (dot u v)))
-dot-sign u v = rw (sgn-mul (u .x) (v .x), sgn-mul (u .y) (v .y)) at (sgn-add (u .x *ℤ v .x) (u .y *ℤ v .y))
+left-before p q e = subst (λ b. Is b) (ap₂ right (sgn-back (p .x) (q .x)) (sgn-back (p .y) (q .y))) (right-before p q e)
 
 -- what two vectors obey, and what follows for one direction where the first is turned (s) or not, and the second (t)
 abbrev turned : Bool → Sgn → Sgn

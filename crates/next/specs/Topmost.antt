@@ -1,24 +1,23 @@
 -- What the first link is (rule 1): at a `Bridge` as the rule says; at a `Cross` always a link, unvisited where k is,
 -- with no unvisited link strictly counterclockwise of it among those that start there.
 use Prim.Native.Nat.{ℕ}
-use native.Mathlib.Omega.{arith}
 use mathlib.Core.Path.{_≡_, refl, sym, ap, _∙_}
 use mathlib.Core.Logic.{_⊎_, inl, inr, ⊎-elim}
 use mathlib.Core.Bool.{Bool, true, false, not, _&&_}
 use mathlib.Core.List.{List, [], _∷_, List·Memᴰ·head, List·Memᴰ·tail, List·Memᴰ·cases-cons, List·Memᴰ·not-nil}
 use lib.Dec.{eqb}
-use lib.IntN.{ℤ, pos, negℤ, _-ℤ_, _*ℤ_}
+use lib.IntN.{pos}
 use lib.Signed.{ltZ}
 use lib.ListN.{length}
 use borrow.Author.Tests.{eqb-true, not-false}
-use Rattle.laws.specs.Test.{pick, pick-ind, Is, yes!, true≢false, not-is, or-true, and-true, and-false, _⇒_, mp}
+use Rattle.laws.specs.Test.{pick, pick-ind, Is, yes!, true≢false, not-is, and-true, and-false, _⇒_, mp}
 use Rattle.laws.specs.Ring.{ring, var, _:+_, _:-_, _:*_}
-use Rattle.laws.specs.Sign.{Sgn, mns, zer, pls, sgn, flip, _⊗_, is-mns, eqS, plusOk, all6, sgn-mul, sgn-neg, sgn-add, three, ltZ-sgn, gtZ-sgn}
-use Rattle.laws.specs.Order.{lin, sub-parts, ltZ-true, ltZ-false, false-ltZ, <-sgn}
+use Rattle.laws.specs.Sign.{Sgn, mns, zer, pls, sgn, flip, _⊗_, is-mns, eqS, plusOk, all6, sgn-neg, three, ltZ-sgn, gtZ-sgn}
 use Rattle.turn.specs.declared.Point.{Point}
 use Rattle.turn.specs.declared.Vector.{Vector}
 use Rattle.turn.specs.Points.{before, fromTo, cross, turn, clockwise}
-use Rattle.turn.specs.Directions.{cross-anti, cross-self}
+use Rattle.turn.specs.Directions.{cross-anti, cross-self, cross-sign}
+use Rattle.turn.specs.Rightward.{right, Right, right-before}
 use Rattle.graph.specs.Graph.{Graph}
 use Rattle.next.specs.declared.Next.the-variants.{Link}
 use Rattle.next.specs.Next.{isUnvisited, onlyUnvisited, Node, bridge, crossing, nodeOf, replaces, topmost, firstAt, firstLink}
@@ -79,45 +78,11 @@ pub first-at-bridge : (g : Graph) (st : List ℕ) (k x y : ℕ) → g .entries (
 unfolding firstLink
 first-at-bridge g st k x y two = rw two
 
--- ---- directions to the right, or straight up
-abbrev pub right : Sgn → Sgn → Bool
-right mns d = false
-right zer mns = false
-right zer zer = false
-right zer pls = true
-right pls d = true
-
-abbrev Right : Vector → Type 0
-Right v = Is (right (sgn (v .x)) (sgn (v .y)))
-
 -- v is not strictly counterclockwise of u
 abbrev NotUp : Vector → Vector → Type 0
 NotUp u v = Is (not (eqS (sgn (cross u v)) pls))
 
-pub right-before : (p q : Point) → before p q ≡ true → Right (fromTo p q)
-right-before p q e =
-    ⊎-elim
-    (λ (h : ltZ (p .x) (q .x) ≡ true). rw (rising (p .x) (q .x) h) (yes! tt))
-    (λ h. let k = and-true (not (ltZ (q .x) (p .x))) (ltZ (p .y) (q .y)) h in
-    rw (rising (p .y) (q .y) (k .1))
-    (up (sgn (q .x -ℤ p .x)) (sym (ltZ-sgn (q .x -ℤ p .x)) ∙ falling (p .x) (q .x) (not-is (ltZ (q .x) (p .x)) (k .0)))))
-    (or-true (ltZ (p .x) (q .x)) _ e)
-  where
-    rising : (a b : ℤ) → ltZ a b ≡ true → sgn (b -ℤ a) ≡ pls
-    rising a b h = <-sgn (b -ℤ a) (omega (lin, sub-parts b a, ltZ-true a b h))
-
-    falling : (a b : ℤ) → ltZ b a ≡ false → ltZ (b -ℤ a) (pos 0) ≡ false
-    falling a b h = false-ltZ (b -ℤ a) (pos 0) (omega (arith, sub-parts b a, ltZ-false b a h))
-
-    up : (s : Sgn) → is-mns s ≡ false → Is (right s pls)
-    up mns n = absurd (true≢false refl n)
-    up zer n = yes! tt
-    up pls n = yes! tt
-
--- ---- within them "not counterclockwise of" goes on
-pub cross-sign : (u v : Vector) → Is (plusOk (sgn (u .x) ⊗ sgn (v .y)) (flip (sgn (u .y) ⊗ sgn (v .x))) (sgn (cross u v)))
-cross-sign u v = rw (sgn-mul (u .x) (v .y), sgn-neg (u .y *ℤ v .x), sgn-mul (u .y) (v .x)) at (sgn-add (u .x *ℤ v .y) (negℤ (u .y *ℤ v .x)))
-
+-- ---- among ways to the right, or straight up, "not counterclockwise of" goes on
 pluecker : (r x c : Vector) → Is (plusOk (sgn (r .x) ⊗ sgn (cross x c)) (sgn (c .x) ⊗ sgn (cross r x)) (sgn (x .x) ⊗ sgn (cross r c)))
 pluecker r x c = three (x .x) (cross r c) (r .x) (cross x c) (c .x) (cross r x)
     (ring (r .x ∷ r .y ∷ x .x ∷ x .y ∷ c .x ∷ c .y ∷ [])

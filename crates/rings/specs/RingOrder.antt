@@ -5,7 +5,7 @@ use mathlib.Core.Path.{_≡_, refl, sym, ap, ap₂, _∙_}
 use mathlib.Core.Logic.{_⊎_, inl, inr, ⊎-elim}
 use mathlib.Core.Bool.{Bool, true, false, not, _&&_}
 use mathlib.Core.List.{List, [], _∷_}
-use lib.IntN.{ℤ, pos, negℤ, _-ℤ_}
+use lib.IntN.{pos, negℤ, _-ℤ_}
 use lib.ListN.{getD}
 use lib.Signed.{ltZ}
 use Rattle.laws.specs.Test.{pick-ind, Is, yes!, is-true, true-is, true≢false, _⇒_, _⇔_, ⇔-eq, mp}
@@ -15,12 +15,13 @@ use Rattle.turn.specs.declared.Vector.{Vector}
 use Rattle.turn.specs.Points.{before, fromTo, cross, dot}
 use Rattle.turn.specs.Angle.{halfTurn, sooner, metBefore, sameDirection, nonzero}
 use Rattle.turn.specs.Angular.{irreflexive, asymmetric, transitive, total, together}
+use Rattle.turn.specs.Directions.{cross-sign}
+use Rattle.turn.specs.Rightward.{right, right-before, sgn-back}
 use Rattle.turn.specs.PointOrder.{nonzero-forward, nonzero-back}
 use Rattle.graph.specs.Graph.{Graph}
 use Rattle.graph.specs.Checks.{awayFrom}
 use Rattle.graph.specs.Fine.{FineLinks, FineLists, FineBand}
 use Rattle.next.specs.Choice.{Mem}
-use Rattle.next.specs.Topmost.{right, right-before, cross-sign}
 use Rattle.rings.specs.Ends.{startsAt}
 
 -- e starts at the node or not, f does or not, and e's way from there to f's turns counterclockwise or not
@@ -87,13 +88,10 @@ module _ (g : Graph) (v k : ℕ) (strict : Forward g k) where
 
   turned-back : rightward (fromTo (g .b k) (g .a k)) ≡ false
   turned-back =
-      ap₂ right (back (g .a k .x) (g .b k .x)) (back (g .a k .y) (g .b k .y))
+      ap₂ right (sgn-back (g .b k .x) (g .a k .x)) (sgn-back (g .b k .y) (g .a k .y))
       ∙ opposite (sgn (g .b k .x -ℤ g .a k .x)) (sgn (g .b k .y -ℤ g .a k .y))
       (is-true (right-before (g .a k) (g .b k) strict))
     where
-      back : (p q : ℤ) → sgn (p -ℤ q) ≡ flip (sgn (q -ℤ p))
-      back p q = ap sgn (ring (p ∷ q ∷ []) (var 0 :- var 1) (neg (var 1 :- var 0)) tt) ∙ sgn-neg (q -ℤ p)
-
       opposite : (s t : Sgn) → right s t ≡ true → right (flip s) (flip t) ≡ false
       opposite mns t e = absurd (true≢false e refl)
       opposite zer mns e = absurd (true≢false e refl)

@@ -1,6 +1,6 @@
 -- Vectors by the signs of their cross and dot products. Every law of them is a few polynomial identities (`ring`), read
 -- as relations of signs (`three`), and a finite check of signs (`law`).
-use mathlib.Core.Path.{_≡_, refl, ap, _∙_, subst}
+use mathlib.Core.Path.{_≡_, refl, ap, _∙_}
 use mathlib.Core.List.{List, [], _∷_}
 use mathlib.Core.Bool.{Bool, true, false, not, _&&_}
 use lib.Dec.{T}
@@ -85,20 +85,22 @@ same-side w f g = ap (λ b. b && eqS (sgn (dot f g)) pls) (go w (sgn (cross f g)
     go false zer = refl
     go false pls = refl
 
--- a square is not below 0, and that of a vector that is not 0 is above
-square-of : (v : Vector) → Is (plusOk (sgn (v .x) ⊗ sgn (v .x)) (sgn (v .y) ⊗ sgn (v .y)) (sgn (dot v v)))
-square-of v =
-    subst (λ s. Is (plusOk s (sgn (v .y) ⊗ sgn (v .y)) (sgn (dot v v)))) (sgn-mul (v .x) (v .x))
-    (subst (λ s. Is (plusOk (sgn (v .x *ℤ v .x)) s (sgn (dot v v)))) (sgn-mul (v .y) (v .y)) (sgn-add (v .x *ℤ v .x) (v .y *ℤ v .y)))
+-- the products of two vectors by their signs
+pub cross-sign : (u v : Vector) → Is (plusOk (sgn (u .x) ⊗ sgn (v .y)) (flip (sgn (u .y) ⊗ sgn (v .x))) (sgn (cross u v)))
+cross-sign u v = rw (sgn-mul (u .x) (v .y), sgn-neg (u .y *ℤ v .x), sgn-mul (u .y) (v .x)) at (sgn-add (u .x *ℤ v .y) (negℤ (u .y *ℤ v .x)))
 
+pub dot-sign : (u v : Vector) → Is (plusOk (sgn (u .x) ⊗ sgn (v .x)) (sgn (u .y) ⊗ sgn (v .y)) (sgn (dot u v)))
+dot-sign u v = rw (sgn-mul (u .x) (v .x), sgn-mul (u .y) (v .y)) at (sgn-add (u .x *ℤ v .x) (u .y *ℤ v .y))
+
+-- a square is not below 0, and that of a vector that is not 0 is above
 pub square-not-below : (v : Vector) → Is (not (is-mns (sgn (dot v v))))
-square-not-below v = mp (all3 (λ a b c. plusOk (a ⊗ a) (b ⊗ b) c ⇒ not (is-mns c)) tt (sgn (v .x)) (sgn (v .y)) (sgn (dot v v))) (square-of v)
+square-not-below v = mp (all3 (λ a b c. plusOk (a ⊗ a) (b ⊗ b) c ⇒ not (is-mns c)) tt (sgn (v .x)) (sgn (v .y)) (sgn (dot v v))) (dot-sign v v)
 
 pub square : (v : Vector) → Is (nonzero v) → sgn (dot v v) ≡ pls
 square v h =
     eqS-eq (mp
     (mp (all3 (λ a b c. not (eqS a zer && eqS b zer) ⇒ plusOk (a ⊗ a) (b ⊗ b) c ⇒ eqS c pls) tt (sgn (v .x)) (sgn (v .y)) (sgn (dot v v))) h)
-    (square-of v))
+    (dot-sign v v))
 
 -- ---- three vectors
 -- what their six signs obey: a, b, c the sides of e f, e g, f g, and d, i, j the dot products of the same pairs

@@ -6,6 +6,7 @@ pub mod Area
 pub mod Size
 pub mod Rank
 pub mod Directions
+pub mod Rightward
 pub mod Angular
 pub mod First
 pub mod PointOrder

@@ -51,6 +51,9 @@ trans-ways p q r (inr a) (inr b) =
 pub before-transitive : (p q r : Point) → before p q ≡ true → before q r ≡ true → before p r ≡ true
 before-transitive p q r e f = trans-ways p q r (ways p q e) (ways q r f)
 
+pub before-asymmetric : (p q : Point) → before p q ≡ true → before q p ≡ false
+before-asymmetric p q e = not-true (before q p) (λ f. true≢false (before-transitive p q p e f) (before-irreflexive p))
+
 -- ---- total
 same-number : (a b : ℤ) → ltZ a b ≡ false → ltZ b a ≡ false → a ≡ b
 same-number a b e f = same a b (omega (arith, ltZ-false a b e, ltZ-false b a f))
