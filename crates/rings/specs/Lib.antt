@@ -19,6 +19,8 @@ pub mod Making
 pub mod Linking
 pub mod LinkOne
 pub mod LastEnd
+-- the lists that the code keeps
+pub mod Field
 -- worked examples
 pub mod RingTest
 pub mod Examples

@@ -1,1 +1,25 @@
-// The ends of links round a node in angular order, and rules 3 and 1 read off that ring. It stands in specs/; there is no function here.
+// Ends of links by number: 2 k is link k's a, 2 k + 1 its b.
+ghost use mathlib.Core.Path.{_≡_};
+ghost use Prim.Native.Nat.{_<_};
+ghost use lib.ListN.{length, getD};
+ghost use lib.Dec.{eqb};
+ghost use Rattle.laws.specs.Test.{pick};
+ghost use Rattle.rings.specs.Ends.{aEnd, bEnd, far};
+ghost use Rattle.rings.specs.Field.{crossMark};
+use turn::wide;
+
+// The other end of a link.
+pub fn far(h: usize) -> usize
+    requires { ⌜ h < crossMark ⌝ }
+    ensures { λ r. ⌜ r ≡ far h ⌝ }
+{
+    if h % 2 == 0 { h + 1 } else { h - 1 }
+}
+
+// Link k's end at node v, by the a's nodes.
+pub fn end_of(aid: &[u32], v: usize, k: usize) -> usize
+    requires { ⌜ (k < length (now aid)) × (k < crossMark) ⌝ }
+    ensures { λ r. ⌜ r ≡ pick (eqb (getD (now (aid .entry)) k 0) v) (aEnd k) (bEnd k) ⌝ }
+{
+    if wide(aid[k]) == v { 2 * k } else { 2 * k + 1 }
+}
