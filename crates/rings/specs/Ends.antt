@@ -132,6 +132,10 @@ end-once g v j k q = sym (end-link g v j) ∙ ap linkOf q ∙ end-link g v k
 pub end-below : (g : Graph) (v k n : ℕ) → k < n → endOf g v k < 2 * n
 end-below g v k n l = pick-ind (startsAt g v k) (aEnd k) (bEnd k) (λ h. h < 2 * n) (λ _. omega arith) (λ _. omega arith)
 
+pub far-below : (h n : ℕ) → h < 2 * n → far h < 2 * n
+far-below = by-end (λ h. (n : ℕ) → h < 2 * n → far h < 2 * n)
+    (λ k n l. subst (λ x. x < 2 * n) (sym (far-a k)) (omega arith)) (λ k n l. subst (λ x. x < 2 * n) (sym (far-b k)) (omega arith))
+
 pub link-below : (h n : ℕ) → h < 2 * n → linkOf h < n
 link-below h n l = omega arith
 

@@ -21,6 +21,7 @@ pub mod LinkOne
 pub mod LastEnd
 -- the lists that the code keeps
 pub mod Field
+pub mod Steering
 -- worked examples
 pub mod RingTest
 pub mod Examples
