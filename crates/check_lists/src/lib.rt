@@ -11,11 +11,19 @@ ghost use Rattle.graph.specs.Known.{Ids};
 use graph::entries;
 use turn::wide;
 
-// Check 5, of the shared graph: whether a node from one start to the next has under two entries.
+// One less, or 0.
+fn less_one(x: u32) -> u32
+    ensures { λ r. ⌜ r ≡ x - 1 ⌝ }
+{
+    if x == 0 { 0 } else { x - 1 }
+}
+
+// Check 5, of the shared graph: whether a node from one start to the next has under two entries. In the starts' own 32 bits, so that the loop
+// over them is compiled for several at a time.
 fn short(from: u32, to: u32) -> bool
     ensures { λ r. ⌜ r ≡ ltb to (from + 2) ⌝ }
 {
-    (to as usize) < from as usize + 2
+    less_one(to) <= from
 }
 
 // Whether a start falls, or leaves its node under two entries.

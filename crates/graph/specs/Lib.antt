@@ -11,6 +11,7 @@ pub mod Total
 pub mod Exact
 pub mod Fine
 pub mod Sound
+pub mod Complete
 pub mod EndLaws
 pub mod BridgeLaws
 pub mod Told
