@@ -11,7 +11,7 @@ use lib.ListN.{length, getD}
 use Rattle.laws.specs.Test.{pick}
 use Rattle.turn.specs.Limits.{maxLinks}
 use Rattle.turn.specs.Points.{clockwise}
-use Rattle.graph.specs.Graph.{Graph, pointAt}
+use Rattle.graph.specs.Graph.{Lent, Graph, graphOf, nodeCount, pointAt}
 use Rattle.graph.specs.Fine.{FineLinks}
 use Rattle.next.specs.Next.{isUnvisited, onlyUnvisited, nextLink, firstLink}
 use Rattle.next.specs.Choice.{Mem}
@@ -65,6 +65,19 @@ pub record LaidCross (g : Graph) (state : List ℕ) (v : ℕ) (nxt prv : List �
 pub record Laid (g : Graph) (state : List ℕ) (v : ℕ) (nxt prv lead : List ℕ) : Type 0 where
   pub bridge : (x y : ℕ) → g .entries v ≡ x ∷ (y ∷ []) → LaidBridge g v x y nxt lead
   pub cross : (length (g .entries v) ≡ 2 → ⊥) → LaidCross g state v nxt prv
+
+-- all nodes are laid, whatever the tops
+abbrev pub AllLaid : Lent → List ℕ → List ℕ → List ℕ → List ℕ → Type 0
+AllLaid g state nxt prv lead = (top : List ℕ) (v : ℕ) → v < nodeCount g → Laid (graphOf g top) state v nxt prv lead
+
+-- room for the ends of n links, and for the links; nothing is written for any link yet
+pub record Spacious (n nxts prvs leads : ℕ) : Type 0 where
+  pub nxt-room : 2 * n ≤ nxts
+  pub prv-room : 2 * n ≤ prvs
+  pub lead-room : n ≤ leads
+
+abbrev pub Unled : List ℕ → Type 0
+Unled lead = (k : ℕ) → getD lead k 0 ≡ 0
 
 -- the node of end h, by the lists of the links' nodes
 abbrev pub endNode : List ℕ → List ℕ → ℕ → ℕ

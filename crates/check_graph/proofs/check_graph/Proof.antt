@@ -7,8 +7,10 @@ use Rattle.turn.specs.declared.Checked.{Checked}
 use Rattle.turn.specs.declared.Checked.the-variants.{Fine}
 use Rattle.turn.specs.Refusals.{followedBy}
 use Rattle.graph.specs.Graph.{Lent, lent}
-use Rattle.graph.specs.Checks.{room, linksChecked, nodesChecked, checked}
+use Rattle.graph.specs.Checks.{linksChecked, nodesChecked, checked}
 use Rattle.graph.specs.Told.{LinksTold, links-told}
+use Rattle.check_graph.specs.Rooms.{roomOf}
+use Rattle.check_graph.proofs.Verdicts.{not-fine}
 
 abbrev g : tie.Start → Lent
 g s = lent (s .args .ax .now) (s .args .ay .now) (s .args .bx .now) (s .args .by .now) (s .args .aid .now) (s .args .bid .now) (s .args .start .now)
@@ -16,10 +18,10 @@ g s = lent (s .args .ax .now) (s .args .ay .now) (s .args .bx .now) (s .args .by
 
 -- what checks 1 to 4 say
 abbrev first : tie.Start → Checked
-first s = linksChecked (g s) (s .args .top .now) (s .args .state .now) (room (s .args .points) (s .args .firsts) (s .args .lens) (s .args .kinds))
+first s = linksChecked (g s) (s .args .top .now) (s .args .state .now) (roomOf (s .args .room))
 
 told : (s : tie.Start) → first s ≡ Fine → LinksTold (g s) (s .args .state .now)
-told s e = links-told (g s) (s .args .top .now) (s .args .state .now) (room (s .args .points) (s .args .firsts) (s .args .lens) (s .args .kinds)) e
+told s e = links-told (g s) (s .args .top .now) (s .args .state .now) (roomOf (s .args .room)) e
 
 check-links-requires : tie.Need-check-links-requires
 check-links-requires c κs = search needs
@@ -32,25 +34,39 @@ enum-told c = search needs
 
 check-nodes-requires : tie.Need-check-nodes-requires
 check-nodes-requires c κs =
-    let t = told (c .before .before .before .before .before .before .before .before .before) (sym (c .before .before .check-links .ensures)
-    ∙ c .enum-told .given .1) in
-    (t .points, (t .grids, (t .states, ((t .ids, t .few, record { same = t .ids .same; strict = t .strict; two = t .ids .two }), t .starts))))
+    let s = c .before .before .before .before .before .before .before .before .before .before .before .before .before .before .before in
+    let t = told s (sym (c .before .before .before .before .before .check-links .ensures) ∙ c .before .before .before .enum-told .given .1) in
+    (t, (s .pre .0 (t .few), s .pre .1))
 
 returns : tie.Need-returns
 unfolding checked
 returns c =
-    let s = c .before .before .before .before .before .before .before .before .before .before in
-    sym (ap (λ (k : Checked). followedBy k (nodesChecked (g s) (s .args .state .now))) (sym (c .before .before .before .check-links .ensures)
-    ∙ c .before .number .given .1))
+    let s = c .before .before .before .before .before .before .before .before .before .before .before .before .before in (
+      sym (ap (λ (k : Checked). followedBy k (nodesChecked (g s) (s .args .state .now))) (sym (c .before .before .before .check-links .ensures)
+          ∙ c .before .number .given .1)),
+      λ e. absurd (not-fine _ _ e),
+    )
+
+same-length : tie.Need-same-length
+same-length c = search needs
+
+same-length-2 : tie.Need-same-length-2
+same-length-2 c = search needs
+
+same-length-3 : tie.Need-same-length-3
+same-length-3 c = search needs
 
 returns-2 : tie.Need-returns-2
 unfolding checked
 returns-2 c =
-    let s = c .before .before .before .before .before .before .before .before .before .before in
-    c .check-nodes .ensures ∙ sym
-    (ap (λ (k : Checked). followedBy k (nodesChecked (g s) (s .args .state .now))) (sym (c .before .before .before .check-links .ensures)
-    ∙ c .before .enum-told .given .1))
+    let s = c .before .before .before .before .before .before .before .before .before .before .before .before .before .before .before .before .before .before .before .before .before .before in
+    let o = c .before .before .before .before .before .before in (
+      o .check-nodes .ensures .0 ∙ sym
+          (ap (λ (k : Checked). followedBy k (nodesChecked (g s) (s .args .state .now))) (sym (o .before .before .before .before .before .before .check-links .ensures)
+          ∙ o .before .before .before .before .enum-told .given .1)),
+      o .check-nodes .ensures .1,
+    )
 
 pub check-graph-spec : {M : Type 1} → statement M
-check-graph-spec = tie.close (tie.spec check-links-requires enum-known-number enum-told check-nodes-requires returns
-    returns-2)
+check-graph-spec = tie.close (tie.spec check-links-requires enum-known-number enum-told check-nodes-requires returns same-length same-length-2
+    same-length-3 returns-2)

@@ -5,74 +5,102 @@ use Prim.Native.Nat.{_*_}
 use native.Mathlib.Omega.{arith}
 use mathlib.Core.Path.{_≡_, sym, ap, _∙_}
 use mathlib.Core.Bool.{Bool, false, not, _||_}
+use mathlib.Core.List.{List}
 use lib.Dec.{eqb}
 use lib.ListN.{length}
 use borrow.Author.Needs.{needs}
-use Rattle.laws.specs.Test.{or-false, not-is}
+use Rattle.laws.specs.Test.{or-false}
 use Rattle.laws.specs.Fails.{ne-fails}
-use Rattle.laws.specs.Lowest.{none-of}
-use Rattle.graph.specs.Graph.{lent}
+use Rattle.graph.specs.Graph.{Lent, lent, linkCount}
 use Rattle.graph.specs.Checks.{badStarts, nodesChecked}
-use Rattle.graph.specs.Passes.{Rising}
-use Rattle.graph.specs.Tests.{rising}
+use Rattle.graph.specs.Told.{LinksTold}
 use Rattle.graph.specs.Total.{other-total}
-use Rattle.graph.specs.Sound.{fine-node, nodes-fine}
+use Rattle.check_graph.proofs.Verdicts.{not-fine, runs-of, rises, none-wrong, some-wrong}
+
+abbrev g : tie.Start → Lent
+g s = lent (s .args .ax .now) (s .args .ay .now) (s .args .bx .now) (s .args .by .now) (s .args .aid .now) (s .args .bid .now) (s .args .start .now)
+    (s .args .list .now)
+
+told : (s : tie.Start) → LinksTold (g s) (s .args .state .now)
+told s = s .pre .0
+
+abbrev at-start : tie.After-bad-starts → tie.Start
+at-start c = c .before .before .before .before .before .before .before .before .before
 
 bad-starts-requires : tie.Need-bad-starts-requires
-bad-starts-requires c κs = search needs
+bad-starts-requires c κs = told (c .before .before .before .before .before .before .before .before) .starts
 
 mul-if1 : tie.Need-mul-if1
-mul-if1 c = omega (arith, c .before .before .before .before .before .before .pre .1 .1 .1 .0 .1)
+mul-if1 c = omega (arith, told (at-start c) .few)
 
 -- what the call says of the starts
-asked : (c : tie.After-bad-starts) → let x = c .before .before .before .before .before .before .args in
+asked : (c : tie.After-bad-starts) → let x = at-start c .args in
     c .bad-starts .result || not (eqb (length (x .list .now)) (2 * length (x .aid .now))) ≡ badStarts (x .start .now) (x .list .now)
     || not (eqb (length (x .list .now)) (2 * length (x .aid .now)))
 asked c =
-    let x = c .before .before .before .before .before .before .args in
+    let x = at-start c .args in
     ap (λ (t : Bool). t || not (eqb (length (x .list .now)) (2 * length (x .aid .now)))) (c .bad-starts .ensures)
 
 returns : tie.Need-returns
 unfolding nodesChecked
 returns c =
-    let x = c .before .before .before .before .before .before .before .args in
-    simp (other-total (x .aid .now) (x .bid .now) (x .start .now) (x .list .now)
-    (c .before .before .before .before .before .before .before .pre .1 .1 .1 .1)
-    (c .before .before .before .before .before .before .before .pre .1 .1 .1 .0 .0) (sym (asked (c .before)) ∙ c .if1 .taken))
+    let s = at-start (c .before) in
+    let x = s .args in (
+      simp (other-total (x .aid .now) (x .bid .now) (x .start .now) (x .list .now) (told s .starts) (told s .ids) (sym (asked (c .before)) ∙ c .if1 .taken)),
+      λ e. absurd (not-fine 5 0 e),
+    )
 
 -- the starts are right, and the list is as long as it must be
-right : (c : tie.Else1) → let x =
-    c .before .before .before .before .before .before .before .args in
+right : (c : tie.Else1) → let x = at-start (c .before) .args in
     (badStarts (x .start .now) (x .list .now) ≡ false) × (length (x .list .now) ≡ 2 * length (x .aid .now))
 right c = let h = or-false _ _ (sym (asked (c .before)) ∙ c .if1 .left) in (h .0, ne-fails _ _ .to (h .1))
 
-rises : (c : tie.Else1) → let x = c .before .before .before .before .before .before .before .args in Rising (x .start .now) (x .list .now)
-rises c =
-    let x = c .before .before .before .before .before .before .before .args in
-    rising (x .start .now) (x .list .now) (c .before .before .before .before .before .before .before .pre .1 .1 .1 .1) .to (right c .0)
-
-any-node-wrong-requires : tie.Need-any-node-wrong-requires
-any-node-wrong-requires c κs =
-    let p = c .before .before .before .before .before .before .before .pre in (p .0, (p .1 .0, (p .1 .1 .0, (p .1 .1 .1 .0 .2, rises c))))
-
-returns-2 : tie.Need-returns-2
-returns-2 c =
-    let x = c .before .before .before .before .before .before .before .before .before .args in
-    let n = none-of _ _ (sym (c .before .any-node-wrong .ensures) ∙ not-is _ (c .if2 .taken)) in
-    sym
-    (nodes-fine (lent (x .ax .now) (x .ay .now) (x .bx .now) (x .by .now) (x .aid .now) (x .bid .now) (x .start .now) (x .list .now)) (x .state .now)
-    (rises (c .before .before)) (c .before .before .before .before .before .before .before .before .before .pre .1 .1 .1 .0 .0)
-    (λ v l. fine-node _ _ _ _ _ _ _ v (n v l))
-    (right (c .before .before) .1) (right (c .before .before) .0))
+lay-nodes-requires : tie.Need-lay-nodes-requires
+lay-nodes-requires c κs =
+    let k = c .before .before .before in
+    let s = at-start (k .before) in
+    let t = told s in
+    (t .points, (t .grids, (t .states, ((runs-of (g s) _ t, rises (g s) _ t (right k .0)), (t .few, s .pre .1 .0, s .pre .1 .1)))))
 
 check-in-order-requires : tie.Need-check-in-order-requires
 check-in-order-requires c κs =
-    let p = c .before .before .before .before .before .before .before .before .before .pre in
-    (p .0, (p .1 .0, (p .1 .1 .0, (p .1 .1 .1 .0 .0, p .1 .1 .1 .1))))
+    let t = told (at-start (c .before .before .before .before .before .before .before .before .before .before .before .before)) in (t .points, (t .grids, (t .states, (t .ids, t .starts))))
+
+same-length : tie.Need-same-length
+same-length c = search needs
+
+same-length-2 : tie.Need-same-length-2
+same-length-2 c = search needs
+
+same-length-3 : tie.Need-same-length-3
+same-length-3 c = search needs
+
+returns-2 : tie.Need-returns-2
+returns-2 c =
+    let o = c .before in
+    let s = at-start (o .before .before .before .before .before .before .before .before .before .before .before .before) in (
+      c .check-in-order .ensures,
+      λ e. absurd (some-wrong (g s) _ (told s) (sym (o .before .before .before .before .before .before .before .lay-nodes .ensures .0) ∙ o .if2 .taken) (sym (c .check-in-order .ensures) ∙ e)),
+    )
+
+same-length-4 : tie.Need-same-length-4
+same-length-4 c = search needs
+
+same-length-5 : tie.Need-same-length-5
+same-length-5 c = search needs
+
+same-length-6 : tie.Need-same-length-6
+same-length-6 c = search needs
 
 returns-3 : tie.Need-returns-3
-returns-3 c = search needs
+returns-3 c =
+    let k = c .before .before .before .before .before .before .before .before .before .before .before in
+    let s = at-start (k .before) in
+    let o = c .before .before .before .before .before .before .before in (
+      sym (none-wrong (g s) _ (told s) (right k .0) (right k .1) (sym (o .lay-nodes .ensures .0) ∙ c .if2 .left)),
+      λ _. o .lay-nodes .ensures .1 (c .if2 .left),
+    )
 
 pub check-nodes-spec : {M : Type 1} → statement M
-check-nodes-spec = tie.close (tie.spec bad-starts-requires mul-if1 returns any-node-wrong-requires returns-2
-    check-in-order-requires returns-3)
+check-nodes-spec = tie.close (tie.spec bad-starts-requires mul-if1 returns lay-nodes-requires check-in-order-requires same-length same-length-2
+    same-length-3 returns-2 same-length-4 same-length-5 same-length-6 returns-3)

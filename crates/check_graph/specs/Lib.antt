@@ -1,0 +1,2 @@
+-- The room that is lent, as the checks read it.
+pub mod Rooms
