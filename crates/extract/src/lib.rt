@@ -1,18 +1,148 @@
 // Extraction: checks 1 to 7, the scan, and what each lent buffer then holds.
 ghost use mathlib.Core.Path.{_≡_};
+ghost use mathlib.Core.List.{List, map};
+ghost use Prim.Native.Nat.{ℕ, _≤_};
 ghost use lib.ListN.{length};
+ghost use Rattle.turn.specs.Limits.{maxLinks};
 ghost use Rattle.turn.specs.declared.Checked.the-variants.{Fine};
-ghost use Rattle.graph.specs.Graph.{Lent, lent, Graph, graphOf};
-ghost use Rattle.graph.specs.Checks.{checked, room};
+ghost use Rattle.graph.specs.Graph.{Lent, lent, Graph};
+ghost use Rattle.graph.specs.Checks.{checked};
+ghost use Rattle.next.specs.Known.{Links};
+ghost use Rattle.rings.specs.Field.{Field, Fielded, Spacious, Unled, AllLaid};
+ghost use Rattle.walk.specs.Code.{Kept, unmark};
+ghost use Rattle.keep.specs.Tables.{Tables, tables, noCounts};
 ghost use Rattle.scan.specs.Scan.{scan};
-ghost use Rattle.extract.specs.Extract.{extractedAs, afterScan, extracted};
+ghost use Rattle.scan.specs.Notes.{Roomy, ScanLeaves, Ends};
 ghost use Rattle.finish.specs.Finish.{Buffers, buffers};
+ghost use Rattle.extract.specs.Sizes.{fewLinks};
+ghost use Rattle.extract.specs.Extract.{extractedAs, afterScan, extracted};
+ghost use Rattle.extract.specs.Rooms.{roomOf};
 use scan::Extraction;
 use scan::Settings;
 use turn::Checked;
 
-// Extraction of a graph that passes checks 1 to 7.
+// A graph with few links is walked over small arrays, which cost little to make.
+const FEW_LINKS: usize = 128;
+const FEW_ENDS: usize = 256;
+const MAX_ENDS: usize = 8192;
+
+pub struct Room {
+    pub points: usize,
+    pub firsts: usize,
+    pub lens: usize,
+    pub kinds: usize,
+}
+
+// TEMPORARY
+fn check_graph(
+    ax: &[i32],
+    ay: &[i32],
+    bx: &[i32],
+    by: &[i32],
+    aid: &[u32],
+    bid: &[u32],
+    start: &[u32],
+    list: &[u32],
+    top: &[u8],
+    state: &[u8],
+    room: Room,
+    nxt: &mut [u32],
+    prv: &mut [u32],
+    lead: &mut [u8],
+) -> Checked
+    requires { ⌜ (length (now aid) ≤ maxLinks → Spacious (length (now aid)) (length (now nxt)) (length (now prv)) (length (now lead)))
+        × (Unled (now lead)) ⌝ }
+    ensures { λ r. ⌜ (let g : Lent = lent (now (ax .entry)) (now (ay .entry)) (now (bx .entry)) (now (by .entry)) (now (aid .entry))
+        (now (bid .entry)) (now (start .entry)) (now (list .entry)) in
+        r ≡ checked g (now (top .entry)) (now (state .entry)) (roomOf room)) ⌝ }
+    ensures { λ r. ⌜ (let g : Lent = lent (now (ax .entry)) (now (ay .entry)) (now (bx .entry)) (now (by .entry)) (now (aid .entry))
+        (now (bid .entry)) (now (start .entry)) (now (list .entry)) in
+        r ≡ Fine → AllLaid g (now (state .entry)) (now (nxt .exit)) (now (prv .exit)) (now (lead .exit))) ⌝ }
+{
+    Checked::Fine
+}
+
+// TEMPORARY
+fn scan_links(
+    ax: &[i32],
+    ay: &[i32],
+    bx: &[i32],
+    by: &[i32],
+    nxt: &[u32],
+    prv: &[u32],
+    lead: &[u8],
+    top: &[u8],
+    settings: Settings,
+    state: &mut [u8],
+    points: &mut [i32],
+    first: &mut [u32],
+    len: &mut [u32],
+    kind: &mut [u8],
+) -> Extraction
+    requires { ⌜ Fielded (now ax) (now ay) (now bx) (now by) (now top) (now nxt) (now prv) (now lead) (now state) ⌝ }
+    requires { ⌜ (Links (now ax) (now ay) (now bx) (now by) (length (now state))) × (length (now top) ≡ length (now state)) ⌝ }
+    requires { ⌜ Roomy (length (now state)) (length (now points)) (length (now first)) (length (now len)) (length (now kind)) ⌝ }
+    ensures { λ r. ⌜ ((g : Graph) → Field g (now (ax .entry)) (now (ay .entry)) (now (bx .entry)) (now (by .entry)) (now (top .entry)) (now (nxt .entry))
+        (now (prv .entry)) (now (lead .entry)) (now (state .entry)) →
+        (let before : Tables = tables (now (points .entry)) (now (first .entry)) (now (len .entry)) (now (kind .entry)) noCounts in
+        ScanLeaves g (settings .minimum) before (scan g (settings .clockwise) (now (state .entry))) r (now (state .exit)) (now (points .exit))
+        (now (first .exit)) (now (len .exit)) (now (kind .exit)))) ⌝ }
+    ensures { λ r. ⌜ Ends (length (now (state .entry))) r ⌝ }
+    ensures { λ _. ⌜ Kept (now (state .entry)) (now (state .exit)) ⌝ }
+{
+    Extraction::Refused { number: 8, place: 0 }
+}
+
+// Extraction of a graph that passes checks 1 to 7, over the field of its ends.
 fn extract_fine(
+    ax: &[i32],
+    ay: &[i32],
+    bx: &[i32],
+    by: &[i32],
+    nxt: &[u32],
+    prv: &[u32],
+    lead: &[u8],
+    top: &[u8],
+    settings: Settings,
+    state: &mut [u8],
+    points: &mut [i32],
+    first: &mut [u32],
+    len: &mut [u32],
+    kind: &mut [u8],
+) -> Extraction
+    requires { ⌜ Fielded (now ax) (now ay) (now bx) (now by) (now top) (now nxt) (now prv) (now lead) (now state) ⌝ }
+    requires { ⌜ (Links (now ax) (now ay) (now bx) (now by) (length (now state))) × (length (now top) ≡ length (now state)) ⌝ }
+    requires { ⌜ Roomy (length (now state)) (length (now points)) (length (now first)) (length (now len)) (length (now kind)) ⌝ }
+    requires { ⌜ map unmark (now state) ≡ now state ⌝ }
+    ensures { λ r. ⌜ ((g : Graph) → Field g (now (ax .entry)) (now (ay .entry)) (now (bx .entry)) (now (by .entry)) (now (top .entry)) (now (nxt .entry))
+        (now (prv .entry)) (now (lead .entry)) (now (state .entry)) →
+        (let before : Buffers = buffers (now (state .entry)) (now (points .entry)) (now (first .entry)) (now (len .entry))
+        (now (kind .entry)) in
+        let after : Buffers = buffers (now (state .exit)) (now (points .exit)) (now (first .exit)) (now (len .exit)) (now (kind .exit)) in
+        extractedAs r after ≡ afterScan g (settings .minimum) before (scan g (settings .clockwise) (now (state .entry))))) ⌝ }
+{
+    let answer = scan_links(
+        ax,
+        ay,
+        bx,
+        by,
+        nxt,
+        prv,
+        lead,
+        top,
+        settings,
+        state,
+        points,
+        first,
+        len,
+        kind,
+    );
+    finish::finish(answer, state, points, first, len, kind);
+    answer
+}
+
+// Extraction of a graph with few links.
+fn extract_few(
     ax: &[i32],
     ay: &[i32],
     bx: &[i32],
@@ -29,35 +159,81 @@ fn extract_fine(
     len: &mut [u32],
     kind: &mut [u8],
 ) -> Extraction
-    requires { ⌜ (let g : Lent = lent (now ax) (now ay) (now bx) (now by) (now aid) (now bid) (now start) (now list) in
-        checked g (now top) (now state) (room (length (now points)) (length (now first)) (length (now len)) (length (now kind))) ≡ Fine) ⌝ }
+    requires { ⌜ length (now aid) ≤ fewLinks ⌝ }
     ensures { λ r. ⌜ (let g : Lent = lent (now (ax .entry)) (now (ay .entry)) (now (bx .entry)) (now (by .entry)) (now (aid .entry))
         (now (bid .entry)) (now (start .entry)) (now (list .entry)) in
-        let graph : Graph = graphOf g (now (top .entry)) in
         let before : Buffers = buffers (now (state .entry)) (now (points .entry)) (now (first .entry)) (now (len .entry))
         (now (kind .entry)) in
         let after : Buffers = buffers (now (state .exit)) (now (points .exit)) (now (first .exit)) (now (len .exit)) (now (kind .exit)) in
-        extractedAs r after ≡ afterScan graph (settings .minimum) before (scan graph (settings .clockwise) (now (state .entry)))) ⌝ }
+        extractedAs r after ≡ extracted g (now (top .entry)) (settings .clockwise) (settings .minimum) before) ⌝ }
 {
-    let answer = scan::scan_links(
-        ax,
-        ay,
-        bx,
-        by,
-        aid,
-        bid,
-        start,
-        list,
-        top,
-        settings,
-        state,
-        points,
-        first,
-        len,
-        kind,
-    );
-    finish::finish(answer, state, points, first, len, kind);
-    answer
+    let mut nxt = [0u32; FEW_ENDS];
+    let mut prv = [0u32; FEW_ENDS];
+    let mut lead = [0u8; FEW_LINKS];
+    let room = Room {
+        points: points.len(),
+        firsts: first.len(),
+        lens: len.len(),
+        kinds: kind.len(),
+    };
+    match check_graph(
+        ax, ay, bx, by, aid, bid, start, list, top, state, room, &mut nxt, &mut prv, &mut lead,
+    ) {
+        Checked::Refused { number, place } => Extraction::Refused {
+            number: number,
+            place: place,
+        },
+        Checked::Fine => extract_fine(
+            ax, ay, bx, by, &nxt, &prv, &lead, top, settings, state, points, first, len, kind,
+        ),
+    }
+}
+
+// Extraction of any graph, over arrays for as many links as may be.
+fn extract_many(
+    ax: &[i32],
+    ay: &[i32],
+    bx: &[i32],
+    by: &[i32],
+    aid: &[u32],
+    bid: &[u32],
+    start: &[u32],
+    list: &[u32],
+    top: &[u8],
+    settings: Settings,
+    state: &mut [u8],
+    points: &mut [i32],
+    first: &mut [u32],
+    len: &mut [u32],
+    kind: &mut [u8],
+) -> Extraction
+    ensures { λ r. ⌜ (let g : Lent = lent (now (ax .entry)) (now (ay .entry)) (now (bx .entry)) (now (by .entry)) (now (aid .entry))
+        (now (bid .entry)) (now (start .entry)) (now (list .entry)) in
+        let before : Buffers = buffers (now (state .entry)) (now (points .entry)) (now (first .entry)) (now (len .entry))
+        (now (kind .entry)) in
+        let after : Buffers = buffers (now (state .exit)) (now (points .exit)) (now (first .exit)) (now (len .exit)) (now (kind .exit)) in
+        extractedAs r after ≡ extracted g (now (top .entry)) (settings .clockwise) (settings .minimum) before) ⌝ }
+{
+    let mut nxt = [0u32; MAX_ENDS];
+    let mut prv = [0u32; MAX_ENDS];
+    let mut lead = [0u8; turn::MAX_LINKS];
+    let room = Room {
+        points: points.len(),
+        firsts: first.len(),
+        lens: len.len(),
+        kinds: kind.len(),
+    };
+    match check_graph(
+        ax, ay, bx, by, aid, bid, start, list, top, state, room, &mut nxt, &mut prv, &mut lead,
+    ) {
+        Checked::Refused { number, place } => Extraction::Refused {
+            number: number,
+            place: place,
+        },
+        Checked::Fine => extract_fine(
+            ax, ay, bx, by, &nxt, &prv, &lead, top, settings, state, points, first, len, kind,
+        ),
+    }
 }
 
 // Extraction: checks 1 to 7, then the scan. The states, the points and the contour table are then as document 01 says.
@@ -86,45 +262,16 @@ pub fn extract(
         let after : Buffers = buffers (now (state .exit)) (now (points .exit)) (now (first .exit)) (now (len .exit)) (now (kind .exit)) in
         extractedAs r after ≡ extracted g (now (top .entry)) clockwise minimum before) ⌝ }
 {
-    match check_graph::check_graph(
-        ax,
-        ay,
-        bx,
-        by,
-        aid,
-        bid,
-        start,
-        list,
-        top,
-        state,
-        points.len(),
-        first.len(),
-        len.len(),
-        kind.len(),
-    ) {
-        Checked::Refused { number, place } => Extraction::Refused {
-            number: number,
-            place: place,
-        },
-        Checked::Fine => extract_fine(
-            ax,
-            ay,
-            bx,
-            by,
-            aid,
-            bid,
-            start,
-            list,
-            top,
-            Settings {
-                clockwise: clockwise,
-                minimum: minimum,
-            },
-            state,
-            points,
-            first,
-            len,
-            kind,
-        ),
+    let settings = Settings {
+        clockwise: clockwise,
+        minimum: minimum,
+    };
+    if aid.len() <= FEW_LINKS {
+        return extract_few(
+            ax, ay, bx, by, aid, bid, start, list, top, settings, state, points, first, len, kind,
+        );
     }
+    extract_many(
+        ax, ay, bx, by, aid, bid, start, list, top, settings, state, points, first, len, kind,
+    )
 }
