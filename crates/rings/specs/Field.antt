@@ -101,6 +101,7 @@ pub record Steers (g : Graph) (nxt prv st : List ℕ) : Type 0 where
   pub prv-long : 2 * g .n ≤ length prv
   pub nodes : ℕ
   pub links : FineLinks g nodes
+  pub only : (v k : ℕ) → Mem k (g .entries v) → (g .aNode k ≡ v) ⊎ (g .bNode k ≡ v)
   pub bridge : (h : ℕ) → linkOf h < g .n → (getD st (linkOf h) 0 ≡ 1 → ⊥) → getD nxt h 0 < crossMark → Across g nxt h
   pub cross : (h : ℕ) → linkOf h < g .n → (getD st (linkOf h) 0 ≡ 1 → ⊥) → (getD nxt h 0 < crossMark → ⊥)
       → (s : List ℕ) → Later st s → isUnvisited s (linkOf h) ≡ false → (sense : Bool)

@@ -153,6 +153,7 @@ module _ {g : Graph} {m : ℕ} {top state : List ℕ} (links : FineLinks g m) (l
       prv-long = prv-long;
       nodes = m;
       links = links;
+      only = lists .only;
       bridge = over;
       cross = λ h below unskipped marked s later visited sense.
           let n = is-cross h below marked in
