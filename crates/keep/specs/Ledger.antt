@@ -6,7 +6,7 @@ use mathlib.Core.Path.{_≡_, refl, sym, ap, ap₂, _∙_, subst}
 use mathlib.Core.Bool.{Bool, true, false}
 use mathlib.Core.List.{List, [], _∷_, _++_, map, append-nil, append-assoc}
 use lib.ListN.{length, set, take, drop, replicate, length-set, length-append, length-drop, length-map}
-use lib.Seq.{sets, sets-eq, length-sets, take-set-le, take-suc-set, take-at, drop-at, length-take-le}
+use lib.Seq.{sets, sets-eq, length-sets, take-set-le, take-suc-set, take-at, length-take-le}
 use lib.IntN.{ℤ, pos, _+ℤ_, +ℤ-idl, +ℤ-idr, +ℤ-assoc}
 use borrow.Author.Tests.{leb-true}
 use lib.Dec.{leb}
@@ -57,15 +57,6 @@ module _ (pts : List ℤ) (at : ℕ) (l : List Point) (room : (at + length l) * 
     where
       long : length (take (at * 2) pts ++ coordinates l) ≡ (at + length l) * 2
       long = omega (arith, length-append (take (at * 2) pts) (coordinates l), front, coordinates-length l)
-
-  pub paste-part : take ((at + length l) * 2 - at * 2) (drop (at * 2) (paste pts at l)) ≡ coordinates l
-  paste-part =
-      rw (
-        paste-is,
-        append-assoc (take (at * 2) pts) (coordinates l) (drop (at * 2 + length (coordinates l)) pts),
-        drop-at (take (at * 2) pts) (coordinates l ++ drop (at * 2 + length (coordinates l)) pts) (at * 2) front,
-      )
-      (take-at (coordinates l) _ ((at + length l) * 2 - at * 2) (omega (arith, coordinates-length l)))
 
 -- a list of which only what stands past index n is pasted over keeps its first n
 pub paste-past : (pts : List ℤ) (at : ℕ) (l : List Point) → take (at * 2) (paste pts at l) ≡ take (at * 2) pts

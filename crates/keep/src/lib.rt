@@ -1,14 +1,13 @@
 // Rule 6: a walk is kept, and entered in the contour table, or it is rejected, and counted.
 ghost use mathlib.Core.Path.{_≡_};
 ghost use mathlib.Core.Bool.{true};
-ghost use mathlib.Core.List.{[]};
+ghost use mathlib.Core.List.{List, []};
 ghost use Prim.Native.Nat.{_+_, _-_, _*_, _<_, _≤_};
-ghost use lib.ListN.{length, set, take, drop};
-ghost use lib.IntN.{natAbs};
+ghost use lib.ListN.{length, set};
+ghost use lib.IntN.{ℤ, natAbs};
 ghost use Rattle.laws.specs.Test.{pick};
 ghost use Rattle.turn.specs.Limits.{maxLinks};
-ghost use Rattle.turn.specs.Points.{Grid};
-ghost use Rattle.turn.specs.Area.{area, pointsOf, wedgeBound};
+ghost use Rattle.turn.specs.Area.{wedgeBound};
 ghost use Rattle.keep.specs.Tables.{Tables, tables, enterKept, enterRejected, enter, Within, noCounts};
 
 // What extraction returns on success. `kept_area` and `rejected_area` are the signed doubled totals of kept and of rejected walks.
@@ -96,29 +95,25 @@ fn kind_of(hole: bool) -> u8
     if hole { 1 } else { 0 }
 }
 
-// Rule 6: a walk whose points stand up to number `to` is entered as a contour, or counted as rejected.
+// Rule 6: a walk whose points stand up to number `to`, with its doubled area, is entered as a contour, or counted as rejected.
 pub fn note_walk(
-    points: &[i32],
     first: &mut [u32],
     len: &mut [u32],
     kind: &mut [u8],
     hole: bool,
     minimum: u64,
     to: usize,
+    area: i64,
     c: Counts,
 ) -> Counts
-    requires { ⌜ (c .points ≤ to) × (to * 2 ≤ length (now points)) × (Within maxLinks (to - c .points) c) ⌝ }
-    requires { ⌜ Grid (take (to * 2 - c .points * 2) (drop (c .points * 2) (now points))) ⌝ }
+    requires { ⌜ (c .points ≤ to) × (Within maxLinks (to - c .points) c) × (natAbs area ≤ (to - c .points) * (2 * wedgeBound)) ⌝ }
     requires { ⌜ (to ≤ length (now first) * 3 + 2) × (length (now len) ≡ length (now first)) × (length (now kind) ≡ length (now first)) ⌝ }
-    ensures { λ r. ⌜ (let before : Tables = tables (now (points .entry)) (now (first .entry)) (now (len .entry)) (now (kind .entry)) c in
-        tables (now (points .entry)) (now (first .exit)) (now (len .exit)) (now (kind .exit)) r ≡ enter minimum hole (to - c .points)
-        (area (pointsOf (take (to * 2 - c .points * 2) (drop (c .points * 2) (now (points .entry)))))) before) ⌝ }
+    ensures { λ r. ⌜ ((points : List ℤ) →
+        let before : Tables = tables points (now (first .entry)) (now (len .entry)) (now (kind .entry)) c in
+        tables points (now (first .exit)) (now (len .exit)) (now (kind .exit)) r ≡ enter minimum hole (to - c .points) area before) ⌝ }
 {
     let at = c.points;
-    let begin = at * 2;
-    let end = to * 2;
     let size = to - at;
-    let area = turn::doubled_area(&points[begin..end]);
     if turn::is_kept(size, area, minimum) {
         enter_contour(first, len, kind, hole, c.contours, at, size);
         return kept_counts(size, area, c);

@@ -55,7 +55,7 @@ fn number(list: &[u32], i: usize) -> usize
 }
 
 // A link that the rule names, if it is unvisited.
-fn only_unvisited(state: &[u8], k: usize) -> Next
+pub fn only_unvisited(state: &[u8], k: usize) -> Next
     requires { ⌜ k < length (now state) ⌝ }
     ensures { λ r. ⌜ r ≡ onlyUnvisited (now (state .entry)) k ⌝ }
 {

@@ -1,9 +1,10 @@
 -- The scan's loop: what it keeps, and one law for each way out of a turn.
 use Prim.Native.Nat.{ℕ, suc, _+_, _-_, _≤_, _<_}
-use mathlib.Core.Path.{_≡_, refl, ap, _∙_, subst}
+use mathlib.Core.Path.{_≡_, refl, sym, ap, _∙_, subst}
 use mathlib.Core.Bool.{Bool, true, false, true≢false}
 use mathlib.Core.List.{List, []}
 use native.Mathlib.Omega.{arith}
+use native.Mathlib.Decide.{decLe}
 use lib.ListN.{length}
 use lib.IntN.{ℤ}
 use borrow.Author.Tests.{lt-ltb, le-ltb}
@@ -82,9 +83,10 @@ module _ (g : Graph) (cw : Bool) (minimum : ℕ) (t : Tables) (st : List ℕ) (k
     scan-entered (Link f) h i = entered-after (g .top f) (walkOf g cw st f) h i
 
 -- ---- what the loop keeps: what the scan leaves from here it leaves from the loop's start; no link below k is unvisited
-pub record Scanning (g : Graph) (cw : Bool) (minimum n : ℕ) (st₀ : List ℕ) (pts₀ : List ℤ) (first₀ len₀ kind₀ : List ℕ) (k : ℕ) (c : Counts)
+-- for every graph that the field of ends is one of
+pub record Scanning (Of : Graph → Type 0) (cw : Bool) (minimum n : ℕ) (st₀ : List ℕ) (pts₀ : List ℤ) (first₀ len₀ kind₀ : List ℕ) (k : ℕ) (c : Counts)
     (st : List ℕ) (pts : List ℤ) (first len kind : List ℕ) : Type 0 where
-  pub leaves : (r : Extraction) (s : List ℕ) (p : List ℤ) (x y z : List ℕ) → ScanLeaves g minimum (tables pts first len kind c)
+  pub leaves : (g : Graph) → Of g → (r : Extraction) (s : List ℕ) (p : List ℤ) (x y z : List ℕ) → ScanLeaves g minimum (tables pts first len kind c)
       (scanOn (suc (unvisited st)) g cw st) r s p x y z
       → ScanLeaves g minimum (tables pts₀ first₀ len₀ kind₀ noCounts) (scanOn (suc (unvisited st₀)) g cw st₀) r s p x y z
   pub passed : None (isUnvisited st) k
@@ -97,11 +99,11 @@ pub record Scanning (g : Graph) (cw : Bool) (minimum n : ℕ) (st₀ : List ℕ)
   pub len-length : length len ≡ length len₀
   pub kind-length : length kind ≡ length kind₀
 
-module _ (g : Graph) (cw : Bool) (minimum n : ℕ) (st₀ : List ℕ) (pts₀ : List ℤ) (first₀ len₀ kind₀ : List ℕ) (k : ℕ) (c : Counts) (st : List ℕ)
-    (pts : List ℤ) (first len kind : List ℕ)
-    (i : Scanning g cw minimum n st₀ pts₀ first₀ len₀ kind₀ k c st pts first len kind) where
+module _ (Of : Graph → Type 0) (cw : Bool) (minimum n : ℕ) (st₀ : List ℕ) (pts₀ : List ℤ) (first₀ len₀ kind₀ : List ℕ) (k : ℕ) (c : Counts)
+    (st : List ℕ) (pts : List ℤ) (first len kind : List ℕ)
+    (i : Scanning Of cw minimum n st₀ pts₀ first₀ len₀ kind₀ k c st pts first len kind) where
   -- link k is visited or skipped: the scan moves on
-  pub scan-moves : k < n → isUnvisited st k ≡ false → Scanning g cw minimum n st₀ pts₀ first₀ len₀ kind₀ (k + 1) c st pts first len kind
+  pub scan-moves : k < n → isUnvisited st k ≡ false → Scanning Of cw minimum n st₀ pts₀ first₀ len₀ kind₀ (k + 1) c st pts first len kind
   scan-moves l e = record {
     leaves = i .leaves;
     passed = below-more (λ j. isUnvisited st j ≡ false) k (i .passed) e;
@@ -115,34 +117,39 @@ module _ (g : Graph) (cw : Bool) (minimum n : ℕ) (st₀ : List ℕ) (pts₀ : 
     kind-length = i .kind-length;
   }
 
+  -- and the lowest that is unvisited is not below k
+  pub lowest-here : (x : ℕ) → isUnvisited st x ≡ true → k ≤ x
+  lowest-here x o = elim (decLe k x) [ yes h ↦ h | no m ↦ absurd (true≢false (sym o ∙ i .passed x (under m))) ]
+    where
+      under : (k ≤ x → ⊥) → x < k
+      under m = omega arith
+
   module _ (l : k < n) (o : isUnvisited st k ≡ true) (st′ : List ℕ) (pts′ : List ℤ) (first′ len′ kind′ : List ℕ) where
-    here : scanOn (suc (unvisited st)) g cw st ≡ scanAt g cw (λ s. scanOn (unvisited st) g cw s) st k (firstLink g st k)
-    here = stands g cw st k (i .passed) (rw (i .kept .len ∙ i .all-links) l) o
+    here : (g : Graph) → scanOn (suc (unvisited st)) g cw st ≡ scanAt g cw (λ s. scanOn (unvisited st) g cw s) st k (firstLink g st k)
+    here g = stands g cw st k (i .passed) (rw (i .kept .len ∙ i .all-links) l) o
 
     -- its walk is refused
-    pub scan-refused : (v : Noted) (number : ℕ) → v ≡ noting.Stuck number → FirstNoted g cw minimum (tables pts first len kind c) st
+    pub scan-refused : (g : Graph) → Of g → (v : Noted) (number : ℕ) → v ≡ noting.Stuck number → FirstNoted g cw minimum (tables pts first len kind c) st
         (firstLink g st k) v st′ pts′ first′ len′ kind′
         → (r : Extraction) (s : List ℕ) (p : List ℤ) (x y z : List ℕ) → r ≡ Refused number k
         → ScanLeaves g minimum (tables pts₀ first₀ len₀ kind₀ noCounts) (scanOn (suc (unvisited st₀)) g cw st₀) r s p x y z
-    scan-refused v number e f r s p x y z q =
-        i .leaves r s p x y z
-        (rw here (scan-stuck g cw minimum (tables pts first len kind c) st k
+    scan-refused g a v number e f r s p x y z q =
+        i .leaves g a r s p x y z
+        (rw (here g) (scan-stuck g cw minimum (tables pts first len kind c) st k
         (λ s. scanOn (unvisited st) g cw s) st′ pts′ first′ len′ kind′ number r s p x y z q (firstLink g st k) (rw e at f)))
 
     -- its walk is entered
-    pub scan-again : (v : Noted) (d : Counts) → v ≡ noting.Entered d → FirstNoted g cw minimum (tables pts first len kind c) st
-        (firstLink g st k) v st′ pts′ first′ len′ kind′
+    pub scan-again : (v : Noted) (d : Counts) → v ≡ noting.Entered d
+        → ((g : Graph) → Of g → FirstNoted g cw minimum (tables pts first len kind c) st (firstLink g st k) v st′ pts′ first′ len′ kind′)
         → Fewer n st st′ v → Kept st st′
         → length pts′ ≡ length pts → length first′ ≡ length first → length len′ ≡ length len → length kind′ ≡ length kind
-        → Scanning g cw minimum n st₀ pts₀ first₀ len₀ kind₀ k d st′ pts′ first′ len′ kind′
+        → Scanning Of cw minimum n st₀ pts₀ first₀ len₀ kind₀ k d st′ pts′ first′ len′ kind′
     scan-again v d e f u m lp lf ll lk =
         let w : Fewer n st st′ (noting.Entered d) = rw e at u in
-        let enough : scanOn (suc (unvisited st′)) g cw st′ ≡ scanOn (unvisited st) g cw st′ = scan-enough g cw (suc (unvisited st′))
-        (unvisited st) st′ (omega arith) (w .0) in
         record {
-          leaves = λ r s p x y z h. i .leaves r s p x y z
-              (rw here (scan-entered g cw minimum (tables pts first len kind c) st k
-              (λ s. scanOn (unvisited st) g cw s) st′ pts′ first′ len′ kind′ d r s p x y z (firstLink g st k) (rw e at f) (rw enough at h)));
+          leaves = λ g a r s p x y z h. i .leaves g a r s p x y z
+              (rw (here g) (scan-entered g cw minimum (tables pts first len kind c) st k
+              (λ s. scanOn (unvisited st) g cw s) st′ pts′ first′ len′ kind′ d r s p x y z (firstLink g st k) (rw e at (f g a)) (rw (enough g (w .0)) at h)));
           passed = λ j a. m .closed j (i .passed j a);
           in-links = i .in-links;
           all-links = i .all-links;
@@ -153,21 +160,25 @@ module _ (g : Graph) (cw : Bool) (minimum n : ℕ) (st₀ : List ℕ) (pts₀ : 
           len-length = ll ∙ i .len-length;
           kind-length = lk ∙ i .kind-length;
         }
+      where
+        enough : (g : Graph) → unvisited st′ < unvisited st → scanOn (suc (unvisited st′)) g cw st′ ≡ scanOn (unvisited st) g cw st′
+        enough g u = scan-enough g cw (suc (unvisited st′)) (unvisited st) st′ (omega arith) u
 
   -- past the last link
-  pub scan-over : n ≤ k → ScanLeaves g minimum (tables pts₀ first₀ len₀ kind₀ noCounts) (scanOn (suc (unvisited st₀)) g cw st₀) (Done c) st pts first len kind
-  scan-over h =
-      i .leaves (Done c) st pts first len kind
+  pub scan-over : n ≤ k → (g : Graph) → Of g
+      → ScanLeaves g minimum (tables pts₀ first₀ len₀ kind₀ noCounts) (scanOn (suc (unvisited st₀)) g cw st₀) (Done c) st pts first len kind
+  scan-over h g a =
+      i .leaves g a (Done c) st pts first len kind
       (rw (over g cw st (λ j a. i .passed j (below j a))) (refl, refl, refl, refl, refl, refl))
     where
       below : (j : ℕ) → j < length st → j < k
       below j a = omega (arith, i .kept .len, i .all-links)
 
 -- ---- before the first link
-pub none-yet : (g : Graph) (cw : Bool) (minimum : ℕ) (st : List ℕ) (pts : List ℤ) (first len kind : List ℕ)
-    → Scanning g cw minimum (length st) st pts first len kind 0 noCounts st pts first len kind
-none-yet g cw minimum st pts first len kind = record {
-  leaves = λ r s p x y z h. h;
+pub none-yet : (Of : Graph → Type 0) (cw : Bool) (minimum : ℕ) (st : List ℕ) (pts : List ℤ) (first len kind : List ℕ)
+    → Scanning Of cw minimum (length st) st pts first len kind 0 noCounts st pts first len kind
+none-yet Of cw minimum st pts first len kind = record {
+  leaves = λ g a r s p x y z h. h;
   passed = λ j h. absurd (nothing j h);
   in-links = omega arith;
   all-links = refl;

@@ -3,3 +3,4 @@ pub mod Scan
 pub mod Notes
 pub mod Visits
 pub mod Enough
+pub mod Fields

@@ -1,12 +1,14 @@
 // The scan (rules 1, 2 and 7): a walk from each lowest unvisited link, as its first link's top says.
 ghost use mathlib.Core.Path.{_≡_};
 ghost use mathlib.Core.Bool.{true, not, Bool·beq};
-ghost use Prim.Native.Nat.{_+_, _-_, _<_};
+ghost use Prim.Native.Nat.{ℕ, _+_, _-_, _<_, _≤_};
 ghost use lib.ListN.{length, getD};
-ghost use Rattle.graph.specs.Graph.{Lent, lent, Graph, graphOf};
+ghost use Rattle.graph.specs.Graph.{Graph};
 ghost use Rattle.next.specs.Next.{isUnvisited, unvisited, firstLink};
+ghost use Rattle.next.specs.Known.{Links};
+ghost use Rattle.rings.specs.Field.{Steers, Steered, Reads, Field, Fielded};
 ghost use Rattle.walk.specs.Walk.{walkFrom, markOf};
-ghost use Rattle.walk.specs.Code.{Kept, plain, Shape};
+ghost use Rattle.walk.specs.Code.{Kept};
 ghost use Rattle.scan.specs.Scan.{scan};
 ghost use Rattle.keep.specs.Tables.{Tables, tables, Within, noCounts};
 ghost use Rattle.scan.specs.Notes.{WalkNoted, FirstNoted, Fewer, Ends, Roomy, ScanLeaves};
@@ -52,10 +54,8 @@ fn note_contour(
     ay: &[i32],
     bx: &[i32],
     by: &[i32],
-    aid: &[u32],
-    bid: &[u32],
-    start: &[u32],
-    list: &[u32],
+    nxt: &[u32],
+    prv: &[u32],
     settings: Settings,
     hole: bool,
     state: &mut [u8],
@@ -66,16 +66,14 @@ fn note_contour(
     s: usize,
     c: Counts,
 ) -> Noted
-    requires { ⌜ (let g : Lent = lent (now ax) (now ay) (now bx) (now by) (now aid) (now bid) (now start) (now list) in
-        Shape g (length (now state))) ⌝ }
+    requires { ⌜ (Steered (now nxt) (now prv) (now state)) × (Links (now ax) (now ay) (now bx) (now by) (length (now state))) ⌝ }
     requires { ⌜ Roomy (length (now state)) (length (now points)) (length (now first)) (length (now len)) (length (now kind)) ⌝ }
     requires { ⌜ (s < length (now state)) × (getD (now state) s 1 ≡ 0) × (Within (length (now state)) (unvisited (now state)) c) ⌝ }
-    ensures { λ r. ⌜ (let g : Lent = lent (now (ax .entry)) (now (ay .entry)) (now (bx .entry)) (now (by .entry)) (now (aid .entry))
-        (now (bid .entry)) (now (start .entry)) (now (list .entry)) in
-        let graph : Graph = plain g in
+    ensures { λ r. ⌜ ((g : Graph) → Steers g (now (nxt .entry)) (now (prv .entry)) (now (state .entry))
+        → Reads g (now (ax .entry)) (now (ay .entry)) (now (bx .entry)) (now (by .entry)) →
         let before : Tables = tables (now (points .entry)) (now (first .entry)) (now (len .entry)) (now (kind .entry)) c in
-        WalkNoted graph (settings .minimum) before hole
-        (walkFrom graph (not (Bool·beq hole (settings .clockwise))) (Bool·beq hole (settings .clockwise)) (markOf hole) (now (state .entry)) s) r
+        WalkNoted g (settings .minimum) before hole
+        (walkFrom g (not (Bool·beq hole (settings .clockwise))) (Bool·beq hole (settings .clockwise)) (markOf hole) (now (state .entry)) s) r
         (now (state .exit)) (now (points .exit)) (now (first .exit)) (now (len .exit)) (now (kind .exit))) ⌝ }
     ensures { λ r. ⌜ Fewer (length (now (state .entry))) (now (state .entry)) (now (state .exit)) r ⌝ }
     ensures { λ _. ⌜ Kept (now (state .entry)) (now (state .exit)) ⌝ }
@@ -87,30 +85,16 @@ fn note_contour(
         mark: mark_of(hole),
     };
     let at = c.points;
-    match walk::find_contour(
-        ax,
-        ay,
-        bx,
-        by,
-        aid,
-        bid,
-        start,
-        list,
-        course,
-        state,
-        points,
-        at,
-        s,
-    ) {
+    match walk::find_contour(ax, ay, bx, by, nxt, prv, course, state, points, at, s) {
         Ended::Stuck(number) => Noted::Stuck(number),
-        Ended::Done(to) => Noted::Entered(keep::note_walk(
-            points,
+        Ended::Done(walked) => Noted::Entered(keep::note_walk(
             first,
             len,
             kind,
             hole,
             settings.minimum,
-            to,
+            walked.to,
+            walked.area,
             c,
         )),
     }
@@ -122,10 +106,9 @@ fn scan_walk(
     ay: &[i32],
     bx: &[i32],
     by: &[i32],
-    aid: &[u32],
-    bid: &[u32],
-    start: &[u32],
-    list: &[u32],
+    nxt: &[u32],
+    prv: &[u32],
+    lead: &[u8],
     top: &[u8],
     settings: Settings,
     state: &mut [u8],
@@ -136,20 +119,20 @@ fn scan_walk(
     k: usize,
     c: Counts,
 ) -> Noted
-    requires { ⌜ (let g : Lent = lent (now ax) (now ay) (now bx) (now by) (now aid) (now bid) (now start) (now list) in
-        (Shape g (length (now state))) × (length (now top) ≡ length (now state))) ⌝ }
+    requires { ⌜ Fielded (now ax) (now ay) (now bx) (now by) (now top) (now nxt) (now prv) (now lead) (now state) ⌝ }
+    requires { ⌜ (Links (now ax) (now ay) (now bx) (now by) (length (now state))) × (length (now top) ≡ length (now state)) ⌝ }
     requires { ⌜ Roomy (length (now state)) (length (now points)) (length (now first)) (length (now len)) (length (now kind)) ⌝ }
-    requires { ⌜ (isUnvisited (now state) k ≡ true) × (Within (length (now state)) (unvisited (now state)) c) ⌝ }
-    ensures { λ r. ⌜ (let g : Lent = lent (now (ax .entry)) (now (ay .entry)) (now (bx .entry)) (now (by .entry)) (now (aid .entry))
-        (now (bid .entry)) (now (start .entry)) (now (list .entry)) in
-        let graph : Graph = graphOf g (now (top .entry)) in
+    requires { ⌜ (isUnvisited (now state) k ≡ true) × ((x : ℕ) → isUnvisited (now state) x ≡ true → k ≤ x)
+        × (Within (length (now state)) (unvisited (now state)) c) ⌝ }
+    ensures { λ r. ⌜ ((g : Graph) → Field g (now (ax .entry)) (now (ay .entry)) (now (bx .entry)) (now (by .entry)) (now (top .entry))
+        (now (nxt .entry)) (now (prv .entry)) (now (lead .entry)) (now (state .entry)) →
         let before : Tables = tables (now (points .entry)) (now (first .entry)) (now (len .entry)) (now (kind .entry)) c in
-        FirstNoted graph (settings .clockwise) (settings .minimum) before (now (state .entry)) (firstLink graph (now (state .entry)) k) r (now (state .exit))
+        FirstNoted g (settings .clockwise) (settings .minimum) before (now (state .entry)) (firstLink g (now (state .entry)) k) r (now (state .exit))
         (now (points .exit)) (now (first .exit)) (now (len .exit)) (now (kind .exit))) ⌝ }
     ensures { λ r. ⌜ Fewer (length (now (state .entry))) (now (state .entry)) (now (state .exit)) r ⌝ }
     ensures { λ _. ⌜ Kept (now (state .entry)) (now (state .exit)) ⌝ }
 {
-    match next::find_left_top_link(ax, ay, bx, by, aid, start, list, state, k) {
+    match first::find_left_top_link(ax, ay, bx, by, nxt, lead, state, k) {
         Next::Nothing => Noted::Stuck(8),
         Next::Link(s) => {
             let hole = top[s] == 1;
@@ -158,10 +141,8 @@ fn scan_walk(
                 ay,
                 bx,
                 by,
-                aid,
-                bid,
-                start,
-                list,
+                nxt,
+                prv,
                 settings,
                 hole,
                 state,
@@ -182,10 +163,9 @@ pub fn scan_links(
     ay: &[i32],
     bx: &[i32],
     by: &[i32],
-    aid: &[u32],
-    bid: &[u32],
-    start: &[u32],
-    list: &[u32],
+    nxt: &[u32],
+    prv: &[u32],
+    lead: &[u8],
     top: &[u8],
     settings: Settings,
     state: &mut [u8],
@@ -194,14 +174,13 @@ pub fn scan_links(
     len: &mut [u32],
     kind: &mut [u8],
 ) -> Extraction
-    requires { ⌜ (let g : Lent = lent (now ax) (now ay) (now bx) (now by) (now aid) (now bid) (now start) (now list) in
-        (Shape g (length (now state))) × (length (now top) ≡ length (now state))) ⌝ }
+    requires { ⌜ Fielded (now ax) (now ay) (now bx) (now by) (now top) (now nxt) (now prv) (now lead) (now state) ⌝ }
+    requires { ⌜ (Links (now ax) (now ay) (now bx) (now by) (length (now state))) × (length (now top) ≡ length (now state)) ⌝ }
     requires { ⌜ Roomy (length (now state)) (length (now points)) (length (now first)) (length (now len)) (length (now kind)) ⌝ }
-    ensures { λ r. ⌜ (let g : Lent = lent (now (ax .entry)) (now (ay .entry)) (now (bx .entry)) (now (by .entry)) (now (aid .entry))
-        (now (bid .entry)) (now (start .entry)) (now (list .entry)) in
-        let graph : Graph = graphOf g (now (top .entry)) in
+    ensures { λ r. ⌜ ((g : Graph) → Field g (now (ax .entry)) (now (ay .entry)) (now (bx .entry)) (now (by .entry)) (now (top .entry))
+        (now (nxt .entry)) (now (prv .entry)) (now (lead .entry)) (now (state .entry)) →
         let before : Tables = tables (now (points .entry)) (now (first .entry)) (now (len .entry)) (now (kind .entry)) noCounts in
-        ScanLeaves graph (settings .minimum) before (scan graph (settings .clockwise) (now (state .entry))) r (now (state .exit)) (now (points .exit))
+        ScanLeaves g (settings .minimum) before (scan g (settings .clockwise) (now (state .entry))) r (now (state .exit)) (now (points .exit))
         (now (first .exit)) (now (len .exit)) (now (kind .exit))) ⌝ }
     ensures { λ r. ⌜ Ends (length (now (state .entry))) r ⌝ }
     ensures { λ _. ⌜ Kept (now (state .entry)) (now (state .exit)) ⌝ }
@@ -219,10 +198,9 @@ pub fn scan_links(
             ay,
             bx,
             by,
-            aid,
-            bid,
-            start,
-            list,
+            nxt,
+            prv,
+            lead,
             top,
             settings,
             state,

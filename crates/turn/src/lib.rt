@@ -170,7 +170,7 @@ pub fn met_before(sense: bool, f: Vector, h: u8, g: Vector, k: u8) -> bool
 }
 
 // x y' - y x' of two points.
-fn wedge(p: Point, q: Point) -> i64
+pub fn wedge(p: Point, q: Point) -> i64
     requires { ⌜ (OnGrid p) × (OnGrid q) ⌝ }
     ensures { λ r. ⌜ (r ≡ wedge p q) × (natAbs r ≤ wedgeBound) ⌝ }
 {

@@ -6,4 +6,5 @@ pub mod Named
 pub mod Visits
 pub mod Enough
 pub mod Marks
+pub mod Later
 pub mod Tops

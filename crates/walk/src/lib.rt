@@ -1,22 +1,33 @@
 // One walk (document 01, "Walking", rules 3 to 5): from its first link to its last, each link marked and the point of each node left written.
+// The walk stands at an end of a link, the one where it arrived, and follows the field of ends (crate `rings`).
 ghost use mathlib.Core.Path.{_≡_};
-ghost use mathlib.Core.Bool.{not};
-ghost use mathlib.Core.List.{List};
-ghost use Prim.Native.Nat.{ℕ, suc, _+_, _*_, _<_, _≤_};
+ghost use Prim.Native.Nat.{suc, _+_, _*_, _<_, _≤_};
 ghost use lib.ListN.{length, getD};
 ghost use Rattle.laws.specs.Test.{pick};
-ghost use Rattle.graph.specs.Graph.{Lent, lent, Graph, graphOf, pointAt};
-ghost use Rattle.next.specs.Next.{unvisited, nextLink};
-ghost use Rattle.next.specs.Known.{Links, Nodes, NamesUnvisited};
+ghost use Rattle.turn.specs.Points.{OnGrid};
+ghost use Rattle.graph.specs.Graph.{Graph, pointAt};
+ghost use Rattle.next.specs.Next.{unvisited};
+ghost use Rattle.next.specs.Known.{Links};
+ghost use Rattle.rings.specs.Ends.{aEnd, bEnd, linkOf, isA, far, nodeOfEnd};
+ghost use Rattle.rings.specs.Linked.{stepOf};
+ghost use Rattle.rings.specs.Field.{crossMark, nextOf, prevOf, Steers, Steered, Reads};
 ghost use Rattle.walk.specs.Walk.{walkOn, walkFrom};
-ghost use Rattle.walk.specs.Code.{put, Kept, plain, otherNode, Shape, Marks, stepOut, stepOf, Goes, WalkLeaves, Counted};
-use next::Across;
-use next::Next;
+ghost use Rattle.walk.specs.Code.{put, Kept, Marks, Arrived, GoesTo, EndsUnvisited, Summed, stepOut, stepBy, Goes};
+ghost use Rattle.walk.specs.Code.{RestLeaves, WalkLeaves, Counted, Sized, SizedFrom};
+use rings::far;
 use turn::Point;
+use turn::wedge;
+use turn::wide;
 
-// How a walk ends: done, with the points written so far, or refused with a number.
+// A walk that is done: the number of points once its own are written, and its signed doubled area.
+pub struct Finished {
+    pub to: usize,
+    pub area: i64,
+}
+
+// How a walk ends: done, or refused with a number.
 pub enum Ended {
-    Done(usize),
+    Done(Finished),
     Stuck(u32),
 }
 
@@ -27,59 +38,88 @@ pub struct Course {
     pub mark: u8,
 }
 
-// Where a walk stands: the link just walked, the node reached, and how many points are written.
+// Where a walk stands: the end at which it arrived, how many points are written, the last of them, and the area up to it.
 struct Walker {
-    link: usize,
-    node: usize,
+    end: usize,
     written: usize,
+    last: Point,
+    area: i64,
 }
 
+// What a step comes to: the walker where it stands then, or there is no next link.
 enum Stepped {
     Went(Walker),
     Nowhere,
 }
 
-// The node at one end of link k, by the list of those ends' node ids.
-fn node_at(ids: &[u32], k: usize) -> usize
-    requires { ⌜ k < length (now ids) ⌝ }
-    ensures { λ r. ⌜ r ≡ getD (now (ids .entry)) k 0 ⌝ }
-{
-    ids[k] as usize
+// Where the next link leads: to its far end, or there is none.
+enum Onward {
+    To(usize),
+    Nowhere,
 }
 
-// The node at link k's other end.
-fn other_node(aid: &[u32], bid: &[u32], node: usize, k: usize) -> usize
-    requires { ⌜ (k < length (now aid)) × (k < length (now bid)) ⌝ }
-    ensures { λ r. ⌜ r ≡ otherNode (now (aid .entry)) (now (bid .entry)) node k ⌝ }
-{
-    let a = node_at(aid, k);
-    if a == node { node_at(bid, k) } else { a }
-}
+// What `nxt` holds at an end of a `Cross` is the ring's next end and a mark, a multiple of this.
+const CROSS: u32 = 16777216;
 
-// The node at one of link k's ends: by the first list, or by the second.
-fn end_node(ids: &[u32], others: &[u32], first: bool, k: usize) -> usize
-    requires { ⌜ (k < length (now ids)) × (k < length (now others)) ⌝ }
-    ensures { λ r. ⌜ r ≡ pick first (getD (now (ids .entry)) k 0) (getD (now (others .entry)) k 0) ⌝ }
+// The next end of the ring, clockwise or counterclockwise.
+fn step_from(nxt: &[u32], prv: &[u32], sense: bool, h: usize) -> usize
+    requires { ⌜ (h < length (now nxt)) × (h < length (now prv)) ⌝ }
+    ensures { λ r. ⌜ r ≡ stepOf sense (nextOf (now (nxt .entry))) (prevOf (now (prv .entry))) h ⌝ }
 {
-    if first {
-        node_at(ids, k)
+    if sense {
+        wide(prv[h])
     } else {
-        node_at(others, k)
+        wide(nxt[h] % CROSS)
     }
 }
 
-// The point of one of link k's ends: of its a, where it is left forward, or of its b.
-fn end_point(ax: &[i32], ay: &[i32], bx: &[i32], by: &[i32], forward: bool, k: usize) -> Point
-    requires { ⌜ (k < length (now ax)) × (k < length (now ay)) × (k < length (now bx)) × (k < length (now by)) ⌝ }
-    ensures { λ r. ⌜ r ≡ pick forward (pointAt (now (ax .entry)) (now (ay .entry)) k) (pointAt (now (bx .entry)) (now (by .entry)) k) ⌝ }
+// Rule 3 at a `Cross`: round the ring from end `home` to the first end of an unvisited link.
+fn go_round(nxt: &[u32], prv: &[u32], state: &[u8], sense: bool, home: usize) -> Onward
+    requires { ⌜ (Steered (now nxt) (now prv) (now state)) × (Arrived (now state) home) × (crossMark ≤ getD (now nxt) home 0) ⌝ }
+    ensures { λ r. ⌜ ((g : Graph) → Steers g (now (nxt .entry)) (now (prv .entry)) (now (state .entry))
+        → GoesTo g sense (now (state .entry)) home r) ⌝ }
+    ensures { λ r. ⌜ EndsUnvisited (now (state .entry)) r ⌝ }
 {
-    if forward {
-        Point { x: ax[k], y: ay[k] }
-    } else {
-        Point { x: bx[k], y: by[k] }
+    let mut at = step_from(nxt, prv, sense, home);
+    while at != home {
+        if state[at / 2] == 0 {
+            return Onward::To(far(at));
+        }
+        at = step_from(nxt, prv, sense, at);
     }
+    Onward::Nowhere
 }
 
+// Rule 3. Most nodes are `Bridge`s: the far end of their other entry is read here, and only a `Cross` costs a call.
+fn next_end(nxt: &[u32], prv: &[u32], state: &[u8], sense: bool, h: usize) -> Onward
+    requires { ⌜ (Steered (now nxt) (now prv) (now state)) × (Arrived (now state) h) ⌝ }
+    ensures { λ r. ⌜ ((g : Graph) → Steers g (now (nxt .entry)) (now (prv .entry)) (now (state .entry))
+        → GoesTo g sense (now (state .entry)) h r) ⌝ }
+    ensures { λ r. ⌜ EndsUnvisited (now (state .entry)) r ⌝ }
+{
+    let f = nxt[h];
+    if f < CROSS {
+        let to = wide(f);
+        if state[to / 2] == 0 {
+            return Onward::To(to);
+        }
+        return Onward::Nowhere;
+    }
+    go_round(nxt, prv, state, sense, h)
+}
+
+// The point that a walk leaves which arrives at end h: that of the far end.
+fn start_point(ax: &[i32], ay: &[i32], bx: &[i32], by: &[i32], h: usize) -> Point
+    requires { ⌜ (linkOf h < length (now ax)) × (linkOf h < length (now ay)) × (linkOf h < length (now bx)) × (linkOf h < length (now by)) ⌝ }
+    ensures { λ r. ⌜ r ≡ pick (isA h) (pointAt (now (bx .entry)) (now (by .entry)) (linkOf h)) (pointAt (now (ax .entry)) (now (ay .entry)) (linkOf h)) ⌝ }
+{
+    let k = h / 2;
+    let a = Point { x: ax[k], y: ay[k] };
+    let b = Point { x: bx[k], y: by[k] };
+    if h % 2 == 0 { b } else { a }
+}
+
+// Point number `at` is written.
 fn put_point(points: &mut [i32], at: usize, p: Point)
     requires { ⌜ at * 2 + 1 < length (now points) ⌝ }
     ensures { λ _. ⌜ now (points .exit) ≡ put (now (points .entry)) at p ⌝ }
@@ -91,192 +131,76 @@ fn put_point(points: &mut [i32], at: usize, p: Point)
     points[i + 1] = y;
 }
 
-// Rule 3. Most nodes are `Bridge`s: their other entry is read here, and only a `Cross` costs a call.
-fn next_from(
-    ax: &[i32],
-    ay: &[i32],
-    bx: &[i32],
-    by: &[i32],
-    aid: &[u32],
-    start: &[u32],
-    list: &[u32],
-    state: &[u8],
-    sense: bool,
-    node: usize,
-    link: usize,
-) -> Next
-    requires { ⌜ Links (now ax) (now ay) (now bx) (now by) (length (now state)) ⌝ }
-    requires { ⌜ Nodes (now aid) (now start) (now list) (length (now state)) ⌝ }
-    requires { ⌜ (node + 1 < length (now start)) × (link < length (now state)) ⌝ }
-    ensures { λ r. ⌜ ((bid top : List ℕ) →
-        let g : Lent = lent (now (ax .entry)) (now (ay .entry)) (now (bx .entry)) (now (by .entry)) (now (aid .entry))
-        bid (now (start .entry)) (now (list .entry)) in
-        r ≡ nextLink (graphOf g top) sense (now (state .entry)) node link) ⌝ }
-    ensures { λ r. ⌜ NamesUnvisited (now (state .entry)) r ⌝ }
-{
-    match next::on_bridge(start, list, state, node, link) {
-        Across::Named(next) => next,
-        Across::Choice => next::next_link(
-            ax,
-            ay,
-            bx,
-            by,
-            aid,
-            start,
-            list,
-            state,
-            sense,
-            node,
-            link,
-        ),
-    }
-}
-
-// Rule 4: the last link of a walk that begins at a node with a link: the next link there under the opposite sense. It is read as in `next_from`,
-// but not by it: called twice, `next_from` would not be compiled into its place.
-fn last_link(
-    ax: &[i32],
-    ay: &[i32],
-    bx: &[i32],
-    by: &[i32],
-    aid: &[u32],
-    start: &[u32],
-    list: &[u32],
-    state: &[u8],
-    sense: bool,
-    node: usize,
-    link: usize,
-) -> Next
-    requires { ⌜ Links (now ax) (now ay) (now bx) (now by) (length (now state)) ⌝ }
-    requires { ⌜ Nodes (now aid) (now start) (now list) (length (now state)) ⌝ }
-    requires { ⌜ (node + 1 < length (now start)) × (link < length (now state)) ⌝ }
-    ensures { λ r. ⌜ ((bid top : List ℕ) →
-        let g : Lent = lent (now (ax .entry)) (now (ay .entry)) (now (bx .entry)) (now (by .entry)) (now (aid .entry))
-        bid (now (start .entry)) (now (list .entry)) in
-        r ≡ nextLink (graphOf g top) (not sense) (now (state .entry)) node link) ⌝ }
-    ensures { λ r. ⌜ NamesUnvisited (now (state .entry)) r ⌝ }
-{
-    match next::on_bridge(start, list, state, node, link) {
-        Across::Named(next) => next,
-        Across::Choice => next::next_link(
-            ax,
-            ay,
-            bx,
-            by,
-            aid,
-            start,
-            list,
-            state,
-            !sense,
-            node,
-            link,
-        ),
-    }
-}
-
-// One step from the walker's node: the next link is marked, and the point of the node is written.
+// One step from where the walker stands: the next link is marked, and the point of the node is written.
 fn one_step(
     ax: &[i32],
     ay: &[i32],
     bx: &[i32],
     by: &[i32],
-    aid: &[u32],
-    bid: &[u32],
-    start: &[u32],
-    list: &[u32],
+    nxt: &[u32],
+    prv: &[u32],
     course: Course,
     state: &mut [u8],
     points: &mut [i32],
     w: Walker,
 ) -> Stepped
-    requires { ⌜ (let g : Lent = lent (now ax) (now ay) (now bx) (now by) (now aid) (now bid) (now start) (now list) in
-        Shape g (length (now state))) ⌝ }
-    requires { ⌜ (w .node + 1 < length (now start)) × (w .link < length (now state)) × (Marks (course .mark)) ⌝ }
+    requires { ⌜ (Steered (now nxt) (now prv) (now state)) × (Links (now ax) (now ay) (now bx) (now by) (length (now state))) ⌝ }
+    requires { ⌜ (Arrived (now state) (w .end)) × (Marks (course .mark)) × (OnGrid (w .last)) × (Summed (now state) (w .area)) ⌝ }
     requires { ⌜ (w .written + unvisited (now state)) * 2 ≤ length (now points) ⌝ }
-    ensures { λ r. ⌜ (let g : Lent = lent (now (ax .entry)) (now (ay .entry)) (now (bx .entry)) (now (by .entry)) (now (aid .entry))
-        (now (bid .entry)) (now (start .entry)) (now (list .entry)) in
-        stepOut r (now (state .exit)) (now (points .exit)) ≡ stepOf (plain g) (course .sense) (course .mark) (now (state .entry)) (now (points .entry)) w) ⌝ }
-    ensures { λ r. ⌜ Goes (length (now (start .entry))) (length (now (state .entry))) (w .written) (now (state .entry)) (now (state .exit)) r ⌝ }
+    ensures { λ r. ⌜ ((g : Graph) → Steers g (now (nxt .entry)) (now (prv .entry)) (now (state .entry))
+        → Reads g (now (ax .entry)) (now (ay .entry)) (now (bx .entry)) (now (by .entry))
+        → stepOut r (now (state .exit)) (now (points .exit)) ≡ stepBy g (course .sense) (course .mark) (now (state .entry)) (now (points .entry)) w) ⌝ }
+    ensures { λ r. ⌜ Goes w (now (state .entry)) (now (state .exit)) r ⌝ }
     ensures { λ _. ⌜ Kept (now (state .entry)) (now (state .exit)) ⌝ }
 {
-    let node = w.node;
     let at = w.written;
-    match next_from(
-        ax,
-        ay,
-        bx,
-        by,
-        aid,
-        start,
-        list,
-        state,
-        course.sense,
-        node,
-        w.link,
-    ) {
-        Next::Nothing => Stepped::Nowhere,
-        Next::Link(k) => {
-            let forward = node_at(aid, k) == node;
-            let p = end_point(ax, ay, bx, by, forward, k);
-            let to = other_node(aid, bid, node, k);
+    match next_end(nxt, prv, state, course.sense, w.end) {
+        Onward::Nowhere => Stepped::Nowhere,
+        Onward::To(to) => {
+            let p = start_point(ax, ay, bx, by, to);
             let mark = course.mark;
-            state[k] = mark;
+            state[to / 2] = mark;
             put_point(points, at, p);
+            let area = w.area + wedge(w.last, p);
             Stepped::Went(Walker {
-                link: k,
-                node: to,
+                end: to,
                 written: at + 1,
+                last: p,
+                area: area,
             })
         }
     }
 }
 
-// The walk goes on from where the walker stands to its last link.
+// The walk goes on from where the walker stands to its last link, whose far end, seen from the walk's start, is `back`.
 fn walk_on(
     ax: &[i32],
     ay: &[i32],
     bx: &[i32],
     by: &[i32],
-    aid: &[u32],
-    bid: &[u32],
-    start: &[u32],
-    list: &[u32],
+    nxt: &[u32],
+    prv: &[u32],
     course: Course,
-    home: usize,
-    last: usize,
+    back: usize,
+    begin: Point,
     state: &mut [u8],
     points: &mut [i32],
     from: Walker,
 ) -> Ended
-    requires { ⌜ (let g : Lent = lent (now ax) (now ay) (now bx) (now by) (now aid) (now bid) (now start) (now list) in
-        Shape g (length (now state))) ⌝ }
-    requires { ⌜ (from .node + 1 < length (now start)) × (from .link < length (now state)) × (Marks (course .mark)) ⌝ }
-    requires { ⌜ (from .written + unvisited (now state)) * 2 ≤ length (now points) ⌝ }
-    ensures { λ r. ⌜ (let g : Lent = lent (now (ax .entry)) (now (ay .entry)) (now (bx .entry)) (now (by .entry)) (now (aid .entry))
-        (now (bid .entry)) (now (start .entry)) (now (list .entry)) in
-        let graph : Graph = plain g in
-        WalkLeaves graph (now (points .entry)) (from .written)
-        (walkOn (suc (unvisited (now (state .entry)))) graph (course .sense) home last (course .mark) (from .node) (from .link) (now (state .entry))) r
-        (now (state .exit)) (now (points .exit))) ⌝ }
-    ensures { λ r. ⌜ Counted (from .written) (from .written) (now (state .entry)) (now (state .exit)) r ⌝ }
+    requires { ⌜ (Steered (now nxt) (now prv) (now state)) × (Links (now ax) (now ay) (now bx) (now by) (length (now state))) ⌝ }
+    requires { ⌜ (Arrived (now state) (from .end)) × (Marks (course .mark)) × (OnGrid (from .last)) × (Summed (now state) (from .area)) ⌝ }
+    requires { ⌜ (OnGrid begin) × ((from .written + unvisited (now state)) * 2 ≤ length (now points)) ⌝ }
+    ensures { λ r. ⌜ ((g : Graph) → Steers g (now (nxt .entry)) (now (prv .entry)) (now (state .entry))
+        → Reads g (now (ax .entry)) (now (ay .entry)) (now (bx .entry)) (now (by .entry))
+        → RestLeaves g begin (now (points .entry)) from
+        (walkOn (suc (unvisited (now (state .entry)))) g (course .sense) (nodeOfEnd g (far back)) (linkOf back) (course .mark)
+        (nodeOfEnd g (from .end)) (linkOf (from .end)) (now (state .entry))) r (now (state .exit)) (now (points .exit))) ⌝ }
+    ensures { λ r. ⌜ (Counted (from .written) (from .written) (now (state .entry)) (now (state .exit)) r) × (SizedFrom from r) ⌝ }
     ensures { λ _. ⌜ Kept (now (state .entry)) (now (state .exit)) ⌝ }
 {
     let mut w = from;
-    while w.link != last {
-        match one_step(
-            ax,
-            ay,
-            bx,
-            by,
-            aid,
-            bid,
-            start,
-            list,
-            course,
-            state,
-            points,
-            w,
-        ) {
+    while w.end / 2 != back / 2 {
+        match one_step(ax, ay, bx, by, nxt, prv, course, state, points, w) {
             Stepped::Nowhere => {
                 return Ended::Stuck(8);
             }
@@ -285,10 +209,22 @@ fn walk_on(
             }
         }
     }
-    if w.node == home {
-        return Ended::Done(w.written);
+    if w.end != back {
+        let area = w.area + wedge(w.last, begin);
+        return Ended::Done(Finished {
+            to: w.written,
+            area: area,
+        });
     }
     Ended::Stuck(9)
+}
+
+// Link k's a, or its b.
+fn end_number(a: bool, k: usize) -> usize
+    requires { ⌜ k < crossMark ⌝ }
+    ensures { λ r. ⌜ r ≡ pick a (aEnd k) (bEnd k) ⌝ }
+{
+    if a { 2 * k } else { 2 * k + 1 }
 }
 
 // One walk: it starts with link s, which is unvisited, goes forward along it or backward, and turns in a sense. Its points stand from number `at` on.
@@ -297,57 +233,49 @@ pub fn find_contour(
     ay: &[i32],
     bx: &[i32],
     by: &[i32],
-    aid: &[u32],
-    bid: &[u32],
-    start: &[u32],
-    list: &[u32],
+    nxt: &[u32],
+    prv: &[u32],
     course: Course,
     state: &mut [u8],
     points: &mut [i32],
     at: usize,
     s: usize,
 ) -> Ended
-    requires { ⌜ (let g : Lent = lent (now ax) (now ay) (now bx) (now by) (now aid) (now bid) (now start) (now list) in
-        Shape g (length (now state))) ⌝ }
+    requires { ⌜ (Steered (now nxt) (now prv) (now state)) × (Links (now ax) (now ay) (now bx) (now by) (length (now state))) ⌝ }
     requires { ⌜ (s < length (now state)) × (getD (now state) s 1 ≡ 0) × (Marks (course .mark)) ⌝ }
     requires { ⌜ (at + unvisited (now state)) * 2 ≤ length (now points) ⌝ }
-    ensures { λ r. ⌜ (let g : Lent = lent (now (ax .entry)) (now (ay .entry)) (now (bx .entry)) (now (by .entry)) (now (aid .entry))
-        (now (bid .entry)) (now (start .entry)) (now (list .entry)) in
-        let graph : Graph = plain g in
-        WalkLeaves graph (now (points .entry)) at (walkFrom graph (course .forward) (course .sense) (course .mark) (now (state .entry)) s) r (now (state .exit))
-        (now (points .exit))) ⌝ }
-    ensures { λ r. ⌜ Counted (at + 1) at (now (state .entry)) (now (state .exit)) r ⌝ }
+    ensures { λ r. ⌜ ((g : Graph) → Steers g (now (nxt .entry)) (now (prv .entry)) (now (state .entry))
+        → Reads g (now (ax .entry)) (now (ay .entry)) (now (bx .entry)) (now (by .entry))
+        → WalkLeaves g (now (points .entry)) at (walkFrom g (course .forward) (course .sense) (course .mark) (now (state .entry)) s) r
+        (now (state .exit)) (now (points .exit))) ⌝ }
+    ensures { λ r. ⌜ (Counted (at + 1) at (now (state .entry)) (now (state .exit)) r) × (Sized at r) ⌝ }
     ensures { λ _. ⌜ Kept (now (state .entry)) (now (state .exit)) ⌝ }
 {
-    let forward = course.forward;
-    let sense = course.sense;
+    let home = end_number(course.forward, s);
+    let ahead = end_number(!course.forward, s);
     let mark = course.mark;
-    let home = end_node(aid, bid, forward, s);
-    let ahead = end_node(bid, aid, forward, s);
-    let begin = end_point(ax, ay, bx, by, forward, s);
     state[s] = mark;
+    let begin = start_point(ax, ay, bx, by, ahead);
     put_point(points, at, begin);
-    match last_link(ax, ay, bx, by, aid, start, list, state, sense, home, s) {
-        Next::Nothing => Ended::Stuck(8),
-        Next::Link(last) => {
-            let written = at + 1;
+    match next_end(nxt, prv, state, !course.sense, home) {
+        Onward::Nowhere => Ended::Stuck(8),
+        Onward::To(back) => {
             let w = Walker {
-                link: s,
-                node: ahead,
-                written: written,
+                end: ahead,
+                written: at + 1,
+                last: begin,
+                area: 0,
             };
             walk_on(
                 ax,
                 ay,
                 bx,
                 by,
-                aid,
-                bid,
-                start,
-                list,
+                nxt,
+                prv,
                 course,
-                home,
-                last,
+                back,
+                begin,
                 state,
                 points,
                 w,

@@ -6,31 +6,35 @@ use mathlib.Core.Path.{refl, sym, _∙_}
 use native.Mathlib.Omega.{arith}
 use borrow.Author.Needs.{needs}
 use lib.ListN.{length}
-use Rattle.graph.specs.Graph.{Graph, lent, graphOf}
+use Rattle.graph.specs.Graph.{Graph}
+use Rattle.rings.specs.Field.{Field}
 use Rattle.next.specs.Next.{unvisited}
 use Rattle.next.specs.States.{read-unvisited, read-shut}
 use Rattle.scan.proofs.Noting.{within-less}
-use Rattle.scan.proofs.Scans.{Scanning, scan-moves, scan-refused, scan-again, scan-over, none-yet, fewer-of}
+use Rattle.scan.proofs.Scans.{Scanning, scan-moves, scan-refused, scan-again, scan-over, lowest-here, none-yet, fewer-of}
 use Rattle.scan.proofs.scan_links.Statement.{statement}
 use Rattle.scan.proofs.scan_links.Tie as tie
 use Rattle.scan.specs.Notes.{Roomy}
+use Rattle.scan.specs.Fields.{field-later, fielded-later}
 use Rattle.walk.specs.Marks.{kept-then}
+use Rattle.walk.specs.Later.{kept-later}
 
 abbrev Inv-loop : tie.InvT-loop
-Inv-loop ax ay bx by aid bid start list top settings state₀ points₀ first₀ len₀ kind₀ n k₀ c₀ state points first len kind k c =
-    Scanning (graphOf (lent ax ay bx by aid bid start list) top) (settings .clockwise)
-    (settings .minimum) n state₀ points₀ first₀ len₀ kind₀ k c state points first len kind
+Inv-loop ax ay bx by nxt prv lead top settings state₀ points₀ first₀ len₀ kind₀ n k₀ c₀ state points first len kind k c =
+    Scanning (λ g. Field g ax ay bx by top nxt prv lead state₀) (settings .clockwise) (settings .minimum) n state₀ points₀ first₀ len₀ kind₀
+    k c state points first len kind
 
 abbrev μ-loop : tie.MeasureT-loop
-μ-loop ax ay bx by aid bid start list top settings state₀ points₀ first₀ len₀ kind₀ n k₀ c₀ state points first len kind k c =
+μ-loop ax ay bx by nxt prv lead top settings state₀ points₀ first₀ len₀ kind₀ n k₀ c₀ state points first len kind k c =
     n - k + unvisited state
 
-abbrev g : tie.Start Inv-loop μ-loop → Graph
-g s = graphOf (lent (s .args .ax .now) (s .args .ay .now) (s .args .bx .now) (s .args .by .now) (s .args .aid .now) (s .args .bid .now)
-    (s .args .start .now) (s .args .list .now)) (s .args .top .now)
+-- the graph's field of ends is the one that is lent
+abbrev Of : tie.Start Inv-loop μ-loop → Graph → Type 0
+Of s g = Field g (s .args .ax .now) (s .args .ay .now) (s .args .bx .now) (s .args .by .now) (s .args .top .now) (s .args .nxt .now)
+    (s .args .prv .now) (s .args .lead .now) (s .args .state .now)
 
 abbrev at-start : tie.At-loop Inv-loop μ-loop → tie.Start Inv-loop μ-loop
-at-start l = l .before .before .before .before .before .before .before .before .before .before .before
+at-start l = l .before .before .before .before .before .before .before .before .before .before
 
 -- the link that the scan stands at is one of the states
 in-states : (l : tie.At-loop Inv-loop μ-loop) → l .loop .k < length (at-start l .args .state .now) → l .loop .k < length (l .loop .state)
@@ -40,16 +44,16 @@ roomy : (l : tie.At-loop Inv-loop μ-loop) → Roomy (length (l .loop .state)) (
     (length (l .loop .len)) (length (l .loop .kind))
 roomy l =
     let i = l .loop .inv in
-    rw (i .kept .len, i .points-length, i .first-length, i .len-length, i .kind-length) (at-start l .pre .1)
+    rw (i .kept .len, i .points-length, i .first-length, i .len-length, i .kind-length) (at-start l .pre .1 .1)
 
 no-counts-requires : tie.Need-no-counts-requires Inv-loop μ-loop
 no-counts-requires c κs = search needs
 
 loop-holds : tie.Need-loop-holds Inv-loop μ-loop
 loop-holds c =
-    let s = c .before .before .before .before .before .before .before .before .before .before in
+    let s = c .before .before .before .before .before .before .before .before .before in
     rw (c .no-counts .ensures)
-    (none-yet (g s) (s .args .settings .clockwise) (s .args .settings .minimum) (s .args .state .now) (s .args .points .now) (s .args .first .now)
+    (none-yet (Of s) (s .args .settings .clockwise) (s .args .settings .minimum) (s .args .state .now) (s .args .points .now) (s .args .first .now)
     (s .args .len .now) (s .args .kind .now))
 
 slice-read-if1 : tie.Need-slice-read-if1 Inv-loop μ-loop
@@ -66,7 +70,7 @@ loop-again c =
     let l = c .before .before .before in
     let s = at-start l in
     let t = c .before .before .loop-test .taken in
-    scan-moves (g s) (s .args .settings .clockwise) (s .args .settings .minimum) _ _ _ _ _ _ (l .loop .k) (l .loop .c) (l .loop .state)
+    scan-moves (Of s) (s .args .settings .clockwise) (s .args .settings .minimum) _ _ _ _ _ _ (l .loop .k) (l .loop .c) (l .loop .state)
     (l .loop .points) (l .loop .first) (l .loop .len) (l .loop .kind) (l .loop .inv) t
     (read-shut (l .loop .state) (l .loop .k) (in-states l t) (c .if1 .taken))
 
@@ -75,13 +79,18 @@ scan-walk-requires c κs =
     let l = c .before .before .before .before .before .before .before .before in
     let s = at-start l in
     let i = l .loop .inv in (
-      (rw (i .kept .len) (s .pre .0 .0), s .pre .0 .1 ∙ sym (i .kept .len)),
+      fielded-later (s .pre .0) (kept-later (i .kept)),
       (
-        roomy l,
+        (rw (i .kept .len) (s .pre .1 .0 .0), s .pre .1 .0 .1 ∙ sym (i .kept .len)),
         (
-          read-unvisited (l .loop .state) (l .loop .k) (in-states l (c .before .before .before .before .before .before .before .loop-test .taken))
-              (c .before .before .before .before .before .if1 .left),
-          rw (i .kept .len) (i .within),
+          roomy l,
+          (
+            read-unvisited (l .loop .state) (l .loop .k) (in-states l (c .before .before .before .before .before .before .before .loop-test .taken))
+                (c .before .before .before .before .before .if1 .left),
+            lowest-here (Of s) (s .args .settings .clockwise) (s .args .settings .minimum) _ _ _ _ _ _ (l .loop .k) (l .loop .c) (l .loop .state)
+                (l .loop .points) (l .loop .first) (l .loop .len) (l .loop .kind) i,
+            rw (i .kept .len) (i .within),
+          ),
         ),
       ),
     )
@@ -97,25 +106,25 @@ same-length c =
 same-length-2 : tie.Need-same-length-2 Inv-loop μ-loop
 same-length-2 c =
     let o = c .before .before .before .before .before .before .before .before .before .before .before .before in
-    o .scan-walk .kept .1 .1 .1 .1 .1 .1 .1 .1 .1 .1 .1 .0
+    o .scan-walk .kept .1 .1 .1 .1 .1 .1 .1 .1 .1 .1 .0
     ∙ o .before .before .before .before .before .before .before .before .before .loop .inv .points-length
 
 same-length-3 : tie.Need-same-length-3 Inv-loop μ-loop
 same-length-3 c =
     let o = c .before .before .before .before .before .before .before .before .before .before .before .before in
-    o .scan-walk .kept .1 .1 .1 .1 .1 .1 .1 .1 .1 .1 .1 .1 .0
+    o .scan-walk .kept .1 .1 .1 .1 .1 .1 .1 .1 .1 .1 .1 .0
     ∙ o .before .before .before .before .before .before .before .before .before .loop .inv .first-length
 
 same-length-4 : tie.Need-same-length-4 Inv-loop μ-loop
 same-length-4 c =
     let o = c .before .before .before .before .before .before .before .before .before .before .before .before in
-    o .scan-walk .kept .1 .1 .1 .1 .1 .1 .1 .1 .1 .1 .1 .1 .1 .0
+    o .scan-walk .kept .1 .1 .1 .1 .1 .1 .1 .1 .1 .1 .1 .1 .0
     ∙ o .before .before .before .before .before .before .before .before .before .loop .inv .len-length
 
 same-length-5 : tie.Need-same-length-5 Inv-loop μ-loop
 same-length-5 c =
     let o = c .before .before .before .before .before .before .before .before .before .before .before .before in
-    o .scan-walk .kept .1 .1 .1 .1 .1 .1 .1 .1 .1 .1 .1 .1 .1 .1 .0
+    o .scan-walk .kept .1 .1 .1 .1 .1 .1 .1 .1 .1 .1 .1 .1 .1 .0
     ∙ o .before .before .before .before .before .before .before .before .before .loop .inv .kind-length
 
 returns : tie.Need-returns Inv-loop μ-loop
@@ -125,10 +134,10 @@ returns c =
     let s = at-start l in
     let t = o .before .before .before .before .before .before .before .before .loop-test .taken in
     let i = l .loop .inv in (
-      scan-refused (g s) (s .args .settings .clockwise) (s .args .settings .minimum) _ _ _ _ _ _ (l .loop .k) (l .loop .c) (l .loop .state)
+      λ g h. scan-refused (Of s) (s .args .settings .clockwise) (s .args .settings .minimum) _ _ _ _ _ _ (l .loop .k) (l .loop .c) (l .loop .state)
           (l .loop .points) (l .loop .first) (l .loop .len) (l .loop .kind) i t
-          (read-unvisited (l .loop .state) (l .loop .k) (in-states l t) (o .before .before .before .before .before .before .if1 .left)) _ _ _ _ _ _ _
-          (c .before .number .given .1) (o .scan-walk .ensures .0) _ _ _ _ _ _ refl,
+          (read-unvisited (l .loop .state) (l .loop .k) (in-states l t) (o .before .before .before .before .before .before .if1 .left)) _ _ _ _ _ g h _ _
+          (c .before .number .given .1) (o .scan-walk .ensures .0 g (field-later h (kept-later (i .kept)))) _ _ _ _ _ _ refl,
       (tt, kept-then (i .kept) (o .scan-walk .ensures .1 .1)),
     )
 
@@ -149,13 +158,13 @@ loop-again-2 c =
     let s = at-start l in
     let t = o .before .before .before .before .before .before .before .before .loop-test .taken in
     let i = l .loop .inv in
-    scan-again (g s) (s .args .settings .clockwise) (s .args .settings .minimum) _ _ _ _ _ _ (l .loop .k) (l .loop .c) (l .loop .state)
+    scan-again (Of s) (s .args .settings .clockwise) (s .args .settings .minimum) _ _ _ _ _ _ (l .loop .k) (l .loop .c) (l .loop .state)
     (l .loop .points) (l .loop .first) (l .loop .len) (l .loop .kind) i t
     (read-unvisited (l .loop .state) (l .loop .k) (in-states l t) (o .before .before .before .before .before .before .if1 .left)) _ _ _ _ _ _ _
-    (c .before .d .given .1) (o .scan-walk .ensures .0)
-    (rw (i .kept .len) at (o .scan-walk .ensures .1 .0)) (o .scan-walk .ensures .1 .1) (o .scan-walk .kept .1 .1 .1 .1 .1 .1 .1 .1 .1 .1 .1 .0)
-    (o .scan-walk .kept .1 .1 .1 .1 .1 .1 .1 .1 .1 .1 .1 .1 .0) (o .scan-walk .kept .1 .1 .1 .1 .1 .1 .1 .1 .1 .1 .1 .1 .1 .0)
-    (o .scan-walk .kept .1 .1 .1 .1 .1 .1 .1 .1 .1 .1 .1 .1 .1 .1 .0)
+    (c .before .d .given .1) (λ g h. o .scan-walk .ensures .0 g (field-later h (kept-later (i .kept))))
+    (rw (i .kept .len) at (o .scan-walk .ensures .1 .0)) (o .scan-walk .ensures .1 .1) (o .scan-walk .kept .1 .1 .1 .1 .1 .1 .1 .1 .1 .1 .0)
+    (o .scan-walk .kept .1 .1 .1 .1 .1 .1 .1 .1 .1 .1 .1 .0) (o .scan-walk .kept .1 .1 .1 .1 .1 .1 .1 .1 .1 .1 .1 .1 .0)
+    (o .scan-walk .kept .1 .1 .1 .1 .1 .1 .1 .1 .1 .1 .1 .1 .1 .0)
 
 same-length-6 : tie.Need-same-length-6 Inv-loop μ-loop
 same-length-6 c = c .before .loop .inv .kept .len
@@ -177,7 +186,7 @@ returns-2 c =
     let l = c .before in
     let s = at-start l in
     let i = l .loop .inv in (
-      scan-over (g s) (s .args .settings .clockwise) (s .args .settings .minimum) _ _ _ _ _ _ (l .loop .k) (l .loop .c) (l .loop .state)
+      scan-over (Of s) (s .args .settings .clockwise) (s .args .settings .minimum) _ _ _ _ _ _ (l .loop .k) (l .loop .c) (l .loop .state)
           (l .loop .points) (l .loop .first) (l .loop .len) (l .loop .kind) i (c .loop-test .left),
       (within-less _ _ (unvisited (l .loop .state)) 0 (l .loop .c) (i .within) (omega arith) (omega arith), i .kept),
     )

@@ -2,29 +2,27 @@
 use Prim.Native.Nat.{_<_}
 use mathlib.Core.Path.{_≡_, refl, sym, _∙_}
 use lib.ListN.{length, getD}
-use Rattle.graph.specs.Graph.{Lent, lent}
+use borrow.Author.Needs.{needs}
+use Rattle.keep.specs.Tables.{Tables, tables}
+use Rattle.walk.specs.Marks.{kept-none}
+use Rattle.scan.specs.Fields.{begun, steered}
 use Rattle.scan.proofs.Noting.{first-nothing, first-link}
 use Rattle.scan.proofs.scan_walk.Statement.{statement}
 use Rattle.scan.proofs.scan_walk.Tie as tie
-use Rattle.keep.specs.Tables.{Tables, tables}
-use Rattle.walk.specs.Marks.{kept-none}
-use borrow.Author.Needs.{needs}
-
-abbrev g : tie.Start → Lent
-g s = lent (s .args .ax .now) (s .args .ay .now) (s .args .bx .now) (s .args .by .now) (s .args .aid .now) (s .args .bid .now) (s .args .start .now)
-    (s .args .list .now)
 
 abbrev t : tie.Start → Tables
 t s = tables (s .args .points .now) (s .args .first .now) (s .args .len .now) (s .args .kind .now) (s .args .c)
 
 abbrev at-start : tie.After-s → tie.Start
-at-start c = c .before .before .before .before .before .before .before .before .before .before .before .before .before
+at-start c = c .before .before .before .before .before .before .before .before .before .before .before .before
 
 ok : (c : tie.After-s) → (c .s .given .0 .0 < length (at-start c .args .state .now)) × (getD (at-start c .args .state .now) (c .s .given .0 .0) 1 ≡ 0)
 ok c = rw (c .s .given .1) at (c .before .before .find-left-top-link .ensures .1)
 
 find-left-top-link-requires : tie.Need-find-left-top-link-requires
-find-left-top-link-requires c κs = search needs
+find-left-top-link-requires c κs =
+    let s = c .before .before .before .before .before .before .before .before .before in
+    (begun (s .pre .0), (s .pre .1 .0 .0, (s .pre .1 .1 .1 .0, s .pre .1 .1 .1 .1)))
 
 enum-told : tie.Need-enum-told
 enum-told c = search needs
@@ -33,21 +31,21 @@ enum-known-s : tie.Need-enum-known-s
 enum-known-s c = search needs
 
 shared-slice-read-hole : tie.Need-shared-slice-read-hole
-shared-slice-read-hole c = let a = c .before .before in rw (at-start a .pre .0 .1) (ok a .0)
+shared-slice-read-hole c = let a = c .before .before in rw (at-start a .pre .1 .0 .1) (ok a .0)
 
 note-contour-requires : tie.Need-note-contour-requires
 note-contour-requires c κs =
     let a = c .before .before .before .before .before .before .before in let s = at-start a in
-    (s .pre .0 .0, (s .pre .1 .0, (ok a .0, ok a .1, s .pre .1 .1 .1)))
+    ((steered (s .pre .0), s .pre .1 .0 .0), (s .pre .1 .1 .0, (ok a .0, ok a .1, s .pre .1 .1 .1 .2)))
 
 same-length : tie.Need-same-length
 same-length c = search needs
 
 returns : tie.Need-returns
 returns c =
-    let s = c .before .before .before .before .before .before .before .before .before .before .before .before .before in (
-      first-nothing (g s) (s .args .top .now) (s .args .settings .clockwise) (s .args .settings .minimum) (t s) (s .args .state .now) _ _ _ _ _ _ _
-          (sym (c .enum-told .given .1) ∙ c .before .before .find-left-top-link .ensures .0 (s .args .bid .now) (s .args .top .now)) refl,
+    let s = c .before .before .before .before .before .before .before .before .before .before .before .before in (
+      λ g h. first-nothing g (s .args .settings .clockwise) (s .args .settings .minimum) (t s) (s .args .state .now) _ _ _ _ _ _ _
+          (sym (c .enum-told .given .1) ∙ c .before .before .find-left-top-link .ensures .0 g (h .firsts) (h .reads)) refl,
       (tt, kept-none _),
     )
 
@@ -71,9 +69,9 @@ returns-2 c =
     let a = c .before .before .before .before .before .before .before .before .before .before .before .before .before .before .before .before .before in
     let s = at-start a in
     let o = c .before .before .before .before .before .before .before .before .before in (
-      first-link (g s) (s .args .top .now) (s .args .settings .clockwise) (s .args .settings .minimum) (t s) (s .args .state .now) _ _ _ _ _ _ _ _
-          (sym (a .s .given .1) ∙ a .before .before .find-left-top-link .ensures .0 (s .args .bid .now) (s .args .top .now))
-          (o .note-contour .ensures .0),
+      λ g h. first-link g (s .args .settings .clockwise) (s .args .settings .minimum) (t s) (s .args .state .now) _ _ _ _ _ _ _ _ _
+          (sym (a .s .given .1) ∙ a .before .before .find-left-top-link .ensures .0 g (h .firsts) (h .reads))
+          (h .tops (a .s .given .0 .0)) (o .note-contour .ensures .0 g (h .steers) (h .reads)),
       o .note-contour .ensures .1,
     )
 

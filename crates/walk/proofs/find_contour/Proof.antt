@@ -1,21 +1,26 @@
 -- `walk::find_contour` meets its contract: the first link is marked, the last one is fixed, and the walk goes on.
-use Prim.Native.Nat.{ℕ, suc}
-use mathlib.Core.Path.{_≡_, refl, sym, _∙_}
-use mathlib.Core.List.{List, []}
+use Prim.Native.Nat.{ℕ, suc, _≤_, _<_}
+use mathlib.Core.Path.{_≡_, refl, sym, _∙_, subst}
+use mathlib.Core.Bool.{not}
+use mathlib.Core.List.{List}
 use native.Mathlib.Omega.{arith}
-use lib.ListN.{set, length-set}
-use Rattle.graph.specs.Graph.{Lent, lent}
+use lib.ListN.{length, set, length-set}
+use Rattle.turn.specs.Limits.{maxLinks}
+use Rattle.turn.specs.Points.{OnGrid}
 use Rattle.next.specs.Next.{unvisited}
-use Rattle.walk.proofs.Steps.{end-there, starts-nowhere, starts-on, counted-on}
+use Rattle.rings.specs.Ends.{linkOf}
+use Rattle.rings.specs.Field.{Steered}
+use Rattle.walk.proofs.Starts.{end-number-at, end-arrived, summed-none, begin-is, starts-nowhere, starts-on, counted-on, sized-on}
+use Rattle.walk.proofs.Steps.{start-on}
 use Rattle.walk.proofs.find_contour.Statement.{statement}
 use Rattle.walk.proofs.find_contour.Tie as tie
-use Rattle.walk.specs.Code.{plain, Kept}
+use Rattle.walk.specs.Code.{Kept, GoesTo}
+use Rattle.walk.specs.Later.{kept-later, steers-later, steered-later}
 use Rattle.walk.specs.Marks.{kept-mark, kept-then, fewer}
 use borrow.Author.Needs.{needs}
 
-abbrev g : tie.Start → Lent
-g s = lent (s .args .ax .now) (s .args .ay .now) (s .args .bx .now) (s .args .by .now) (s .args .aid .now) (s .args .bid .now) (s .args .start .now)
-    (s .args .list .now)
+abbrev at-start : tie.After-put-point → tie.Start
+at-start p = p .before .before .before .before .before .before .before .before .before
 
 abbrev st : tie.Start → List ℕ
 st s = s .args .state .now
@@ -29,60 +34,72 @@ less s = fewer (st s) (s .args .s) (s .args .course .mark) (s .pre .1 .0 .2) (s 
 mark-kept : (s : tie.Start) → Kept (st s) (marked s)
 mark-kept s = kept-mark (st s) (s .args .s) (s .args .course .mark) (s .pre .1 .0 .2) (s .pre .1 .0 .1)
 
-end-node-requires : tie.Need-end-node-requires
-end-node-requires c κs = search needs
+few : (s : tie.Start) → length (marked s) ≤ maxLinks
+few s = let d = s .pre .0 .0 .steers in omega (arith, d .few, d .size, length-set (st s) (s .args .s) (s .args .course .mark))
 
-end-node-requires-2 : tie.Need-end-node-requires-2
-end-node-requires-2 c κs = search needs
+steered : (s : tie.Start) → Steered (s .args .nxt .now) (s .args .prv .now) (marked s)
+steered s = steered-later (s .pre .0 .0) (kept-later (mark-kept s))
 
-end-point-requires : tie.Need-end-point-requires
-end-point-requires c κs = search needs
+end-number-requires : tie.Need-end-number-requires
+end-number-requires c κs = search needs
+
+end-number-requires-2 : tie.Need-end-number-requires-2
+end-number-requires-2 c κs = search needs
 
 slice-write-state : tie.Need-slice-write-state
 slice-write-state c = search needs
 
-put-point-requires : tie.Need-put-point-requires
-put-point-requires c κs = let s = c .before .before .before .before .before .before .before .before .before in omega (arith, s .pre .1 .1, less s)
+-- the end at which the walk arrives is one of its first link
+ahead-there : (c : tie.After-end-number2) → linkOf (c .end-number2 .result) < length (st (c .before .before .before .before .before .before))
+ahead-there c =
+    let s = c .before .before .before .before .before .before in
+    subst (λ k. k < length (st s)) (sym (end-number-at (s .args .s) (not (s .args .course .forward)) _ (c .end-number2 .ensures)))
+    (s .pre .1 .0 .0)
 
-last-link-requires : tie.Need-last-link-requires
-last-link-requires c κs =
-    let s = c .before .before .before .before .before .before .before .before .before .before .before .before in
-    let e = length-set (st s) (s .args .s) (s .args .course .mark) in (
-      rw e (s .pre .0 .links),
-      (
-        rw e (s .pre .0 .nodes),
-        (
-          rw (c .before .before .before .before .before .before .end-node .ensures)
-              (end-there (g s) _ (s .args .s) (s .args .course .forward) (s .pre .0) (s .pre .1 .0 .0) .0),
-          rw e (s .pre .1 .0 .0),
-        ),
-      ),
+start-point-requires : tie.Need-start-point-requires
+start-point-requires c κs =
+    let l = c .before .before .before .before .before .before .pre .0 .1 in let h = ahead-there c in
+    (rw (l .ax-long) h, rw (l .ay-long) h, rw (l .bx-long) h, rw (l .by-long) h)
+
+-- the point at which it begins is on the grid
+on : (c : tie.After-start-point) → OnGrid (c .start-point .result)
+on c = rw (c .start-point .ensures) (start-on (c .before .before .before .before .before .before .before .pre .0 .1) _ (ahead-there (c .before)))
+
+put-point-requires : tie.Need-put-point-requires
+put-point-requires c κs = let s = c .before .before .before .before .before .before .before .before in omega (arith, s .pre .1 .1, less s)
+
+next-end-requires : tie.Need-next-end-requires
+next-end-requires c κs =
+    let p = c .before .before .before in let s = at-start p in (
+      steered s,
+      end-arrived (st s) (s .args .s) _ (s .args .course .forward) _ (p .before .before .before .before .before .end-number .ensures)
+          (s .pre .1 .0 .0) (s .pre .1 .0 .2),
     )
 
 enum-told : tie.Need-enum-told
 enum-told c = search needs
 
-enum-known-last : tie.Need-enum-known-last
-enum-known-last c = search needs
+enum-known-back : tie.Need-enum-known-back
+enum-known-back c = search needs
 
-add-written : tie.Need-add-written
-add-written c =
-    let s = c .before .before .before .before .before .before .before .before .before .before .before .before .before .before .before .before in
-    omega (arith, s .pre .1 .1, less s, s .good .1 .1 .1 .1 .1 .1 .1 .1 .1 .1 .0)
+add-t27 : tie.Need-add-t27
+add-t27 c =
+    let s = at-start (c .before .before .before .before .before .before .before) in
+    omega (arith, s .pre .1 .1, less s, s .good .1 .1 .1 .1 .1 .1 .1 .1 .0)
 
 walk-on-requires : tie.Need-walk-on-requires
 walk-on-requires c κs =
-    let s = c .before .before .before .before .before .before .before .before .before .before .before .before .before .before .before .before .before .before in
-    let e = length-set (st s) (s .args .s) (s .args .course .mark) in (
-      rw e (s .pre .0),
+    let p = c .before .before .before .before .before .before .before .before .before in let s = at-start p in (
+      (steered s, rw (mark-kept s .len) (s .pre .0 .1)),
       (
         (
-          rw (c .before .before .before .before .before .before .before .before .before .before .before .end-node2 .ensures)
-              (end-there (g s) _ (s .args .s) (s .args .course .forward) (s .pre .0) (s .pre .1 .0 .0) .1),
-          rw e (s .pre .1 .0 .0),
+          end-arrived (st s) (s .args .s) _ (not (s .args .course .forward)) _ (p .before .before .before .end-number2 .ensures) (s .pre .1 .0 .0)
+              (s .pre .1 .0 .2),
           s .pre .1 .0 .2,
+          on (p .before .before),
+          summed-none (marked s) (few s),
         ),
-        omega (arith, s .pre .1 .1, less s, c .before .before .before .before .before .before .before .before .put-point .kept .0),
+        (on (p .before .before), omega (arith, s .pre .1 .1, less s, p .put-point .kept .0)),
       ),
     )
 
@@ -94,45 +111,44 @@ same-length-2 c = search needs
 
 returns : tie.Need-returns
 returns c =
-    let s = c .before .before .before .before .before .before .before .before .before .before .before .before .before .before .before in (
-      starts-nowhere (plain (g s)) (s .args .course .forward) (s .args .course .sense) (s .args .course .mark) (st s) (s .args .s)
-          (s .args .points .now) (s .args .at) _ _ _ _ (c .before .before .before .before .before .before .before .before .before .end-node .ensures)
-          (sym (c .enum-told .given .1) ∙ c .before .before .last-link .ensures .0 (s .args .bid .now) []) refl,
-      (tt, mark-kept s),
+    let p = c .before .before .before .before .before .before in let s = at-start p in let a = s .args in (
+      λ g d e. starts-nowhere g (a .course .forward) (a .course .sense) (a .course .mark) (st s) (a .s) (a .points .now) (a .at) _ _ _ _
+          (p .before .before .before .before .before .end-number .ensures)
+          (subst (GoesTo g (not (a .course .sense)) (marked s) _) (c .enum-told .given .1)
+          (c .before .before .next-end .ensures .0 g (steers-later d (kept-later (mark-kept s))))) refl,
+      ((tt, tt), mark-kept s),
     )
 
 same-length-3 : tie.Need-same-length-3
 same-length-3 c =
-    let o = c .before .before .before in
-    o .walk-on .ensures .1 .1 .len ∙ mark-kept
-    (o .before .before .before .before .before .before .before .before .before .before .before .before .before .before .before .before .before .before
-    .before) .len
+    let w = c .before .before .before in let p = w .before .before .before .before .before .before .before .before .before .before in
+    w .walk-on .ensures .1 .1 .len ∙ mark-kept (at-start p) .len
 
 same-length-4 : tie.Need-same-length-4
 same-length-4 c = search needs
 
 returns-2 : tie.Need-returns-2
 returns-2 c =
-    let o = c .before .before .before in
-    let s = o
-    .before .before .before .before .before .before .before .before .before .before .before .before .before .before .before .before .before
-    .before .before in (
-      starts-on (plain (g s)) (s .args .course .forward) (s .args .course .sense) (s .args .course .mark) (st s) (s .args .s) (s .args .points .now)
-          (s .args .at) _ _ _ _
-          (o .before .before .before .before .before .before .before .before .before .before .before .before .before .end-node .ensures) _ _ _ _
-          (sym (o .before .before .before .before .last .given .1)
-          ∙ o .before .before .before .before .before .before .last-link .ensures .0 (s .args .bid .now) [])
-          (o .before .before .before .before .before .before .before .before .before .before .before .before .end-node2 .ensures)
-          (o .before .before .before .before .before .before .before .before .before .before .before .end-point .ensures)
-          (o .before .before .before .before .before .before .before .before .before .put-point .ensures) (o .walk-on .ensures .0),
+    let w = c .before .before .before in let n = w .before .before .before .before .before .before in let p = n .before .before .before .before in
+    let s = at-start p in let a = s .args in let o = w .walk-on in (
+      λ g d e.
+          let f = steers-later d (kept-later (mark-kept s)) in
+          starts-on g (a .course .forward) (a .course .sense) (a .course .mark) (st s) (a .s) (a .points .now) (a .at) _ _ _ _
+          (p .before .before .before .before .before .end-number .ensures) _ _ _ _
+          (subst (GoesTo g (not (a .course .sense)) (marked s) _) (w .before .before .before .before .back .given .1) (n .next-end .ensures .0 g f))
+          (p .before .before .before .end-number2 .ensures)
+          (p .before .before .start-point .ensures ∙ begin-is e (a .s) (a .course .forward) _ (p .before .before .before .end-number2 .ensures))
+          (p .put-point .ensures) (o .ensures .0 g f e),
       (
-        counted-on (s .args .at) (st s) (marked s) (o .walk-on .last .1 .1 .1 .1 .1 .1 .1 .1 .1 .1 .1 .0) (o .walk-on .result) (less s)
-            (o .walk-on .ensures .1 .0),
-        kept-then (mark-kept s) (o .walk-on .ensures .1 .1),
+        (
+          counted-on (a .at) (st s) (marked s) _ (o .result) (less s) (o .ensures .1 .0 .0),
+          sized-on _ (a .at) _ (o .result) (o .ensures .1 .0 .1),
+        ),
+        kept-then (mark-kept s) (o .ensures .1 .1),
       ),
     )
 
 pub find-contour-spec : {M : Type 1} → statement M
-find-contour-spec = tie.close (tie.spec end-node-requires end-node-requires-2 end-point-requires slice-write-state
-    put-point-requires last-link-requires enum-told enum-known-last add-written walk-on-requires same-length
-    same-length-2 returns same-length-3 same-length-4 returns-2)
+find-contour-spec = tie.close (tie.spec end-number-requires end-number-requires-2 slice-write-state start-point-requires
+    put-point-requires next-end-requires enum-told enum-known-back add-t27 walk-on-requires same-length same-length-2
+    returns same-length-3 same-length-4 returns-2)
