@@ -251,13 +251,15 @@ pub fn find_contour(
     ensures { λ r. ⌜ (Counted (at + 1) at (now (state .entry)) (now (state .exit)) r) × (Sized at r) ⌝ }
     ensures { λ _. ⌜ Kept (now (state .entry)) (now (state .exit)) ⌝ }
 {
-    let home = end_number(course.forward, s);
-    let ahead = end_number(!course.forward, s);
+    let forward = course.forward;
+    let sense = course.sense;
     let mark = course.mark;
+    let home = end_number(forward, s);
+    let ahead = end_number(!forward, s);
     state[s] = mark;
     let begin = start_point(ax, ay, bx, by, ahead);
     put_point(points, at, begin);
-    match next_end(nxt, prv, state, !course.sense, home) {
+    match next_end(nxt, prv, state, !sense, home) {
         Onward::Nowhere => Ended::Stuck(8),
         Onward::To(back) => {
             let w = Walker {
