@@ -13,9 +13,8 @@ use Rattle.turn.specs.Angular.{irreflexive, transitive}
 use Rattle.graph.specs.Graph.{Graph}
 use Rattle.next.specs.declared.Next.{Next}
 use Rattle.next.specs.declared.Next.the-variants.{Link, Nothing}
-use Rattle.next.specs.declared.Across.the-variants.{Named, Choice}
 use Rattle.next.specs.Next.{isUnvisited, unvisitedIn, onlyUnvisited, Node, bridge, crossing, nodeOf, metFirst, best, firstMet, acrossFrom}
-use Rattle.next.specs.Next.{nextAt, acrossAt, nextLink}
+use Rattle.next.specs.Next.{nextAt, nextLink}
 use Rattle.graph.specs.Checks.{awayFrom}
 use Rattle.next.specs.Known.{NamesUnvisited}
 use Rattle.next.specs.States.{names-unvisited, only-unvisited}
@@ -138,35 +137,6 @@ next-unvisited g sense st v e = at (nodeOf (g .entries v))
     at : (n : Node) → NamesUnvisited st (nextAt g sense st v e n)
     at (bridge x y) = only-unvisited st (pick (eqb x e) y x)
     at (crossing l) = met (unvisitedIn st l) (λ x m. unvisited-in-of st l x m .1)
-
--- an answer that is the next link in any graph of the links lent, with the fact that a caller needs
-pub next-answer : (of : List ℕ → List ℕ → Graph) (sense : Bool) (st : List ℕ) (v e : ℕ) (r : Next)
-    → ((bid top : List ℕ) → r ≡ nextLink (of bid top) sense st v e)
-    → ((bid top : List ℕ) → r ≡ nextLink (of bid top) sense st v e) × NamesUnvisited st r
-next-answer of sense st v e r h = (h, rw (h [] []) (next-unvisited (of [] []) sense st v e))
-
--- ---- what the code asks first, by a list of entries
-module _ (st : List ℕ) (e : ℕ) where
-  pub named-at : {x y : ℕ} {l : List ℕ} {r : Next} → l ≡ x ∷ (y ∷ []) → r ≡ acrossFrom st e x y → Named r ≡ acrossAt st e (nodeOf l)
-  named-at two q = rw (two, q)
-
-  pub choice-at : (l : List ℕ) → (length l ≡ 2 → ⊥) → Choice ≡ acrossAt st e (nodeOf l)
-  choice-at l n = sym (ap (acrossAt st e) (crossing-of l n))
-
-  -- what its answers tell
-  pub next-named : (g : Graph) (sense : Bool) (v : ℕ) (r : Next) → Named r ≡ acrossAt st e (nodeOf (g .entries v)) → r ≡ nextLink g sense st v e
-  unfolding nextLink
-  next-named g sense v r = at (nodeOf (g .entries v))
-    where
-      at : (n : Node) → Named r ≡ acrossAt st e n → r ≡ nextAt g sense st v e n
-      at (bridge x y) q = cc
-      at (crossing l) q = let no : _≡_ {A = ℕ} 0 1 = cc in zero-one no
-
-  pub no-bridge : (l : List ℕ) → Choice ≡ acrossAt st e (nodeOf l) → length l ≡ 2 → ⊥
-  no-bridge (x ∷ (y ∷ [])) q n = let no : _≡_ {A = ℕ} 0 1 = cc in zero-one no
-  no-bridge [] q n = omega arith
-  no-bridge (x ∷ []) q n = omega arith
-  no-bridge (x ∷ (y ∷ (z ∷ l))) q n = omega arith
 
 -- f is unvisited and at the node, and no other unvisited link there is met before it, turning from e
 pub record Foremost (g : Graph) (sense : Bool) (st : List ℕ) (v e f : ℕ) : Type 0 where

@@ -16,7 +16,7 @@ use Rattle.graph.specs.Checks.{Room}
 use Rattle.graph.specs.Fine.{FineGraph}
 use Rattle.graph.specs.Total.{part-length}
 use Rattle.next.specs.Next.{isUnvisited, topmost}
-use Rattle.next.specs.Known.{Links, Nodes}
+use Rattle.next.specs.Known.{Links}
 use Rattle.next.specs.Choice.{Mem}
 use Rattle.next.specs.Topmost.{Starts, Topmost, first-topmost}
 
@@ -34,24 +34,6 @@ module _ {g : Lent} {top state : List ℕ} {r : Room} (h : FineGraph g top state
       by-long = h .even .by ∙ e;
       a-grid = λ k l. h .links .a-grid k (rw e l);
       b-grid = λ k l. h .links .b-grid k (rw e l);
-    }
-
-    in-part : (v i : ℕ) → v < nodeCount g → getD (g .start) v 0 ≤ i → i < getD (g .start) (v + 1) 0 → getD (g .list) i 0 < n
-    in-part v i l low high =
-        let at : getD (g .start) v 0 + (i - getD (g .start) v 0) ≡ i = omega arith in
-        let within : i - getD (g .start) v 0 < getD (g .start) (v + 1) 0 - getD (g .start) v 0 = omega arith in
-        let is : getD (G .entries v) (i - getD (g .start) v 0) 0 ≡ getD (g .list) i 0 = getD-take _ _ _ 0 within ∙ getD-drop _ (g .list) _ 0
-        ∙ ap (λ (j : ℕ). getD (g .list) j 0) at in
-        let below = h .lists .below-at v (i - getD (g .start) v 0) (omega (arith, part-length (h .rising) v l)) in
-        omega arith
-
-    pub nodes-known : Nodes (g .aId) (g .start) (g .list) n
-    nodes-known = record {
-      a-long = e;
-      a-node = λ k l. let b = h .links .a-node k (rw e l) in omega arith;
-      rises = λ v l. let b = h .rising .step v (omega arith) in omega arith;
-      ends = λ v l. h .within (v + 1) (omega arith);
-      numbers = λ v l i. in-part v i (omega arith);
     }
 
   -- ---- the scan's first link at a `Cross`: k is the lowest unvisited link

@@ -1,7 +1,6 @@
 -- The definitions that the contracts cite, then the laws of them.
 pub mod Next
 pub mod Known
-pub mod Passed
 pub mod States
 pub mod Choice
 pub mod Topmost

@@ -11,8 +11,6 @@ use Rattle.graph.specs.Graph.{Graph}
 use Rattle.graph.specs.Checks.{awayFrom}
 use Rattle.next.specs.declared.Next.{Next}
 use Rattle.next.specs.declared.Next.the-variants.{Link, Nothing}
-use Rattle.next.specs.declared.Across.{Across}
-use Rattle.next.specs.declared.Across.the-variants.{Named, Choice}
 
 -- ---- states: 0 unvisited, 1 skipped, 2 walked in a hole, 3 walked in a hull
 
@@ -76,11 +74,6 @@ acrossFrom st e x y = onlyUnvisited st (pick (eqb x e) y x)
 abbrev pub nextAt : Graph → Bool → List ℕ → ℕ → ℕ → Node → Next
 nextAt g sense st v e (bridge x y) = acrossFrom st e x y
 nextAt g sense st v e (crossing l) = firstMet (metFirst g sense v e) (unvisitedIn st l)
-
--- what the code asks first: the link named at a `Bridge`, or that there is a choice
-abbrev pub acrossAt : List ℕ → ℕ → Node → Across
-acrossAt st e (bridge x y) = Named (acrossFrom st e x y)
-acrossAt st e (crossing l) = Choice
 
 unfoldable pub nextLink : Graph → Bool → List ℕ → ℕ → ℕ → Next
 nextLink g sense st v e = nextAt g sense st v e (nodeOf (g .entries v))

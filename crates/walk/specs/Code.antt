@@ -12,11 +12,10 @@ use Rattle.turn.specs.declared.Point.{Point}
 use Rattle.turn.specs.Limits.{maxLinks}
 use Rattle.turn.specs.Points.{OnGrid}
 use Rattle.turn.specs.Area.{wedge, wedgeBound, areaTo, area}
-use Rattle.graph.specs.Graph.{Graph, Lent, graphOf}
+use Rattle.graph.specs.Graph.{Graph}
 use Rattle.next.specs.declared.Next.{Next}
 use Rattle.next.specs.declared.Next.the-variants.{Link, Nothing}
 use Rattle.next.specs.Next.{isUnvisited, unvisited, nextLink}
-use Rattle.next.specs.Known.{Links, Nodes}
 use Rattle.rings.specs.Ends.{linkOf, far, nodeOfEnd, endOf}
 use Rattle.walk.specs.declared.Walker.{Walker}
 use Rattle.walk.specs.declared.Onward.{Onward}
@@ -111,17 +110,7 @@ Goes w st st′ (stepped.Went v) =
 
 -- ---- one walk
 
--- the graph without its tops, which only the first link of a walk is asked for
-abbrev pub plain : Lent → Graph
-plain g = graphOf g []
-
--- n links on the grid, each with its two nodes, and the nodes' parts of the list
-pub record Shape (g : Lent) (n : ℕ) : Type 0 where
-  pub links : Links (g .ax) (g .ay) (g .bx) (g .by) n
-  pub nodes : Nodes (g .aId) (g .start) (g .list) n
-  pub b-long : length (g .bId) ≡ n
-  pub b-node : (k : ℕ) → k < n → getD (g .bId) k 0 + 1 < length (g .start)
-
+-- a walk that is done
 abbrev pub finished : ℕ → ℤ → Finished
 finished to sum = record { to = to; area = sum }
 

@@ -7,4 +7,3 @@ pub mod Visits
 pub mod Enough
 pub mod Marks
 pub mod Later
-pub mod Tops

@@ -1,4 +1,0 @@
--- Laws that the proofs of this crate share.
-mod Stretch
-mod Loops
-mod Answers
