@@ -75,30 +75,6 @@ fn product(u: Vector, v: Vector)
     say(turn::same_direction(u, v) as u64);
 }
 
-// Whether f is met before g, turning from e in a sense.
-fn met_in(sense: bool, e: Vector, f: Vector, g: Vector) -> bool
-    requires { ⌜ (Short e) × (Short f) × (Short g) ⌝ }
-{
-    turn::met_before(
-        sense,
-        f,
-        turn::half_of(sense, e, f),
-        g,
-        turn::half_of(sense, e, g),
-    )
-}
-
-// Whether f is met before g, and g before f, turning from e clockwise, then counterclockwise.
-fn met(e: Vector, f: Vector, g: Vector)
-    requires { ⌜ (Short e) × (Short f) × (Short g) ⌝ }
-{
-    io::write_all(1, b"\nmet");
-    say(met_in(true, e, f, g) as u64);
-    say(met_in(true, e, g, f) as u64);
-    say(met_in(false, e, f, g) as u64);
-    say(met_in(false, e, g, f) as u64);
-}
-
 // Areas at 0, about a minimum, and at both ends of 64 bits.
 fn sizes() {
     size(0, 0);
@@ -157,12 +133,9 @@ fn areas() {
     area(-524288, 524288, 524288, 524288, 8);
 }
 
-// Vectors that no link has: of length 0, as long as the grid is wide, and two of one direction.
+// Vectors that no link has: of length 0, and as long as the grid is wide.
 fn vectors() {
     let zero = Vector { x: 0, y: 0 };
-    let east = Vector { x: 1, y: 0 };
-    let west = Vector { x: -1, y: 0 };
-    let north = Vector { x: 0, y: 1 };
     let up = Vector {
         x: 1048576,
         y: 1048576,
@@ -176,12 +149,6 @@ fn vectors() {
     product(up, zero);
     product(down, up);
     product(up, down);
-    met(east, east, north);
-    met(east, east, west);
-    met(north, up, Vector { x: 7, y: 7 });
-    met(zero, east, north);
-    met(east, zero, north);
-    met(east, zero, east);
 }
 
 fn main() {

@@ -9,10 +9,9 @@ ghost use Rattle.graph.specs.Graph.{Lent, lent, Graph};
 ghost use Rattle.graph.specs.Checks.{checked};
 ghost use Rattle.next.specs.Known.{Links};
 ghost use Rattle.rings.specs.Field.{Field, Fielded, Spacious, Unled, AllLaid};
-ghost use Rattle.walk.specs.Code.{Kept, unmark};
-ghost use Rattle.keep.specs.Tables.{Tables, tables, noCounts};
+ghost use Rattle.walk.specs.Code.{unmark};
 ghost use Rattle.scan.specs.Scan.{scan};
-ghost use Rattle.scan.specs.Notes.{Roomy, ScanLeaves, Ends};
+ghost use Rattle.scan.specs.Notes.{Roomy};
 ghost use Rattle.finish.specs.Finish.{Buffers, buffers};
 ghost use Rattle.extract.specs.Sizes.{fewLinks};
 ghost use Rattle.extract.specs.Extract.{extractedAs, afterScan, extracted};
@@ -62,37 +61,6 @@ fn check_graph(
     Checked::Fine
 }
 
-// TEMPORARY
-fn scan_links(
-    ax: &[i32],
-    ay: &[i32],
-    bx: &[i32],
-    by: &[i32],
-    nxt: &[u32],
-    prv: &[u32],
-    lead: &[u8],
-    top: &[u8],
-    settings: Settings,
-    state: &mut [u8],
-    points: &mut [i32],
-    first: &mut [u32],
-    len: &mut [u32],
-    kind: &mut [u8],
-) -> Extraction
-    requires { ⌜ Fielded (now ax) (now ay) (now bx) (now by) (now top) (now nxt) (now prv) (now lead) (now state) ⌝ }
-    requires { ⌜ (Links (now ax) (now ay) (now bx) (now by) (length (now state))) × (length (now top) ≡ length (now state)) ⌝ }
-    requires { ⌜ Roomy (length (now state)) (length (now points)) (length (now first)) (length (now len)) (length (now kind)) ⌝ }
-    ensures { λ r. ⌜ ((g : Graph) → Field g (now (ax .entry)) (now (ay .entry)) (now (bx .entry)) (now (by .entry)) (now (top .entry)) (now (nxt .entry))
-        (now (prv .entry)) (now (lead .entry)) (now (state .entry)) →
-        (let before : Tables = tables (now (points .entry)) (now (first .entry)) (now (len .entry)) (now (kind .entry)) noCounts in
-        ScanLeaves g (settings .minimum) before (scan g (settings .clockwise) (now (state .entry))) r (now (state .exit)) (now (points .exit))
-        (now (first .exit)) (now (len .exit)) (now (kind .exit)))) ⌝ }
-    ensures { λ r. ⌜ Ends (length (now (state .entry))) r ⌝ }
-    ensures { λ _. ⌜ Kept (now (state .entry)) (now (state .exit)) ⌝ }
-{
-    Extraction::Refused { number: 8, place: 0 }
-}
-
 // Extraction of a graph that passes checks 1 to 7, over the field of its ends.
 fn extract_fine(
     ax: &[i32],
@@ -121,7 +89,7 @@ fn extract_fine(
         let after : Buffers = buffers (now (state .exit)) (now (points .exit)) (now (first .exit)) (now (len .exit)) (now (kind .exit)) in
         extractedAs r after ≡ afterScan g (settings .minimum) before (scan g (settings .clockwise) (now (state .entry))))) ⌝ }
 {
-    let answer = scan_links(
+    let answer = scan::scan_links(
         ax,
         ay,
         bx,

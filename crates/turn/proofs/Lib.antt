@@ -1,5 +1,4 @@
 -- What the proofs cite beside the laws of specs/.
 pub mod Operands
-pub mod Halves
 pub mod Sums
 pub mod Absolutes

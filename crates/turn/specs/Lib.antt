@@ -4,7 +4,6 @@ pub mod Points
 pub mod Angle
 pub mod Area
 pub mod Size
-pub mod Rank
 pub mod Directions
 pub mod Rightward
 pub mod Angular

@@ -3,14 +3,12 @@ ghost use mathlib.Core.Path.{_≡_};
 ghost use Prim.Native.Nat.{_+_, _*_, _<_, _≤_, _/_};
 ghost use lib.IntN.{pos, natAbs, _-ℤ_};
 ghost use lib.ListN.{length};
-ghost use Rattle.laws.specs.Sign.{sgn, is-mns};
 ghost use Rattle.turn.specs.Limits.{maxLinks, maxCoordinate};
 ghost use Rattle.turn.specs.Points.{before, differ, outside, offGrid, Coord, OnGrid, Short, fromTo, cross, dot, turn, clockwise, productBound};
 ghost use Rattle.turn.specs.Points.{span, Grid};
-ghost use Rattle.turn.specs.Angle.{halfOf, sameDirection, turned};
+ghost use Rattle.turn.specs.Angle.{sameDirection};
 ghost use Rattle.turn.specs.Area.{wedge, area, pointsOf, wedgeBound};
 ghost use Rattle.turn.specs.Size.{half, isKept};
-ghost use Rattle.turn.specs.Rank.{rank, byRank};
 
 // The most links of a graph, and the most points of a contour table.
 pub const MAX_LINKS: usize = 4096;
@@ -125,48 +123,6 @@ pub fn same_direction(u: Vector, v: Vector) -> bool
     ensures { λ r. ⌜ r ≡ sameDirection u v ⌝ }
 {
     (cross_product(u, v) == 0) & (0 < dot_product(u, v))
-}
-
-// Whether a cross product turns the way that is asked for: below 0 for clockwise, above 0 for counterclockwise.
-fn turns(sense: bool, product: i64) -> bool
-    ensures { λ r. ⌜ r ≡ is-mns (turned sense (sgn product)) ⌝ }
-{
-    (sense & (product < 0)) | (!sense & (0 < product))
-}
-
-// Where f lies, turning from e: 0 in the first half turn, 1 opposite, 2 in the second half turn, 3 a full turn away.
-pub fn half_of(sense: bool, e: Vector, f: Vector) -> u8
-    requires { ⌜ (Short e) × (Short f) ⌝ }
-    ensures { λ r. ⌜ r ≡ rank (halfOf sense e f) ⌝ }
-{
-    let c = cross_product(e, f);
-    if turns(sense, c) {
-        return 0;
-    }
-    if turns(!sense, c) {
-        return 2;
-    }
-    if dot_product(e, f) < 0 {
-        return 1;
-    }
-    3
-}
-
-// Whether f is met strictly before g, turning clockwise or counterclockwise from a vector. By `half_of`, they lie h and k from it.
-pub fn met_before(sense: bool, f: Vector, h: u8, g: Vector, k: u8) -> bool
-    requires { ⌜ (Short f) × (Short g) ⌝ }
-    ensures { λ r. ⌜ r ≡ byRank h k (is-mns (turned sense (sgn (cross f g)))) ⌝ }
-{
-    if h < k {
-        return true;
-    }
-    if k < h {
-        return false;
-    }
-    if (h == 1) | (h == 3) {
-        return false;
-    }
-    turns(sense, cross_product(f, g))
 }
 
 // x y' - y x' of two points.
