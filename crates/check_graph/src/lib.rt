@@ -1,17 +1,12 @@
 // Checks 1 to 7 together. Any graph may be lent: `check_graph` says that it is fine, or the number and place of the check that refuses it.
 ghost use mathlib.Core.Path.{_≡_};
-ghost use mathlib.Core.Bool.{false};
-ghost use Prim.Native.Nat.{ℕ, _-_, _≤_};
+ghost use Prim.Native.Nat.{_-_, _≤_};
 ghost use lib.ListN.{length};
-ghost use Rattle.laws.specs.Lowest.{some};
 ghost use Rattle.turn.specs.Limits.{maxLinks};
-ghost use Rattle.turn.specs.declared.Point.{Point};
 ghost use Rattle.turn.specs.declared.Checked.the-variants.{Fine};
-ghost use Rattle.graph.specs.Graph.{Lent, lent, pointAt, part};
-ghost use Rattle.graph.specs.Checks.{nodeAt, nodesChecked, checked};
-ghost use Rattle.graph.specs.Quick.{nodeWrong};
-ghost use Rattle.graph.specs.Passes.{Rising};
-ghost use Rattle.graph.specs.Known.{Points, Grids, Ids, Runs};
+ghost use Rattle.graph.specs.Graph.{Lent, lent};
+ghost use Rattle.graph.specs.Checks.{nodesChecked, checked};
+ghost use Rattle.graph.specs.Known.{Points, Grids, Ids};
 ghost use Rattle.graph.specs.Told.{LinksTold};
 ghost use Rattle.rings.specs.Field.{Spacious, Unled, AllLaid};
 ghost use Rattle.check_graph.specs.Rooms.{roomOf};
@@ -20,6 +15,7 @@ use check_ends::apart_node;
 use check_links::check_links;
 use check_lists::bad_nodes;
 use check_lists::bad_starts;
+use lay::lay_nodes;
 use turn::Checked;
 
 // What is lent for the answer, by length: the points' buffer, two numbers to a point, and the three lists of the contour table.
@@ -28,38 +24,6 @@ pub struct Room {
     pub firsts: usize,
     pub lens: usize,
     pub kinds: usize,
-}
-
-// TEMPORARY
-fn lay_nodes(
-    ax: &[i32],
-    ay: &[i32],
-    bx: &[i32],
-    by: &[i32],
-    aid: &[u32],
-    bid: &[u32],
-    start: &[u32],
-    list: &[u32],
-    state: &[u8],
-    nxt: &mut [u32],
-    prv: &mut [u32],
-    lead: &mut [u8],
-) -> bool
-    requires { ⌜ Points (now ax) (now ay) (now bx) (now by) (length (now aid)) ⌝ }
-    requires { ⌜ Grids (now ax) (now ay) (now bx) (now by) (length (now aid)) ⌝ }
-    requires { ⌜ length (now state) ≡ length (now aid) ⌝ }
-    requires { ⌜ (Runs (now ax) (now ay) (now bx) (now by) (now aid) (now bid)) × (Rising (now start) (now list)) ⌝ }
-    requires { ⌜ (length (now aid) ≤ maxLinks) × (Spacious (length (now aid)) (length (now nxt)) (length (now prv)) (length (now lead)))
-        × (Unled (now lead)) ⌝ }
-    ensures { λ r. ⌜ (let a : ℕ → Point = pointAt (now (ax .entry)) (now (ay .entry)) in
-        let b : ℕ → Point = pointAt (now (bx .entry)) (now (by .entry)) in
-        r ≡ some (λ v. nodeWrong (now (aid .entry)) (now (bid .entry)) a b (nodeAt (now (aid .entry))) (now (state .entry))
-        (part (now (start .entry)) (now (list .entry)) v) v) (length (now (start .entry)) - 1)) ⌝ }
-    ensures { λ r. ⌜ (let g : Lent = lent (now (ax .entry)) (now (ay .entry)) (now (bx .entry)) (now (by .entry)) (now (aid .entry))
-        (now (bid .entry)) (now (start .entry)) (now (list .entry)) in
-        r ≡ false → AllLaid g (now (state .entry)) (now (nxt .exit)) (now (prv .exit)) (now (lead .exit))) ⌝ }
-{
-    true
 }
 
 // The order of the checks: what checks 5, 6 and 7 say, each over all nodes before the next.

@@ -1,21 +1,18 @@
 // Extraction: checks 1 to 7, the scan, and what each lent buffer then holds.
 ghost use mathlib.Core.Path.{_≡_};
-ghost use mathlib.Core.List.{List, map};
-ghost use Prim.Native.Nat.{ℕ, _≤_};
+ghost use mathlib.Core.List.{map};
+ghost use Prim.Native.Nat.{_≤_};
 ghost use lib.ListN.{length};
-ghost use Rattle.turn.specs.Limits.{maxLinks};
-ghost use Rattle.turn.specs.declared.Checked.the-variants.{Fine};
 ghost use Rattle.graph.specs.Graph.{Lent, lent, Graph};
-ghost use Rattle.graph.specs.Checks.{checked};
 ghost use Rattle.next.specs.Known.{Links};
-ghost use Rattle.rings.specs.Field.{Field, Fielded, Spacious, Unled, AllLaid};
+ghost use Rattle.rings.specs.Field.{Field, Fielded};
 ghost use Rattle.walk.specs.Code.{unmark};
 ghost use Rattle.scan.specs.Scan.{scan};
 ghost use Rattle.scan.specs.Notes.{Roomy};
 ghost use Rattle.finish.specs.Finish.{Buffers, buffers};
 ghost use Rattle.extract.specs.Sizes.{fewLinks};
 ghost use Rattle.extract.specs.Extract.{extractedAs, afterScan, extracted};
-ghost use Rattle.extract.specs.Rooms.{roomOf};
+use check_graph::Room;
 use scan::Extraction;
 use scan::Settings;
 use turn::Checked;
@@ -24,42 +21,6 @@ use turn::Checked;
 const FEW_LINKS: usize = 128;
 const FEW_ENDS: usize = 256;
 const MAX_ENDS: usize = 8192;
-
-pub struct Room {
-    pub points: usize,
-    pub firsts: usize,
-    pub lens: usize,
-    pub kinds: usize,
-}
-
-// TEMPORARY
-fn check_graph(
-    ax: &[i32],
-    ay: &[i32],
-    bx: &[i32],
-    by: &[i32],
-    aid: &[u32],
-    bid: &[u32],
-    start: &[u32],
-    list: &[u32],
-    top: &[u8],
-    state: &[u8],
-    room: Room,
-    nxt: &mut [u32],
-    prv: &mut [u32],
-    lead: &mut [u8],
-) -> Checked
-    requires { ⌜ (length (now aid) ≤ maxLinks → Spacious (length (now aid)) (length (now nxt)) (length (now prv)) (length (now lead)))
-        × (Unled (now lead)) ⌝ }
-    ensures { λ r. ⌜ (let g : Lent = lent (now (ax .entry)) (now (ay .entry)) (now (bx .entry)) (now (by .entry)) (now (aid .entry))
-        (now (bid .entry)) (now (start .entry)) (now (list .entry)) in
-        r ≡ checked g (now (top .entry)) (now (state .entry)) (roomOf room)) ⌝ }
-    ensures { λ r. ⌜ (let g : Lent = lent (now (ax .entry)) (now (ay .entry)) (now (bx .entry)) (now (by .entry)) (now (aid .entry))
-        (now (bid .entry)) (now (start .entry)) (now (list .entry)) in
-        r ≡ Fine → AllLaid g (now (state .entry)) (now (nxt .exit)) (now (prv .exit)) (now (lead .exit))) ⌝ }
-{
-    Checked::Fine
-}
 
 // Extraction of a graph that passes checks 1 to 7, over the field of its ends.
 fn extract_fine(
@@ -144,7 +105,7 @@ fn extract_few(
         lens: len.len(),
         kinds: kind.len(),
     };
-    match check_graph(
+    match check_graph::check_graph(
         ax, ay, bx, by, aid, bid, start, list, top, state, room, &mut nxt, &mut prv, &mut lead,
     ) {
         Checked::Refused { number, place } => Extraction::Refused {
@@ -191,7 +152,7 @@ fn extract_many(
         lens: len.len(),
         kinds: kind.len(),
     };
-    match check_graph(
+    match check_graph::check_graph(
         ax, ay, bx, by, aid, bid, start, list, top, state, room, &mut nxt, &mut prv, &mut lead,
     ) {
         Checked::Refused { number, place } => Extraction::Refused {

@@ -60,7 +60,8 @@ lay-nodes-requires c κs =
     let k = c .before .before .before in
     let s = at-start (k .before) in
     let t = told s in
-    (t .points, (t .grids, (t .states, ((runs-of (g s) _ t, rises (g s) _ t (right k .0)), (t .few, s .pre .1 .0, s .pre .1 .1)))))
+    let w = s .pre .1 .0 in
+    (t .points, (t .grids, (t .states, ((runs-of (g s) _ t, rises (g s) _ t (right k .0)), ((t .few, w .nxt-room, w .prv-room, w .lead-room), s .pre .1 .1)))))
 
 check-in-order-requires : tie.Need-check-in-order-requires
 check-in-order-requires c κs =

@@ -1,0 +1,6 @@
+-- The laws that the proofs of the functions cite.
+mod Stored
+mod Bridges
+mod Outcomes
+mod Kept
+mod Nodes

@@ -1,0 +1,120 @@
+-- A node that is laid, by its kind; and all nodes below one, as the loop over them keeps it.
+use Prim.Native.Nat.{ℕ, _+_, _-_, _≤_, _<_}
+use native.Mathlib.Omega.{arith}
+use native.Mathlib.Decide.{ℕ-discrete}
+use mathlib.Core.Path.{_≡_, sym, ap, ap₂, _∙_, subst}
+use mathlib.Core.Bool.{Bool, true, false}
+use mathlib.Core.List.{List, [], _∷_}
+use lib.IntN.{ℤ}
+use lib.ListN.{length, getD}
+use borrow.Author.Tests.{eq-eqb, ne-eqb}
+use borrow.Author.Count.{below-none, below-more}
+use Rattle.laws.specs.Test.{pick, pick-true, pick-false}
+use Rattle.laws.specs.Lowest.{some, None, some-yes}
+use Rattle.graph.specs.Graph.{Lent, lent, Graph, graphOf, pointAt, part}
+use Rattle.graph.specs.Checks.{aOf, bOf, nodeAt, strayIn, entriesOf}
+use Rattle.graph.specs.Quick.{clashAt, bridgeWrong, nodeWrong}
+use Rattle.graph.specs.Passes.{Rising}
+use Rattle.graph.specs.Total.{part-length}
+use Rattle.graph.specs.Sound.{FineNode, fine-node}
+use Rattle.rings.specs.Field.{LaidBridge, LaidCross, Laid, ElseKept, OthersKept}
+use Rattle.lay.proofs.Kept.{laid-kept}
+
+-- ---- one node, with the entries `here`
+module _ (g : Graph) (state : List ℕ) (v : ℕ) (nxt prv lead here : List ℕ) (q : g .entries v ≡ here) where
+  pub node-bridge : length here ≡ 2 → LaidBridge g v (getD here 0 0) (getD here 1 0) nxt lead → Laid g state v nxt prv lead
+  node-bridge two b = record {
+    bridge = λ x y e.
+        let l : here ≡ x ∷ (y ∷ []) = sym q ∙ e in
+        subst (λ (m : List ℕ). LaidBridge g v (getD m 0 0) (getD m 1 0) nxt lead) l b;
+    cross = λ n. absurd (n (ap length q ∙ two));
+  }
+
+  pub node-cross : (length here ≡ 2 → ⊥) → LaidCross g state v nxt prv → Laid g state v nxt prv lead
+  node-cross n c = record {
+    bridge = λ x y e. absurd (n (ap length (sym q ∙ e)));
+    cross = λ _. c;
+  }
+
+-- what a node's contract asks, of the answer r and the lists left, by the node's kind
+module _ (ax ay bx by : List ℤ) (aId bId state here : List ℕ) (v : ℕ) (r : Bool) (nxt prv lead : List ℕ) where
+  abbrev Answers : Type 0
+  Answers = r ≡ nodeWrong aId bId (pointAt ax ay) (pointAt bx by) (nodeAt aId) state here v
+
+  abbrev Lays : Type 0
+  Lays = r ≡ false → (start list top : List ℕ) → part start list v ≡ here
+      → Laid (graphOf (lent ax ay bx by aId bId start list) top) state v nxt prv lead
+
+  pub bridge-outcome : length here ≡ 2 → (e f : ℕ) → e ≡ getD here 0 0 → f ≡ getD here 1 0
+      → r ≡ bridgeWrong aId bId (pointAt ax ay) (pointAt bx by) (nodeAt aId) state v e f
+      → (r ≡ false → (start list top : List ℕ) → LaidBridge (graphOf (lent ax ay bx by aId bId start list) top) v e f nxt lead)
+      → Answers × Lays
+  bridge-outcome two e f p q w l = (
+    w ∙ ap₂ (bridgeWrong aId bId (pointAt ax ay) (pointAt bx by) (nodeAt aId) state v) p q ∙ sym (pick-true _ _ (eq-eqb (length here) 2 two)),
+    λ z start list top i.
+        let g : Graph = graphOf (lent ax ay bx by aId bId start list) top in
+        node-bridge g state v nxt prv lead here i two (subst (λ (x : ℕ). LaidBridge g v x (getD here 1 0) nxt lead) p
+        (subst (λ (y : ℕ). LaidBridge g v e y nxt lead) q (l z start list top))),
+  )
+
+  pub cross-outcome : (length here ≡ 2 → ⊥)
+      → r ≡ pick (strayIn aId bId here v) true (some (clashAt (pointAt ax ay) (pointAt bx by) (nodeAt aId) state here v) (length here))
+      → (r ≡ false → (start list top : List ℕ) → part start list v ≡ here
+      → LaidCross (graphOf (lent ax ay bx by aId bId start list) top) state v nxt prv)
+      → Answers × Lays
+  cross-outcome n w l = (
+    w ∙ sym (pick-false _ _ (ne-eqb (length here) 2 n)),
+    λ z start list top i. node-cross (graphOf (lent ax ay bx by aId bId start list) top) state v nxt prv lead here i n (l z start list top i),
+  )
+
+-- a node has entries
+pub any-entry : {start list : List ℕ} → Rising start list → (v : ℕ) → v < length start - 1 → (here : List ℕ) → here ≡ part start list v
+    → 0 < length here
+any-entry {start} {list} h v l here e =
+    subst (λ (n : List ℕ). 0 < length n) (sym e) (omega (arith, h .step v l, part-length h v l))
+
+-- ---- all nodes
+module _ (lists : Lent) (state : List ℕ) where
+  abbrev wrong : ℕ → Bool
+  wrong u = nodeWrong (lists .aId) (lists .bId) (aOf lists) (bOf lists) (nodeAt (lists .aId)) state (entriesOf lists u) u
+
+  -- nothing is wrong with the nodes below v, they are laid, and no entry of another is named yet
+  pub record Passed (nxt prv lead : List ℕ) (v : ℕ) : Type 0 where
+    pub fine : None wrong v
+    pub laid : (top : List ℕ) (u : ℕ) → u < v → Laid (graphOf lists top) state u nxt prv lead
+    pub ahead : (k : ℕ) → v ≤ getD (lists .aId) k 0 → getD lead k 0 ≡ 0
+
+  pub passed-none : (nxt prv lead : List ℕ) → ((k : ℕ) → getD lead k 0 ≡ 0) → Passed nxt prv lead 0
+  passed-none nxt prv lead z = record {
+    fine = below-none _;
+    laid = λ top u l. absurd (omega arith);
+    ahead = λ k l. z k;
+  }
+
+  pub passed-more : {nxt prv lead nxt′ prv′ lead′ : List ℕ} (v : ℕ) → Passed nxt prv lead v → wrong v ≡ false
+      → ((top : List ℕ) → Laid (graphOf lists top) state v nxt′ prv′ lead′)
+      → ElseKept (lists .aId) (lists .bId) v nxt nxt′ → ElseKept (lists .aId) (lists .bId) v prv prv′ → OthersKept (lists .aId) v lead lead′
+      → Passed nxt′ prv′ lead′ (v + 1)
+  passed-more {nxt} {prv} {lead} {nxt′} {prv′} {lead′} v p w new kn kp kl = record {
+    fine = below-more _ _ (p .fine) w;
+    laid = λ top u l. at top u l (ℕ-discrete u v);
+    ahead = λ k l. kl k (λ e. omega arith) ∙ p .ahead k (omega arith);
+  }
+    where
+      fine : (u : ℕ) → u < v → FineNode (lists .aId) (lists .bId) (aOf lists) (bOf lists) (nodeAt (lists .aId)) state (entriesOf lists u) u
+      fine u b = fine-node (lists .aId) (lists .bId) (aOf lists) (bOf lists) (nodeAt (lists .aId)) state (entriesOf lists u) u (p .fine u b)
+
+      at : (top : List ℕ) (u : ℕ) → u < v + 1 → Dec (u ≡ v) → Laid (graphOf lists top) state u nxt′ prv′ lead′
+      at top u l (yes e) = subst (λ (x : ℕ). Laid (graphOf lists top) state x nxt′ prv′ lead′) (sym e) (new top)
+      at top u l (no n) =
+          let b : u < v = omega arith in
+          laid-kept lists top state u v n (fine u b .ends) nxt prv lead nxt′ prv′ lead′ kn kp kl (p .laid top u b)
+
+  -- by what the call for node v, with the entries `here`, says
+  module _ (v : ℕ) (here : List ℕ) (h : here ≡ entriesOf lists v) (r : Bool)
+      (w : r ≡ nodeWrong (lists .aId) (lists .bId) (aOf lists) (bOf lists) (nodeAt (lists .aId)) state here v) where
+    pub told : r ≡ wrong v
+    told = w ∙ ap (λ (l : List ℕ). nodeWrong (lists .aId) (lists .bId) (aOf lists) (bOf lists) (nodeAt (lists .aId)) state l v) h
+
+    pub found-wrong : (m : ℕ) → v < m → {nxt prv lead : List ℕ} → Passed nxt prv lead v → r ≡ true → true ≡ some wrong m
+    found-wrong m l p e = sym (some-yes wrong m v l (p .fine) (sym told ∙ e))

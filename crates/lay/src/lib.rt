@@ -1,0 +1,322 @@
+// The pass over the nodes: checks 5 to 7 of each, and where a walk goes on at the ends there.
+ghost use mathlib.Core.Path.{_≡_};
+ghost use mathlib.Core.Bool.{false};
+ghost use mathlib.Core.List.{List};
+ghost use Prim.Native.Nat.{ℕ, _-_, _*_, _<_, _≤_};
+ghost use lib.ListN.{length, getD};
+ghost use Rattle.laws.specs.Test.{pick};
+ghost use Rattle.laws.specs.Lowest.{some};
+ghost use Rattle.turn.specs.Limits.{maxLinks};
+ghost use Rattle.turn.specs.declared.Point.{Point};
+ghost use Rattle.turn.specs.Points.{OnGrid, differ, clockwise};
+ghost use Rattle.graph.specs.Graph.{lent, graphOf, pointAt, part};
+ghost use Rattle.graph.specs.Checks.{nodeAt};
+ghost use Rattle.graph.specs.Quick.{likeWrong, bridgeWrong, nodeWrong};
+ghost use Rattle.graph.specs.Passes.{Rising};
+ghost use Rattle.graph.specs.Known.{Points, Grids, Runs};
+ghost use Rattle.rings.specs.Ends.{aEnd, bEnd};
+ghost use Rattle.rings.specs.Field.{LaidBridge, Laid, ElseKept, OthersKept};
+ghost use Rattle.lay.specs.Stores.{paired, led};
+use graph::entries;
+use graph::point_at;
+use hoop::lay_cross;
+use turn::between;
+use turn::clockwise;
+use turn::cross_product;
+use turn::differ;
+use turn::wide;
+
+// From end p a walk goes on to end i, and from end q to end j.
+fn lay_pair(nxt: &mut [u32], p: usize, i: usize, q: usize, j: usize)
+    requires { ⌜ (p < length (now nxt)) × (q < length (now nxt)) × (i < 2 * maxLinks) × (j < 2 * maxLinks) ⌝ }
+    ensures { λ _. ⌜ now (nxt .exit) ≡ paired (now (nxt .entry)) p i q j ⌝ }
+{
+    nxt[p] = i as u32;
+    nxt[q] = j as u32;
+}
+
+// A `Bridge` with the b of link e and the a of link f, which must have one point.
+fn lay_unlike(
+    ax: &[i32],
+    ay: &[i32],
+    bx: &[i32],
+    by: &[i32],
+    nxt: &mut [u32],
+    e: usize,
+    f: usize,
+) -> bool
+    requires { ⌜ (f < length (now ax)) × (f < length (now ay)) × (e < length (now bx)) × (e < length (now by)) ⌝ }
+    requires { ⌜ (e < maxLinks) × (f < maxLinks) × (bEnd e < length (now nxt)) × (bEnd f < length (now nxt)) ⌝ }
+    ensures { λ r. ⌜ r ≡ differ (pointAt (now (bx .entry)) (now (by .entry)) e) (pointAt (now (ax .entry)) (now (ay .entry)) f) ⌝ }
+    ensures { λ r. ⌜ now (nxt .exit) ≡ pick r (now (nxt .entry)) (paired (now (nxt .entry)) (bEnd e) (bEnd f) (aEnd f) (aEnd e)) ⌝ }
+{
+    if differ(point_at(bx, by, e), point_at(ax, ay, f)) {
+        return true;
+    }
+    lay_pair(nxt, 2 * e + 1, 2 * f + 1, 2 * f, 2 * e);
+    false
+}
+
+// Checks 5 to 7 of node v, a `Bridge` with entries e and f, where f has its end p and e has not its end q there: whether e has no end there,
+// is f, has another point than f, or is parallel to f and both are unskipped. With a and b for p and q, or b and a.
+fn like_wrong(
+    px: &[i32],
+    py: &[i32],
+    qx: &[i32],
+    qy: &[i32],
+    pid: &[u32],
+    state: &[u8],
+    v: usize,
+    e: usize,
+    f: usize,
+) -> bool
+    requires { ⌜ Points (now px) (now py) (now qx) (now qy) (length (now pid)) ⌝ }
+    requires { ⌜ Grids (now px) (now py) (now qx) (now qy) (length (now pid)) ⌝ }
+    requires { ⌜ length (now state) ≡ length (now pid) ⌝ }
+    requires { ⌜ (e < length (now pid)) × (f < length (now pid)) ⌝ }
+    ensures { λ r. ⌜ (let p : ℕ → Point = pointAt (now (px .entry)) (now (py .entry)) in
+        let q : ℕ → Point = pointAt (now (qx .entry)) (now (qy .entry)) in
+        r ≡ likeWrong (now (pid .entry)) p q (now (state .entry)) v e f) ⌝ }
+{
+    let p = point_at(px, py, e);
+    let r = point_at(px, py, f);
+    if (wide(pid[e]) != v) | (e == f) | differ(p, r) {
+        return true;
+    }
+    let along = between(p, point_at(qx, qy, e));
+    if cross_product(along, between(r, point_at(qx, qy, f))) != 0 {
+        return false;
+    }
+    !(state[e] == 1) & !(state[f] == 1)
+}
+
+// Rule 1 at a `Bridge` with the a's of entries e and f: which of the two is named.
+fn set_lead(ax: &[i32], ay: &[i32], bx: &[i32], by: &[i32], lead: &mut [u8], e: usize, f: usize)
+    requires { ⌜ (e < length (now ax)) × (e < length (now ay)) × (e < length (now bx)) × (e < length (now by)) ⌝ }
+    requires { ⌜ (f < length (now bx)) × (f < length (now by)) × (e < length (now lead)) × (f < length (now lead)) ⌝ }
+    requires { ⌜ (OnGrid (pointAt (now ax) (now ay) e)) × (OnGrid (pointAt (now bx) (now by) e)) × (OnGrid (pointAt (now bx) (now by) f)) ⌝ }
+    ensures { λ _. ⌜ (let b : ℕ → Point = pointAt (now (bx .entry)) (now (by .entry)) in
+        now (lead .exit) ≡ led (clockwise (pointAt (now (ax .entry)) (now (ay .entry)) e) (b e) (b f)) (now (lead .entry)) e f) ⌝ }
+{
+    if clockwise(
+        point_at(ax, ay, e),
+        point_at(bx, by, e),
+        point_at(bx, by, f),
+    ) {
+        lead[e] = 1;
+        lead[f] = 2;
+        return;
+    }
+    lead[e] = 2;
+    lead[f] = 1;
+}
+
+// A `Bridge` with the a's of links e and f, of which f's is known to be at node v.
+fn lay_two_a(
+    ax: &[i32],
+    ay: &[i32],
+    bx: &[i32],
+    by: &[i32],
+    aid: &[u32],
+    state: &[u8],
+    v: usize,
+    e: usize,
+    f: usize,
+    nxt: &mut [u32],
+    lead: &mut [u8],
+) -> bool
+    requires { ⌜ Points (now ax) (now ay) (now bx) (now by) (length (now aid)) ⌝ }
+    requires { ⌜ Grids (now ax) (now ay) (now bx) (now by) (length (now aid)) ⌝ }
+    requires { ⌜ length (now state) ≡ length (now aid) ⌝ }
+    requires { ⌜ (e < length (now aid)) × (f < length (now aid)) ⌝ }
+    requires { ⌜ (length (now aid) ≤ maxLinks) × (2 * length (now aid) ≤ length (now nxt)) × (length (now aid) ≤ length (now lead)) ⌝ }
+    ensures { λ r. ⌜ (let a : ℕ → Point = pointAt (now (ax .entry)) (now (ay .entry)) in
+        let b : ℕ → Point = pointAt (now (bx .entry)) (now (by .entry)) in
+        r ≡ likeWrong (now (aid .entry)) a b (now (state .entry)) v e f) ⌝ }
+    ensures { λ r. ⌜ now (nxt .exit) ≡ pick r (now (nxt .entry)) (paired (now (nxt .entry)) (aEnd e) (bEnd f) (aEnd f) (bEnd e)) ⌝ }
+    ensures { λ r. ⌜ (let b : ℕ → Point = pointAt (now (bx .entry)) (now (by .entry)) in
+        now (lead .exit) ≡ pick r (now (lead .entry))
+        (led (clockwise (pointAt (now (ax .entry)) (now (ay .entry)) e) (b e) (b f)) (now (lead .entry)) e f)) ⌝ }
+{
+    if like_wrong(ax, ay, bx, by, aid, state, v, e, f) {
+        return true;
+    }
+    set_lead(ax, ay, bx, by, lead, e, f);
+    lay_pair(nxt, 2 * e, 2 * f + 1, 2 * f, 2 * e + 1);
+    false
+}
+
+// A `Bridge` with the b's of links e and f, of which f's is known to be at node v.
+fn lay_two_b(
+    ax: &[i32],
+    ay: &[i32],
+    bx: &[i32],
+    by: &[i32],
+    bid: &[u32],
+    state: &[u8],
+    v: usize,
+    e: usize,
+    f: usize,
+    nxt: &mut [u32],
+) -> bool
+    requires { ⌜ Points (now bx) (now by) (now ax) (now ay) (length (now bid)) ⌝ }
+    requires { ⌜ Grids (now bx) (now by) (now ax) (now ay) (length (now bid)) ⌝ }
+    requires { ⌜ length (now state) ≡ length (now bid) ⌝ }
+    requires { ⌜ (e < length (now bid)) × (f < length (now bid)) ⌝ }
+    requires { ⌜ (length (now bid) ≤ maxLinks) × (2 * length (now bid) ≤ length (now nxt)) ⌝ }
+    ensures { λ r. ⌜ (let a : ℕ → Point = pointAt (now (ax .entry)) (now (ay .entry)) in
+        let b : ℕ → Point = pointAt (now (bx .entry)) (now (by .entry)) in
+        r ≡ likeWrong (now (bid .entry)) b a (now (state .entry)) v e f) ⌝ }
+    ensures { λ r. ⌜ now (nxt .exit) ≡ pick r (now (nxt .entry)) (paired (now (nxt .entry)) (bEnd e) (aEnd f) (bEnd f) (aEnd e)) ⌝ }
+{
+    if like_wrong(bx, by, ax, ay, bid, state, v, e, f) {
+        return true;
+    }
+    lay_pair(nxt, 2 * e + 1, 2 * f, 2 * f + 1, 2 * e);
+    false
+}
+
+// Checks 5 to 7 of node v, a `Bridge` with entries e and f: whether something is wrong. Where nothing is, each of the two ends there
+// leads to the far end of the other, and the entry that rule 1 names is told. A link's a is before its b, so an a end and a b end never
+// run in one direction.
+fn lay_bridge(
+    ax: &[i32],
+    ay: &[i32],
+    bx: &[i32],
+    by: &[i32],
+    aid: &[u32],
+    bid: &[u32],
+    state: &[u8],
+    v: usize,
+    e: usize,
+    f: usize,
+    nxt: &mut [u32],
+    lead: &mut [u8],
+) -> bool
+    requires { ⌜ Points (now ax) (now ay) (now bx) (now by) (length (now aid)) ⌝ }
+    requires { ⌜ Grids (now ax) (now ay) (now bx) (now by) (length (now aid)) ⌝ }
+    requires { ⌜ length (now state) ≡ length (now aid) ⌝ }
+    requires { ⌜ Runs (now ax) (now ay) (now bx) (now by) (now aid) (now bid) ⌝ }
+    requires { ⌜ (length (now aid) ≤ maxLinks) × (2 * length (now aid) ≤ length (now nxt)) × (length (now aid) ≤ length (now lead)) ⌝ }
+    requires { ⌜ ((k : ℕ) → getD (now aid) k 0 ≡ v → getD (now lead) k 0 ≡ 0) ⌝ }
+    ensures { λ r. ⌜ (let a : ℕ → Point = pointAt (now (ax .entry)) (now (ay .entry)) in
+        let b : ℕ → Point = pointAt (now (bx .entry)) (now (by .entry)) in
+        r ≡ bridgeWrong (now (aid .entry)) (now (bid .entry)) a b (nodeAt (now (aid .entry))) (now (state .entry)) v e f) ⌝ }
+    ensures { λ r. ⌜ (r ≡ false → (start list top : List ℕ) → LaidBridge (graphOf (lent (now (ax .entry)) (now (ay .entry)) (now (bx .entry))
+        (now (by .entry)) (now (aid .entry)) (now (bid .entry)) start list) top) v e f (now (nxt .exit)) (now (lead .exit))) ⌝ }
+    ensures { λ _. ⌜ (ElseKept (now (aid .entry)) (now (bid .entry)) v (now (nxt .entry)) (now (nxt .exit)))
+        × (OthersKept (now (aid .entry)) v (now (lead .entry)) (now (lead .exit))) ⌝ }
+{
+    if (aid.len() <= e) | (aid.len() <= f) {
+        return true;
+    }
+    if wide(aid[f]) == v {
+        if wide(bid[e]) == v {
+            return lay_unlike(ax, ay, bx, by, nxt, e, f);
+        }
+        return lay_two_a(ax, ay, bx, by, aid, state, v, e, f, nxt, lead);
+    }
+    if wide(bid[f]) != v {
+        return true;
+    }
+    if wide(aid[e]) == v {
+        lead[e] = 2;
+        return lay_unlike(ax, ay, bx, by, nxt, f, e);
+    }
+    lay_two_b(ax, ay, bx, by, bid, state, v, e, f, nxt)
+}
+
+// Checks 5 to 7 of node v, which has these entries: whether something is wrong. Where nothing is, its ends are laid. Most nodes are `Bridge`s.
+fn lay_node(
+    ax: &[i32],
+    ay: &[i32],
+    bx: &[i32],
+    by: &[i32],
+    aid: &[u32],
+    bid: &[u32],
+    state: &[u8],
+    here: &[u32],
+    v: usize,
+    nxt: &mut [u32],
+    prv: &mut [u32],
+    lead: &mut [u8],
+) -> bool
+    requires { ⌜ Points (now ax) (now ay) (now bx) (now by) (length (now aid)) ⌝ }
+    requires { ⌜ Grids (now ax) (now ay) (now bx) (now by) (length (now aid)) ⌝ }
+    requires { ⌜ length (now state) ≡ length (now aid) ⌝ }
+    requires { ⌜ Runs (now ax) (now ay) (now bx) (now by) (now aid) (now bid) ⌝ }
+    requires { ⌜ (length (now aid) ≤ maxLinks) × (2 * length (now aid) ≤ length (now nxt)) × (2 * length (now aid) ≤ length (now prv))
+        × (length (now aid) ≤ length (now lead)) ⌝ }
+    requires { ⌜ ((k : ℕ) → getD (now aid) k 0 ≡ v → getD (now lead) k 0 ≡ 0) ⌝ }
+    requires { ⌜ 0 < length (now here) ⌝ }
+    ensures { λ r. ⌜ (let a : ℕ → Point = pointAt (now (ax .entry)) (now (ay .entry)) in
+        let b : ℕ → Point = pointAt (now (bx .entry)) (now (by .entry)) in
+        r ≡ nodeWrong (now (aid .entry)) (now (bid .entry)) a b (nodeAt (now (aid .entry))) (now (state .entry)) (now (here .entry)) v) ⌝ }
+    ensures { λ r. ⌜ (r ≡ false → (start list top : List ℕ) → part start list v ≡ now (here .entry) → Laid (graphOf (lent
+        (now (ax .entry)) (now (ay .entry)) (now (bx .entry)) (now (by .entry)) (now (aid .entry)) (now (bid .entry)) start list) top)
+        (now (state .entry)) v (now (nxt .exit)) (now (prv .exit)) (now (lead .exit))) ⌝ }
+    ensures { λ _. ⌜ (ElseKept (now (aid .entry)) (now (bid .entry)) v (now (nxt .entry)) (now (nxt .exit)))
+        × (ElseKept (now (aid .entry)) (now (bid .entry)) v (now (prv .entry)) (now (prv .exit)))
+        × (OthersKept (now (aid .entry)) v (now (lead .entry)) (now (lead .exit))) ⌝ }
+{
+    if here.len() == 2 {
+        let e = wide(here[0]);
+        let f = wide(here[1]);
+        return lay_bridge(ax, ay, bx, by, aid, bid, state, v, e, f, nxt, lead);
+    }
+    lay_cross(ax, ay, bx, by, aid, bid, state, here, v, nxt, prv)
+}
+
+// Whether checks 5 to 7 find something wrong with some node. Where they find nothing, the ends at every node are laid.
+pub fn lay_nodes(
+    ax: &[i32],
+    ay: &[i32],
+    bx: &[i32],
+    by: &[i32],
+    aid: &[u32],
+    bid: &[u32],
+    start: &[u32],
+    list: &[u32],
+    state: &[u8],
+    nxt: &mut [u32],
+    prv: &mut [u32],
+    lead: &mut [u8],
+) -> bool
+    requires { ⌜ Points (now ax) (now ay) (now bx) (now by) (length (now aid)) ⌝ }
+    requires { ⌜ Grids (now ax) (now ay) (now bx) (now by) (length (now aid)) ⌝ }
+    requires { ⌜ length (now state) ≡ length (now aid) ⌝ }
+    requires { ⌜ (Runs (now ax) (now ay) (now bx) (now by) (now aid) (now bid)) × (Rising (now start) (now list)) ⌝ }
+    requires { ⌜ (length (now aid) ≤ maxLinks) × (2 * length (now aid) ≤ length (now nxt)) × (2 * length (now aid) ≤ length (now prv))
+        × (length (now aid) ≤ length (now lead)) ⌝ }
+    requires { ⌜ ((k : ℕ) → getD (now lead) k 0 ≡ 0) ⌝ }
+    ensures { λ r. ⌜ (let a : ℕ → Point = pointAt (now (ax .entry)) (now (ay .entry)) in
+        let b : ℕ → Point = pointAt (now (bx .entry)) (now (by .entry)) in
+        r ≡ some (λ v. nodeWrong (now (aid .entry)) (now (bid .entry)) a b (nodeAt (now (aid .entry))) (now (state .entry))
+        (part (now (start .entry)) (now (list .entry)) v) v) (length (now (start .entry)) - 1)) ⌝ }
+    ensures { λ r. ⌜ (r ≡ false → (top : List ℕ) (v : ℕ) → v < length (now (start .entry)) - 1 → Laid (graphOf (lent (now (ax .entry))
+        (now (ay .entry)) (now (bx .entry)) (now (by .entry)) (now (aid .entry)) (now (bid .entry)) (now (start .entry)) (now (list .entry))) top)
+        (now (state .entry)) v (now (nxt .exit)) (now (prv .exit)) (now (lead .exit))) ⌝ }
+{
+    let m = start.len() - 1;
+    let mut v = 0;
+    while v < m {
+        if lay_node(
+            ax,
+            ay,
+            bx,
+            by,
+            aid,
+            bid,
+            state,
+            entries(start, list, v),
+            v,
+            nxt,
+            prv,
+            lead,
+        ) {
+            return true;
+        }
+        v += 1;
+    }
+    false
+}
