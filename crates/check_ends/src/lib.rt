@@ -89,7 +89,7 @@ fn along(ax: &[i32], ay: &[i32], bx: &[i32], by: &[i32], k: usize) -> Vector
 }
 
 // Whether links e and f are unskipped and run from node v in one direction.
-pub fn alike(
+fn alike(
     ax: &[i32],
     ay: &[i32],
     bx: &[i32],

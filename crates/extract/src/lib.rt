@@ -19,7 +19,9 @@ use turn::Checked;
 
 // A graph with few links is walked over small arrays, which cost little to make.
 const FEW_LINKS: usize = 128;
+
 const FEW_ENDS: usize = 256;
+
 const MAX_ENDS: usize = 8192;
 
 // Extraction of a graph that passes checks 1 to 7, over the field of its ends.
@@ -106,14 +108,40 @@ fn extract_few(
         kinds: kind.len(),
     };
     match check_graph::check_graph(
-        ax, ay, bx, by, aid, bid, start, list, top, state, room, &mut nxt, &mut prv, &mut lead,
+        ax,
+        ay,
+        bx,
+        by,
+        aid,
+        bid,
+        start,
+        list,
+        top,
+        state,
+        room,
+        &mut nxt,
+        &mut prv,
+        &mut lead,
     ) {
         Checked::Refused { number, place } => Extraction::Refused {
             number: number,
             place: place,
         },
         Checked::Fine => extract_fine(
-            ax, ay, bx, by, &nxt, &prv, &lead, top, settings, state, points, first, len, kind,
+            ax,
+            ay,
+            bx,
+            by,
+            &nxt,
+            &prv,
+            &lead,
+            top,
+            settings,
+            state,
+            points,
+            first,
+            len,
+            kind,
         ),
     }
 }
@@ -153,14 +181,40 @@ fn extract_many(
         kinds: kind.len(),
     };
     match check_graph::check_graph(
-        ax, ay, bx, by, aid, bid, start, list, top, state, room, &mut nxt, &mut prv, &mut lead,
+        ax,
+        ay,
+        bx,
+        by,
+        aid,
+        bid,
+        start,
+        list,
+        top,
+        state,
+        room,
+        &mut nxt,
+        &mut prv,
+        &mut lead,
     ) {
         Checked::Refused { number, place } => Extraction::Refused {
             number: number,
             place: place,
         },
         Checked::Fine => extract_fine(
-            ax, ay, bx, by, &nxt, &prv, &lead, top, settings, state, points, first, len, kind,
+            ax,
+            ay,
+            bx,
+            by,
+            &nxt,
+            &prv,
+            &lead,
+            top,
+            settings,
+            state,
+            points,
+            first,
+            len,
+            kind,
         ),
     }
 }
@@ -197,10 +251,38 @@ pub fn extract(
     };
     if aid.len() <= FEW_LINKS {
         return extract_few(
-            ax, ay, bx, by, aid, bid, start, list, top, settings, state, points, first, len, kind,
+            ax,
+            ay,
+            bx,
+            by,
+            aid,
+            bid,
+            start,
+            list,
+            top,
+            settings,
+            state,
+            points,
+            first,
+            len,
+            kind,
         );
     }
     extract_many(
-        ax, ay, bx, by, aid, bid, start, list, top, settings, state, points, first, len, kind,
+        ax,
+        ay,
+        bx,
+        by,
+        aid,
+        bid,
+        start,
+        list,
+        top,
+        settings,
+        state,
+        points,
+        first,
+        len,
+        kind,
     )
 }

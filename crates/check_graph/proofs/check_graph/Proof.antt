@@ -59,10 +59,12 @@ same-length-3 c = search needs
 returns-2 : tie.Need-returns-2
 unfolding checked
 returns-2 c =
-    let s = c .before .before .before .before .before .before .before .before .before .before .before .before .before .before .before .before .before .before .before .before .before .before in
+    let s = c .before .before .before .before .before .before .before .before .before .before .before .before .before .before .before .before
+    .before .before .before .before .before .before in
     let o = c .before .before .before .before .before .before in (
       o .check-nodes .ensures .0 ∙ sym
-          (ap (λ (k : Checked). followedBy k (nodesChecked (g s) (s .args .state .now))) (sym (o .before .before .before .before .before .before .check-links .ensures)
+          (ap (λ (k : Checked). followedBy k (nodesChecked (g s) (s .args .state .now))) (sym (o .before .before .before .before .before
+          .before .check-links .ensures)
           ∙ o .before .before .before .before .enum-told .given .1)),
       o .check-nodes .ensures .1,
     )

@@ -46,7 +46,8 @@ unfolding nodesChecked
 returns c =
     let s = at-start (c .before) in
     let x = s .args in (
-      simp (other-total (x .aid .now) (x .bid .now) (x .start .now) (x .list .now) (told s .starts) (told s .ids) (sym (asked (c .before)) ∙ c .if1 .taken)),
+      simp (other-total (x .aid .now) (x .bid .now) (x .start .now) (x .list .now) (told s .starts) (told s .ids) (sym (asked (c
+          .before)) ∙ c .if1 .taken)),
       λ e. absurd (not-fine 5 0 e),
     )
 
@@ -60,12 +61,28 @@ lay-nodes-requires c κs =
     let k = c .before .before .before in
     let s = at-start (k .before) in
     let t = told s in
-    let w = s .pre .1 .0 in
-    (t .points, (t .grids, (t .states, ((runs-of (g s) _ t, rises (g s) _ t (right k .0)), ((t .few, w .nxt-room, w .prv-room, w .lead-room), s .pre .1 .1)))))
+    let w = s .pre .1 .0 in (
+      t .points,
+      (
+        t .grids,
+        (
+          t .states,
+          (
+            (runs-of (g s) _ t, rises (g s) _ t (right k .0)),
+            (
+              (t .few, w .nxt-room, w .prv-room, w .lead-room),
+              s .pre
+                  .1 .1,
+            ),
+          ),
+        ),
+      ),
+    )
 
 check-in-order-requires : tie.Need-check-in-order-requires
 check-in-order-requires c κs =
-    let t = told (at-start (c .before .before .before .before .before .before .before .before .before .before .before .before)) in (t .points, (t .grids, (t .states, (t .ids, t .starts))))
+    let t = told (at-start (c .before .before .before .before .before .before .before .before .before .before .before
+    .before)) in (t .points, (t .grids, (t .states, (t .ids, t .starts))))
 
 same-length : tie.Need-same-length
 same-length c = search needs
@@ -81,7 +98,8 @@ returns-2 c =
     let o = c .before in
     let s = at-start (o .before .before .before .before .before .before .before .before .before .before .before .before) in (
       c .check-in-order .ensures,
-      λ e. absurd (some-wrong (g s) _ (told s) (sym (o .before .before .before .before .before .before .before .lay-nodes .ensures .0) ∙ o .if2 .taken) (sym (c .check-in-order .ensures) ∙ e)),
+      λ e. absurd (some-wrong (g s) _ (told s) (sym (o .before .before .before .before .before .before
+          .before .lay-nodes .ensures .0) ∙ o .if2 .taken) (sym (c .check-in-order .ensures) ∙ e)),
     )
 
 same-length-4 : tie.Need-same-length-4

@@ -56,7 +56,8 @@ slice-aggregate-extract-fine-3 : tie.Need-slice-aggregate-extract-fine-3
 slice-aggregate-extract-fine-3 c = search needs
 
 lends : (o : tie.After-check-graph) → o .check-graph .result ≡ Fine → Lends (g (at-start o)) (at-start o .args .top .now) (b (at-start o))
-    (o .check-graph .last .1 .1 .1 .1 .1 .1 .1 .1 .1 .1 .1 .0) (o .check-graph .last .1 .1 .1 .1 .1 .1 .1 .1 .1 .1 .1 .1 .0) (o .check-graph .last .1 .1 .1 .1 .1 .1 .1 .1 .1 .1 .1 .1 .1 .0)
+    (o .check-graph .last .1 .1 .1 .1 .1 .1 .1 .1 .1 .1 .1 .0) (o .check-graph .last .1 .1 .1 .1 .1 .1 .1 .1 .1 .1 .1 .1 .0) (o .check-graph .last .1
+    .1 .1 .1 .1 .1 .1 .1 .1 .1 .1 .1 .1 .0)
 lends o t =
     let s = at-start o in
     let k = o .check-graph .kept .1 .1 .1 .1 .1 .1 .1 .1 .1 .1 .1 in
@@ -65,15 +66,25 @@ lends o t =
 
 extract-fine-requires : tie.Need-extract-fine-requires
 extract-fine-requires c κs =
-    let q = lends (c .before .before .before .before .before .before .before .before .before .before .before .before .before) (c .before .before .before .before .before .before .before .before .enum-told .given .1) in
-    (record { graph = graphOf (g (c .before .before .before .before .before .before .before .before .before .before .before .before .before .before .before .before .before .before .before .before .before .before .before .before .before .before .before)) (c .before .before .before .before .before .before .before .before .before .before .before .before .before .before .before .before .before .before .before .before .before .before .before .before .before .before .before .args .top .now); field = q .0 }, ((q .1, q .2), (q .3, q .4)))
+    let q = lends (c .before .before .before .before .before .before .before .before .before .before .before .before .before) (c .before
+    .before .before .before .before .before .before .before .enum-told .given .1) in (
+      record {
+        graph = graphOf (g (c .before .before .before .before .before .before .before .before .before .before .before .before .before
+            .before .before .before .before .before .before .before .before .before .before .before .before .before .before)) (c .before .before
+            .before .before .before .before .before .before .before .before .before .before .before .before .before .before .before .before .before
+            .before .before .before .before .before .before .before .before .args .top .now);
+        field = q .0;
+      },
+      ((q .1, q .2), (q .3, q .4)),
+    )
 
 same-length : tie.Need-same-length
 same-length c = search needs
 
 returns : tie.Need-returns
 returns c =
-    let s = c .before .before .before .before .before .before .before .before .before .before .before .before .before .before .before .before .before .before .before .before in
+    let s = c .before .before .before .before .before .before .before .before .before .before .before .before .before .before .before .before
+    .before .before .before .before in
     after-refusal (g s) (s .args .top .now) (s .args .settings .clockwise) (s .args .settings .minimum) (b s) _ _
     (sym (c .before .before .before .before .before .before .check-graph .ensures .0) ∙ c .before .number .given .1)
 
@@ -94,9 +105,13 @@ same-length-6 c = search needs
 
 returns-2 : tie.Need-returns-2
 returns-2 c =
-    let s = c .before .before .before .before .before .before .before .before .before .before .before .before .before .before .before .before .before .before .before .before .before .before .before .before .before .before .before .before .before .before .before .before .before .before .before .before .before in
-    let o = c .before .before .before .before .before .before .before .before .before .before .before .before .before .before .before .before .before .before .before .before .before .before .before in
-    let t = c .before .before .before .before .before .before .before .before .before .before .before .before .before .before .before .before .before .before .enum-told .given .1 in
+    let s = c .before .before .before .before .before .before .before .before .before .before .before .before .before .before .before .before
+    .before .before .before .before .before .before .before .before .before .before .before .before .before .before .before .before .before
+    .before .before .before .before in
+    let o = c .before .before .before .before .before .before .before .before .before .before .before .before .before .before .before .before
+    .before .before .before .before .before .before .before in
+    let t = c .before .before .before .before .before .before .before .before .before .before .before .before .before .before .before .before
+    .before .before .enum-told .given .1 in
     c .before .before .before .before .before .before .before .before .before .extract-fine .ensures (graphOf (g s) (s .args .top .now)) (lends o t .0)
     ∙ after-fine (g s) (s .args .top .now) (s .args .settings .clockwise) (s .args .settings .minimum) (b s) (sym (o .check-graph .ensures .0) ∙ t)
 

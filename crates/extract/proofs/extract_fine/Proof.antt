@@ -25,7 +25,8 @@ left o =
     buffers (l .0) (l .1 .0) (l .1 .1 .0) (l .1 .1 .1 .0) (l .1 .1 .1 .1 .0)
 
 scan-links-requires : tie.Need-scan-links-requires
-scan-links-requires c κs = let s = c .before .before .before .before .before .before .before .before .before .before .before .before .before in (s .pre .0, (s .pre .1 .0, s .pre .1 .1 .0))
+scan-links-requires c κs = let s = c .before .before .before .before .before .before .before .before .before .before .before .before
+    .before in (s .pre .0, (s .pre .1 .0, s .pre .1 .1 .0))
 
 finish-requires : tie.Need-finish-requires
 finish-requires c κs =
@@ -51,7 +52,8 @@ same-length-5 c = search needs
 
 returns : tie.Need-returns
 returns c =
-    let o = c .before .before .before .before .before .before .before .before .before .before .before .before .before .before .before .before .before .before .before .before .before .before .before .before in
+    let o = c .before .before .before .before .before .before .before .before .before .before .before .before .before .before .before .before
+    .before .before .before .before .before .before .before .before in
     let s = at-start o in
     let k = o .scan-links .kept .1 .1 .1 .1 .1 .1 .1 .1 .1 .1 in
     λ g f. finished-as (b s) (left o) (roomy s) (k .0) (k .1 .0) (k .1 .1 .0) (k .1 .1 .1 .0) g (s .args .settings .clockwise) (s .args .settings .minimum)
