@@ -264,6 +264,10 @@ fn lay_node(
         let f = wide(here[1]);
         return lay_bridge(ax, ay, bx, by, aid, bid, state, v, e, f, nxt, lead);
     }
+    // called at two places, `lay_cross` is compiled apart: in its place it would take the registers of the loop over `Bridge`s
+    if here.len() == 4 {
+        return lay_cross(ax, ay, bx, by, aid, bid, state, here, v, nxt, prv);
+    }
     lay_cross(ax, ay, bx, by, aid, bid, state, here, v, nxt, prv)
 }
 

@@ -42,7 +42,7 @@ returns c =
 
 lay-cross-requires : tie.Need-lay-cross-requires
 lay-cross-requires c κs =
-    let p = c .before .before .before .before .before .before .before .before .before .before .pre in
+    let p = c .before .before .before .before .before .before .before .before .before .before .before .pre in
     let n = p .1 .1 .1 .1 .0 in
     (p .0, (p .1 .0, (p .1 .1 .0, (p .1 .1 .1 .0, ((n .0, n .1, n .2), p .1 .1 .1 .1 .1 .1)))))
 
@@ -55,7 +55,28 @@ same-length-4 c = search needs
 returns-2 : tie.Need-returns-2
 returns-2 c =
     let h = c .before .before .before .before .lay-cross in
-    let t = c .before .before .before .before .before .before .before in
+    let t = c .before .before .before .before .before .before .before .before in
+    let x = t .before .before .before .before .before .before .before .before .args in
+    let o = cross-outcome (x .ax .now) (x .ay .now) (x .bx .now) (x .by .now) (x .aid .now) (x .bid .now) (x .state .now) (x .here .now) (x .v)
+    (h .result) _ _ (x .lead .now) (t .if1 .left) (h .ensures .0) (h .ensures .1 .0) in
+    (o .0, (o .1, (h .ensures .1 .1 .0, h .ensures .1 .1 .1, λ k n. refl)))
+
+lay-cross-requires-2 : tie.Need-lay-cross-requires-2
+lay-cross-requires-2 c κs =
+    let p = c .before .before .before .before .before .before .before .before .before .before .before .pre in
+    let n = p .1 .1 .1 .1 .0 in
+    (p .0, (p .1 .0, (p .1 .1 .0, (p .1 .1 .1 .0, ((n .0, n .1, n .2), p .1 .1 .1 .1 .1 .1)))))
+
+same-length-5 : tie.Need-same-length-5
+same-length-5 c = search needs
+
+same-length-6 : tie.Need-same-length-6
+same-length-6 c = search needs
+
+returns-3 : tie.Need-returns-3
+returns-3 c =
+    let h = c .before .before .before .before .lay-cross2 in
+    let t = c .before .before .before .before .before .before .before .before in
     let x = t .before .before .before .before .before .before .before .before .args in
     let o = cross-outcome (x .ax .now) (x .ay .now) (x .bx .now) (x .by .now) (x .aid .now) (x .bid .now) (x .state .now) (x .here .now) (x .v)
     (h .result) _ _ (x .lead .now) (t .if1 .left) (h .ensures .0) (h .ensures .1 .0) in
@@ -64,4 +85,5 @@ returns-2 c =
 pub lay-node-spec : {M : Type 1} → statement M
 lay-node-spec =
     tie.close (tie.spec shared-slice-read-wide wide-requires shared-slice-read-wide-2 wide-requires-2
-    lay-bridge-requires same-length same-length-2 returns lay-cross-requires same-length-3 same-length-4 returns-2)
+    lay-bridge-requires same-length same-length-2 returns lay-cross-requires same-length-3 same-length-4 returns-2
+    lay-cross-requires-2 same-length-5 same-length-6 returns-3)
