@@ -239,7 +239,8 @@ fn lay_bridge(
     lay_two_b(ax, ay, bx, by, bid, state, v, e, f, nxt)
 }
 
-// Checks 5 to 7 of node v, which has these entries: whether something is wrong. Where nothing is, its ends are laid. Most nodes are `Bridge`s.
+// Checks 5 to 7 of node v: whether something is wrong. Where nothing is, its ends are laid. Most nodes are `Bridge`s, whose two entries
+// are read in their places: their part of the list is made for a `Cross` alone.
 fn lay_node(
     ax: &[i32],
     ay: &[i32],
@@ -247,8 +248,9 @@ fn lay_node(
     by: &[i32],
     aid: &[u32],
     bid: &[u32],
+    start: &[u32],
+    list: &[u32],
     state: &[u8],
-    here: &[u32],
     v: usize,
     nxt: &mut [u32],
     prv: &mut [u32],
@@ -257,26 +259,29 @@ fn lay_node(
     requires { ⌜ Points (now ax) (now ay) (now bx) (now by) (length (now aid)) ⌝ }
     requires { ⌜ Grids (now ax) (now ay) (now bx) (now by) (length (now aid)) ⌝ }
     requires { ⌜ length (now state) ≡ length (now aid) ⌝ }
-    requires { ⌜ Runs (now ax) (now ay) (now bx) (now by) (now aid) (now bid) ⌝ }
+    requires { ⌜ (Runs (now ax) (now ay) (now bx) (now by) (now aid) (now bid)) × (Rising (now start) (now list)) ⌝ }
     requires { ⌜ (length (now aid) ≤ maxLinks) × (2 * length (now aid) ≤ length (now nxt)) × (2 * length (now aid) ≤ length (now prv))
         × (length (now aid) ≤ length (now lead)) ⌝ }
     requires { ⌜ ((k : ℕ) → getD (now aid) k 0 ≡ v → getD (now lead) k 0 ≡ 0) ⌝ }
-    requires { ⌜ 0 < length (now here) ⌝ }
+    requires { ⌜ v < length (now start) - 1 ⌝ }
     ensures { λ r. ⌜ (let a : ℕ → Point = pointAt (now (ax .entry)) (now (ay .entry)) in
         let b : ℕ → Point = pointAt (now (bx .entry)) (now (by .entry)) in
-        r ≡ nodeWrong (now (aid .entry)) (now (bid .entry)) a b (nodeAt (now (aid .entry))) (now (state .entry)) (now (here .entry)) v) ⌝ }
-    ensures { λ r. ⌜ (r ≡ false → (start list top : List ℕ) → part start list v ≡ now (here .entry) → Laid (graphOf (lent
-        (now (ax .entry)) (now (ay .entry)) (now (bx .entry)) (now (by .entry)) (now (aid .entry)) (now (bid .entry)) start list) top)
+        r ≡ nodeWrong (now (aid .entry)) (now (bid .entry)) a b (nodeAt (now (aid .entry))) (now (state .entry))
+        (part (now (start .entry)) (now (list .entry)) v) v) ⌝ }
+    ensures { λ r. ⌜ (r ≡ false → (top : List ℕ) → Laid (graphOf (lent (now (ax .entry)) (now (ay .entry)) (now (bx .entry))
+        (now (by .entry)) (now (aid .entry)) (now (bid .entry)) (now (start .entry)) (now (list .entry))) top)
         (now (state .entry)) v (now (nxt .exit)) (now (prv .exit)) (now (lead .exit))) ⌝ }
     ensures { λ _. ⌜ (ElseKept (now (aid .entry)) (now (bid .entry)) v (now (nxt .entry)) (now (nxt .exit)))
         × (ElseKept (now (aid .entry)) (now (bid .entry)) v (now (prv .entry)) (now (prv .exit)))
         × (OthersKept (now (aid .entry)) v (now (lead .entry)) (now (lead .exit))) ⌝ }
 {
-    if here.len() == 2 {
-        let e = wide(here[0]);
-        let f = wide(here[1]);
+    let from = wide(start[v]);
+    if wide(start[v + 1]) == from + 2 {
+        let e = wide(list[from]);
+        let f = wide(list[from + 1]);
         return lay_bridge(ax, ay, bx, by, aid, bid, state, v, e, f, nxt, lead);
     }
+    let here = entries(start, list, v);
     // called at two places, `lay_cross` is compiled apart: in its place it would take the registers of the loop over `Bridge`s
     if here.len() == 4 {
         return lay_cross(ax, ay, bx, by, aid, bid, state, here, v, nxt, prv);
@@ -324,8 +329,9 @@ pub fn lay_nodes(
             by,
             aid,
             bid,
+            start,
+            list,
             state,
-            entries(start, list, v),
             v,
             nxt,
             prv,
