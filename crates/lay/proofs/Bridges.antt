@@ -1,7 +1,7 @@
 -- A `Bridge` after its stores, by the sorts of its two ends: each leads to the far end of the other, and rule 1 names its entry.
 use Prim.Native.Nat.{ℕ, _*_, _<_}
 use native.Mathlib.Omega.{arith}
-use mathlib.Core.Path.{_≡_, refl, sym, ap, ap₂, _∙_}
+use mathlib.Core.Path.{_≡_, refl, sym, ap, _∙_}
 use mathlib.Core.Logic.{_⊎_, inl, inr}
 use mathlib.Core.Bool.{Bool, true, false, _||_}
 use mathlib.Core.List.{List, [], _∷_}
@@ -13,8 +13,9 @@ use borrow.Author.Tests.{eq-eqb, ne-eqb}
 use Rattle.laws.specs.Test.{pick, pick-true, pick-false}
 use Rattle.laws.specs.Ring.{ring, var, con, _:-_, _:*_}
 use Rattle.turn.specs.declared.Point.{Point}
-use Rattle.turn.specs.Points.{before, differ, turn, clockwise}
+use Rattle.turn.specs.Points.{before, differ, fromTo, cross, turn, clockwise}
 use Rattle.graph.specs.Graph.{Graph}
+use Rattle.graph.specs.PointLaws.{same-point}
 use Rattle.rings.specs.Ends.{aEnd, bEnd, linkOf, far, endOf, a-link, b-link, far-a, far-b}
 use Rattle.rings.specs.Field.{named, LaidBridge}
 use Rattle.lay.specs.Stores.{paired, led}
@@ -30,8 +31,9 @@ differ-either p q = by (before p q) (before q p)
     by false true = refl
     by false false = refl
 
-pub turn-same : {p q r s t u : Point} → p ≡ s → q ≡ t → r ≡ u → clockwise p q r ≡ clockwise s t u
-turn-same {r = r} {s} {t} e f h = ap₂ (λ (p q : Point). clockwise p q r) e f ∙ ap (clockwise s t) h
+-- the product of two links from one point is their turn
+pub like-turn : (p r q s : Point) → differ p r ≡ false → ltZ (cross (fromTo p q) (fromTo r s)) (pos 0) ≡ clockwise p q s
+like-turn p r q s h = ap (λ (t : Point). ltZ (cross (fromTo p q) (fromTo t s)) (pos 0)) (sym (same-point p r h))
 
 no-turn : (p q r : Point) → r ≡ p → clockwise p q r ≡ false
 no-turn p q r e = ap (λ (s : Point). clockwise p q s) e ∙ ap (λ (z : ℤ). ltZ z (pos 0)) none

@@ -2,11 +2,12 @@
 use Prim.Native.Nat.{ℕ, _+_, _-_, _≤_, _<_}
 use native.Mathlib.Omega.{arith}
 use native.Mathlib.Decide.{ℕ-discrete}
-use mathlib.Core.Path.{_≡_, sym, ap, ap₂, _∙_, subst}
+use mathlib.Core.Path.{_≡_, refl, sym, ap, ap₂, _∙_, subst}
 use mathlib.Core.Bool.{Bool, true, false}
 use mathlib.Core.List.{List, [], _∷_}
 use lib.IntN.{ℤ}
-use lib.ListN.{length, getD}
+use lib.ListN.{length, getD, drop}
+use lib.Seq.{getD-take, getD-drop}
 use borrow.Author.Tests.{eq-eqb, ne-eqb}
 use borrow.Author.Count.{below-none, below-more}
 use Rattle.laws.specs.Test.{pick, pick-true, pick-false}
@@ -36,36 +37,64 @@ module _ (g : Graph) (state : List ℕ) (v : ℕ) (nxt prv lead here : List ℕ)
     cross = λ _. c;
   }
 
--- what a node's contract asks, of the answer r and the lists left, by the node's kind
-module _ (ax ay bx by : List ℤ) (aId bId state here : List ℕ) (v : ℕ) (r : Bool) (nxt prv lead : List ℕ) where
+-- an entry of a node, in its place in the list
+entry-at : (start list : List ℕ) (v i : ℕ) → i < getD start (v + 1) 0 - getD start v 0 → getD (part start list v) i 0 ≡ getD list (getD start v 0 + i) 0
+entry-at start list v i l = getD-take (getD start (v + 1) 0 - getD start v 0) (drop (getD start v 0) list) i 0 l ∙ getD-drop (getD start v 0) list i 0
+
+-- what a node's contract asks, of the answer r and the lists left, by the node's kind; its entries stand from `from` to before `to`
+module _ (ax ay bx by : List ℤ) (aId bId state start list : List ℕ) (v : ℕ) (r : Bool) (nxt prv lead : List ℕ)
+    (rising : Rising start list) (l : v < length start - 1) (from to : ℕ) (at : from ≡ getD start v 0) (end : to ≡ getD start (v + 1) 0) where
   abbrev Answers : Type 0
-  Answers = r ≡ nodeWrong aId bId (pointAt ax ay) (pointAt bx by) (nodeAt aId) state here v
+  Answers = r ≡ nodeWrong aId bId (pointAt ax ay) (pointAt bx by) (nodeAt aId) state (part start list v) v
+
+  abbrev graph : List ℕ → Graph
+  graph = graphOf (lent ax ay bx by aId bId start list)
 
   abbrev Lays : Type 0
-  Lays = r ≡ false → (start list top : List ℕ) → part start list v ≡ here
-      → Laid (graphOf (lent ax ay bx by aId bId start list) top) state v nxt prv lead
+  Lays = r ≡ false → (top : List ℕ) → Laid (graph top) state v nxt prv lead
 
-  pub bridge-outcome : length here ≡ 2 → (e f : ℕ) → e ≡ getD here 0 0 → f ≡ getD here 1 0
+  first : to ≡ from + 2 → getD list from 0 ≡ getD (part start list v) 0 0
+  first two = ap (λ (i : ℕ). getD list i 0) (omega arith) ∙ sym (entry-at start list v 0 (omega arith))
+
+  second : to ≡ from + 2 → getD list (from + 1) 0 ≡ getD (part start list v) 1 0
+  second two = ap (λ (i : ℕ). getD list i 0) (omega arith) ∙ sym (entry-at start list v 1 (omega arith))
+
+  pub bridge-outcome : to ≡ from + 2 → (e f : ℕ) → e ≡ getD list from 0 → f ≡ getD list (from + 1) 0
       → r ≡ bridgeWrong aId bId (pointAt ax ay) (pointAt bx by) (nodeAt aId) state v e f
       → (r ≡ false → (start list top : List ℕ) → LaidBridge (graphOf (lent ax ay bx by aId bId start list) top) v e f nxt lead)
       → Answers × Lays
-  bridge-outcome two e f p q w l = (
-    w ∙ ap₂ (bridgeWrong aId bId (pointAt ax ay) (pointAt bx by) (nodeAt aId) state v) p q ∙ sym (pick-true _ _ (eq-eqb (length here) 2 two)),
-    λ z start list top i.
-        let g : Graph = graphOf (lent ax ay bx by aId bId start list) top in
-        node-bridge g state v nxt prv lead here i two (subst (λ (x : ℕ). LaidBridge g v x (getD here 1 0) nxt lead) p
-        (subst (λ (y : ℕ). LaidBridge g v e y nxt lead) q (l z start list top))),
+  bridge-outcome two e f p q w h = (
+    w ∙ ap₂ (bridgeWrong aId bId (pointAt ax ay) (pointAt bx by) (nodeAt aId) state v) p′ q′ ∙ sym (pick-true _ _ (eq-eqb (length here) 2 both)),
+    λ z top.
+        node-bridge (graph top) state v nxt prv lead here refl both (subst (λ (x : ℕ). LaidBridge (graph top) v x (getD here 1 0) nxt lead) p′
+        (subst (λ (y : ℕ). LaidBridge (graph top) v e y nxt lead) q′ (h z start list top))),
   )
+    where
+      here : List ℕ
+      here = part start list v
 
-  pub cross-outcome : (length here ≡ 2 → ⊥)
+      both : length here ≡ 2
+      both = omega (arith, part-length rising v l)
+
+      p′ : e ≡ getD here 0 0
+      p′ = p ∙ first two
+
+      q′ : f ≡ getD here 1 0
+      q′ = q ∙ second two
+
+  pub cross-outcome : (to ≡ from + 2 → ⊥) → (here : List ℕ) → here ≡ part start list v
       → r ≡ pick (strayIn aId bId here v) true (some (clashAt (pointAt ax ay) (pointAt bx by) (nodeAt aId) state here v) (length here))
       → (r ≡ false → (start list top : List ℕ) → part start list v ≡ here
       → LaidCross (graphOf (lent ax ay bx by aId bId start list) top) state v nxt prv)
       → Answers × Lays
-  cross-outcome n w l = (
-    w ∙ sym (pick-false _ _ (ne-eqb (length here) 2 n)),
-    λ z start list top i. node-cross (graphOf (lent ax ay bx by aId bId start list) top) state v nxt prv lead here i n (l z start list top i),
+  cross-outcome n here i w h = (
+    w ∙ sym (pick-false _ _ (ne-eqb (length here) 2 many))
+        ∙ ap (λ (m : List ℕ). nodeWrong aId bId (pointAt ax ay) (pointAt bx by) (nodeAt aId) state m v) i,
+    λ z top. node-cross (graph top) state v nxt prv lead here (sym i) many (h z start list top (sym i)),
   )
+    where
+      many : length here ≡ 2 → ⊥
+      many two = n (omega (arith, part-length rising v l, ap length i))
 
 -- a node has entries
 pub any-entry : {start list : List ℕ} → Rising start list → (v : ℕ) → v < length start - 1 → (here : List ℕ) → here ≡ part start list v
@@ -110,11 +139,6 @@ module _ (lists : Lent) (state : List ℕ) where
           let b : u < v = omega arith in
           laid-kept lists top state u v n (fine u b .ends) nxt prv lead nxt′ prv′ lead′ kn kp kl (p .laid top u b)
 
-  -- by what the call for node v, with the entries `here`, says
-  module _ (v : ℕ) (here : List ℕ) (h : here ≡ entriesOf lists v) (r : Bool)
-      (w : r ≡ nodeWrong (lists .aId) (lists .bId) (aOf lists) (bOf lists) (nodeAt (lists .aId)) state here v) where
-    pub told : r ≡ wrong v
-    told = w ∙ ap (λ (l : List ℕ). nodeWrong (lists .aId) (lists .bId) (aOf lists) (bOf lists) (nodeAt (lists .aId)) state l v) h
-
-    pub found-wrong : (m : ℕ) → v < m → {nxt prv lead : List ℕ} → Passed nxt prv lead v → r ≡ true → true ≡ some wrong m
-    found-wrong m l p e = sym (some-yes wrong m v l (p .fine) (sym told ∙ e))
+  -- by what the call for node v says
+  pub found-wrong : (m v : ℕ) → v < m → {nxt prv lead : List ℕ} → Passed nxt prv lead v → (r : Bool) → r ≡ wrong v → r ≡ true → true ≡ some wrong m
+  found-wrong m v l p r w e = sym (some-yes wrong m v l (p .fine) (sym w ∙ e))

@@ -10,11 +10,11 @@ use lib.ListN.{length, getD, set}
 use borrow.Author.Tests.{eqb-true, eqb-false, not-false}
 use Rattle.laws.specs.Test.{pick, pick-false, true≢false, or-false}
 use Rattle.turn.specs.declared.Point.{Point}
-use Rattle.turn.specs.Points.{OnGrid, differ, clockwise}
+use Rattle.turn.specs.Points.{differ, clockwise}
 use Rattle.graph.specs.Graph.{lent, graphOf, pointAt}
 use Rattle.graph.specs.Checks.{nodeAt}
 use Rattle.graph.specs.Quick.{likeWrong, bridgeWrong}
-use Rattle.graph.specs.Known.{Points, Grids, Runs}
+use Rattle.graph.specs.Known.{Runs}
 use Rattle.graph.specs.PointLaws.{same-point}
 use Rattle.graph.specs.BridgeLaws.{no-link, no-end, b-and-a, a-and-b, two-a, two-b}
 use Rattle.rings.specs.Ends.{aEnd, bEnd}
@@ -22,17 +22,6 @@ use Rattle.rings.specs.Field.{LaidBridge, ElseKept, OthersKept}
 use Rattle.lay.specs.Stores.{paired, led}
 use Rattle.lay.proofs.Stored.{a-end-node, b-end-node, pair-kept, one-kept, led-kept}
 use Rattle.lay.proofs.Bridges.{differ-either, laid-b-a, laid-a-b, laid-b-b, laid-a-a}
-
--- what the naming of an entry asks of two links
-pub lead-asks : {ax ay bx by : List ℤ} {n : ℕ} → Points ax ay bx by n → Grids ax ay bx by n → (e f room : ℕ) → e < n → f < n → n ≤ room
-    → ((e < length ax) × (e < length ay) × (e < length bx) × (e < length by))
-    × ((f < length bx) × (f < length by) × (e < room) × (f < room))
-    × ((OnGrid (pointAt ax ay e)) × (OnGrid (pointAt bx by e)) × (OnGrid (pointAt bx by f)))
-lead-asks p g e f room le lf r = (
-  (omega (arith, p .ax-long), omega (arith, p .ay-long), omega (arith, p .bx-long), omega (arith, p .by-long)),
-  (omega (arith, p .bx-long), omega (arith, p .by-long), omega arith, omega arith),
-  (g .a-grid e le, g .b-grid e le, g .b-grid f lf),
-)
 
 module _ {ax ay bx by : List ℤ} {aId bId : List ℕ} (runs : Runs ax ay bx by aId bId) (state : List ℕ) (v e f : ℕ) (nxt lead : List ℕ) where
   abbrev a : ℕ → Point

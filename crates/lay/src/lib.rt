@@ -1,6 +1,6 @@
 // The pass over the nodes: checks 5 to 7 of each, and where a walk goes on at the ends there.
 ghost use mathlib.Core.Path.{_≡_};
-ghost use mathlib.Core.Bool.{false};
+ghost use mathlib.Core.Bool.{false, not, _&&_};
 ghost use mathlib.Core.List.{List};
 ghost use Prim.Native.Nat.{ℕ, _-_, _*_, _<_, _≤_};
 ghost use lib.ListN.{length, getD};
@@ -8,9 +8,9 @@ ghost use Rattle.laws.specs.Test.{pick};
 ghost use Rattle.laws.specs.Lowest.{some};
 ghost use Rattle.turn.specs.Limits.{maxLinks};
 ghost use Rattle.turn.specs.declared.Point.{Point};
-ghost use Rattle.turn.specs.Points.{OnGrid, differ, clockwise};
+ghost use Rattle.turn.specs.Points.{differ, clockwise};
 ghost use Rattle.graph.specs.Graph.{lent, graphOf, pointAt, part};
-ghost use Rattle.graph.specs.Checks.{nodeAt};
+ghost use Rattle.graph.specs.Checks.{nodeAt, skipped};
 ghost use Rattle.graph.specs.Quick.{likeWrong, bridgeWrong, nodeWrong};
 ghost use Rattle.graph.specs.Passes.{Rising};
 ghost use Rattle.graph.specs.Known.{Points, Grids, Runs};
@@ -21,7 +21,6 @@ use graph::entries;
 use graph::point_at;
 use hoop::lay_cross;
 use turn::between;
-use turn::clockwise;
 use turn::cross_product;
 use turn::differ;
 use turn::wide;
@@ -57,8 +56,19 @@ fn lay_unlike(
     false
 }
 
+// Check 7 of two links with ends of one sort at a node, which are parallel or not: whether they are, and both are unskipped.
+fn parallel_wrong(state: &[u8], parallel: bool, e: usize, f: usize) -> bool
+    requires { ⌜ (e < length (now state)) × (f < length (now state)) ⌝ }
+    ensures { λ r. ⌜ r ≡ pick parallel (not (skipped (now (state .entry)) e) && not (skipped (now (state .entry)) f)) false ⌝ }
+{
+    if !parallel {
+        return false;
+    }
+    !(state[e] == 1) & !(state[f] == 1)
+}
+
 // Checks 5 to 7 of node v, a `Bridge` with entries e and f, where f has its end p and e has not its end q there: whether e has no end there,
-// is f, has another point than f, or is parallel to f and both are unskipped. With a and b for p and q, or b and a.
+// is f, has another point than f, or is parallel to f and both are unskipped. With b and a for p and q; `lay_two_a` asks it of a and b.
 fn like_wrong(
     px: &[i32],
     py: &[i32],
@@ -83,26 +93,19 @@ fn like_wrong(
     if (wide(pid[e]) != v) | (e == f) | differ(p, r) {
         return true;
     }
-    let along = between(p, point_at(qx, qy, e));
-    if cross_product(along, between(r, point_at(qx, qy, f))) != 0 {
-        return false;
-    }
-    !(state[e] == 1) & !(state[f] == 1)
+    let turn = cross_product(
+        between(p, point_at(qx, qy, e)),
+        between(r, point_at(qx, qy, f)),
+    );
+    parallel_wrong(state, turn == 0, e, f)
 }
 
-// Rule 1 at a `Bridge` with the a's of entries e and f: which of the two is named.
-fn set_lead(ax: &[i32], ay: &[i32], bx: &[i32], by: &[i32], lead: &mut [u8], e: usize, f: usize)
-    requires { ⌜ (e < length (now ax)) × (e < length (now ay)) × (e < length (now bx)) × (e < length (now by)) ⌝ }
-    requires { ⌜ (f < length (now bx)) × (f < length (now by)) × (e < length (now lead)) × (f < length (now lead)) ⌝ }
-    requires { ⌜ (OnGrid (pointAt (now ax) (now ay) e)) × (OnGrid (pointAt (now bx) (now by) e)) × (OnGrid (pointAt (now bx) (now by) f)) ⌝ }
-    ensures { λ _. ⌜ (let b : ℕ → Point = pointAt (now (bx .entry)) (now (by .entry)) in
-        now (lead .exit) ≡ led (clockwise (pointAt (now (ax .entry)) (now (ay .entry)) e) (b e) (b f)) (now (lead .entry)) e f) ⌝ }
+// Rule 1 at a `Bridge` with the a's of entries e and f: which of the two is named, the first or not.
+fn set_lead(lead: &mut [u8], first: bool, e: usize, f: usize)
+    requires { ⌜ (e < length (now lead)) × (f < length (now lead)) ⌝ }
+    ensures { λ _. ⌜ now (lead .exit) ≡ led first (now (lead .entry)) e f ⌝ }
 {
-    if clockwise(
-        point_at(ax, ay, e),
-        point_at(bx, by, e),
-        point_at(bx, by, f),
-    ) {
+    if first {
         lead[e] = 1;
         lead[f] = 2;
         return;
@@ -138,10 +141,20 @@ fn lay_two_a(
         now (lead .exit) ≡ pick r (now (lead .entry))
         (led (clockwise (pointAt (now (ax .entry)) (now (ay .entry)) e) (b e) (b f)) (now (lead .entry)) e f)) ⌝ }
 {
-    if like_wrong(ax, ay, bx, by, aid, state, v, e, f) {
+    let p = point_at(ax, ay, e);
+    let r = point_at(ax, ay, f);
+    if (wide(aid[e]) != v) | (e == f) | differ(p, r) {
         return true;
     }
-    set_lead(ax, ay, bx, by, lead, e, f);
+    // above 0 where f is to the left of e, from their one point
+    let turn = cross_product(
+        between(p, point_at(bx, by, e)),
+        between(r, point_at(bx, by, f)),
+    );
+    if parallel_wrong(state, turn == 0, e, f) {
+        return true;
+    }
+    set_lead(lead, turn < 0, e, f);
     lay_pair(nxt, 2 * e, 2 * f + 1, 2 * f, 2 * e + 1);
     false
 }
@@ -226,7 +239,8 @@ fn lay_bridge(
     lay_two_b(ax, ay, bx, by, bid, state, v, e, f, nxt)
 }
 
-// Checks 5 to 7 of node v, which has these entries: whether something is wrong. Where nothing is, its ends are laid. Most nodes are `Bridge`s.
+// Checks 5 to 7 of node v: whether something is wrong. Where nothing is, its ends are laid. Most nodes are `Bridge`s, whose two entries
+// are read in their places: their part of the list is made for a `Cross` alone.
 fn lay_node(
     ax: &[i32],
     ay: &[i32],
@@ -234,8 +248,9 @@ fn lay_node(
     by: &[i32],
     aid: &[u32],
     bid: &[u32],
+    start: &[u32],
+    list: &[u32],
     state: &[u8],
-    here: &[u32],
     v: usize,
     nxt: &mut [u32],
     prv: &mut [u32],
@@ -244,25 +259,32 @@ fn lay_node(
     requires { ⌜ Points (now ax) (now ay) (now bx) (now by) (length (now aid)) ⌝ }
     requires { ⌜ Grids (now ax) (now ay) (now bx) (now by) (length (now aid)) ⌝ }
     requires { ⌜ length (now state) ≡ length (now aid) ⌝ }
-    requires { ⌜ Runs (now ax) (now ay) (now bx) (now by) (now aid) (now bid) ⌝ }
+    requires { ⌜ (Runs (now ax) (now ay) (now bx) (now by) (now aid) (now bid)) × (Rising (now start) (now list)) ⌝ }
     requires { ⌜ (length (now aid) ≤ maxLinks) × (2 * length (now aid) ≤ length (now nxt)) × (2 * length (now aid) ≤ length (now prv))
         × (length (now aid) ≤ length (now lead)) ⌝ }
     requires { ⌜ ((k : ℕ) → getD (now aid) k 0 ≡ v → getD (now lead) k 0 ≡ 0) ⌝ }
-    requires { ⌜ 0 < length (now here) ⌝ }
+    requires { ⌜ v < length (now start) - 1 ⌝ }
     ensures { λ r. ⌜ (let a : ℕ → Point = pointAt (now (ax .entry)) (now (ay .entry)) in
         let b : ℕ → Point = pointAt (now (bx .entry)) (now (by .entry)) in
-        r ≡ nodeWrong (now (aid .entry)) (now (bid .entry)) a b (nodeAt (now (aid .entry))) (now (state .entry)) (now (here .entry)) v) ⌝ }
-    ensures { λ r. ⌜ (r ≡ false → (start list top : List ℕ) → part start list v ≡ now (here .entry) → Laid (graphOf (lent
-        (now (ax .entry)) (now (ay .entry)) (now (bx .entry)) (now (by .entry)) (now (aid .entry)) (now (bid .entry)) start list) top)
+        r ≡ nodeWrong (now (aid .entry)) (now (bid .entry)) a b (nodeAt (now (aid .entry))) (now (state .entry))
+        (part (now (start .entry)) (now (list .entry)) v) v) ⌝ }
+    ensures { λ r. ⌜ (r ≡ false → (top : List ℕ) → Laid (graphOf (lent (now (ax .entry)) (now (ay .entry)) (now (bx .entry))
+        (now (by .entry)) (now (aid .entry)) (now (bid .entry)) (now (start .entry)) (now (list .entry))) top)
         (now (state .entry)) v (now (nxt .exit)) (now (prv .exit)) (now (lead .exit))) ⌝ }
     ensures { λ _. ⌜ (ElseKept (now (aid .entry)) (now (bid .entry)) v (now (nxt .entry)) (now (nxt .exit)))
         × (ElseKept (now (aid .entry)) (now (bid .entry)) v (now (prv .entry)) (now (prv .exit)))
         × (OthersKept (now (aid .entry)) v (now (lead .entry)) (now (lead .exit))) ⌝ }
 {
-    if here.len() == 2 {
-        let e = wide(here[0]);
-        let f = wide(here[1]);
+    let from = wide(start[v]);
+    if wide(start[v + 1]) == from + 2 {
+        let e = wide(list[from]);
+        let f = wide(list[from + 1]);
         return lay_bridge(ax, ay, bx, by, aid, bid, state, v, e, f, nxt, lead);
+    }
+    let here = entries(start, list, v);
+    // called at two places, `lay_cross` is compiled apart: in its place it would take the registers of the loop over `Bridge`s
+    if here.len() == 4 {
+        return lay_cross(ax, ay, bx, by, aid, bid, state, here, v, nxt, prv);
     }
     lay_cross(ax, ay, bx, by, aid, bid, state, here, v, nxt, prv)
 }
@@ -307,8 +329,9 @@ pub fn lay_nodes(
             by,
             aid,
             bid,
+            start,
+            list,
             state,
-            entries(start, list, v),
             v,
             nxt,
             prv,

@@ -6,7 +6,7 @@ use lib.ListN.{length}
 use Rattle.laws.specs.Test.{true≢false}
 use Rattle.laws.specs.Lowest.{some-no}
 use Rattle.graph.specs.Graph.{Lent, lent}
-use Rattle.lay.proofs.Nodes.{any-entry, Passed, passed-none, passed-more, told, found-wrong}
+use Rattle.lay.proofs.Nodes.{Passed, passed-none, passed-more, found-wrong}
 use Rattle.lay.proofs.lay_nodes.Statement.{statement}
 use Rattle.lay.proofs.lay_nodes.Tie as tie
 
@@ -31,13 +31,10 @@ loop-holds c =
     let x = s .args in
     (omega arith, refl, refl, refl, passed-none (lists s) (x .state .now) (x .nxt .now) (x .prv .now) (x .lead .now) (s .pre .1 .1 .1 .1 .1))
 
-entries-requires : tie.Need-entries-requires Inv-loop μ-loop
-entries-requires c κs = (c .before .before .before .before .before .before .before .before .before .before .pre .1 .1 .1 .0 .1, omega arith)
-
 lay-node-requires : tie.Need-lay-node-requires Inv-loop μ-loop
 lay-node-requires c κs =
-    let p = c .before .before .before .before .before .before .before .before .before .before .before .before .before .before .pre in
-    let l = c .before .before .before .before .before .loop in
+    let p = c .before .before .before .before .before .before .before .before .before .before .before .before .before .pre in
+    let l = c .before .before .before .before .loop in
     let n = p .1 .1 .1 .1 .0 in (
       p .0,
       (
@@ -45,13 +42,10 @@ lay-node-requires c κs =
         (
           p .1 .1 .0,
           (
-            p .1 .1 .1 .0 .0,
+            (p .1 .1 .1 .0 .0, p .1 .1 .1 .0 .1),
             (
               (n .0, omega (arith, n .1, l .inv .1), omega (arith, n .2, l .inv .2), omega (arith, n .3, l .inv .3)),
-              (
-                λ k e. l .inv .4 .ahead k (omega arith),
-                any-entry (p .1 .1 .1 .0 .1) (l .v) (c .before .before .before .before .loop-test .taken) _ (c .before .before .before .entries .ensures),
-              ),
+              (λ k e. l .inv .4 .ahead k (omega arith), c .before .before .before .loop-test .taken),
             ),
           ),
         ),
@@ -60,7 +54,7 @@ lay-node-requires c κs =
 
 -- the turn of the loop that a call stands in, and the start
 abbrev turn : tie.After-lay-node Inv-loop μ-loop → tie.In-loop Inv-loop μ-loop
-turn c = c .before .before .before .before .before
+turn c = c .before .before .before .before
 
 abbrev begin : tie.In-loop Inv-loop μ-loop → tie.Start Inv-loop μ-loop
 begin c = c .before .before .before .before .before .before .before .before .before .before
@@ -68,17 +62,17 @@ begin c = c .before .before .before .before .before .before .before .before .bef
 same-length : tie.Need-same-length Inv-loop μ-loop
 same-length c =
     let d = c .before .before .before .before .before .before .before in
-    d .lay-node .kept .1 .1 .1 .1 .1 .1 .1 .1 .1 .0 ∙ turn d .before .loop .inv .1
+    d .lay-node .kept .1 .1 .1 .1 .1 .1 .1 .1 .1 .1 .0 ∙ turn d .before .loop .inv .1
 
 same-length-2 : tie.Need-same-length-2 Inv-loop μ-loop
 same-length-2 c =
     let d = c .before .before .before .before .before .before .before in
-    d .lay-node .kept .1 .1 .1 .1 .1 .1 .1 .1 .1 .1 .0 ∙ turn d .before .loop .inv .2
+    d .lay-node .kept .1 .1 .1 .1 .1 .1 .1 .1 .1 .1 .1 .0 ∙ turn d .before .loop .inv .2
 
 same-length-3 : tie.Need-same-length-3 Inv-loop μ-loop
 same-length-3 c =
     let d = c .before .before .before .before .before .before .before in
-    d .lay-node .kept .1 .1 .1 .1 .1 .1 .1 .1 .1 .1 .1 .0 ∙ turn d .before .loop .inv .3
+    d .lay-node .kept .1 .1 .1 .1 .1 .1 .1 .1 .1 .1 .1 .1 .0 ∙ turn d .before .loop .inv .3
 
 returns : tie.Need-returns Inv-loop μ-loop
 returns c =
@@ -87,8 +81,7 @@ returns c =
     let t = turn d in
     let l = t .before .loop in
     let s = begin t in (
-      found-wrong (lists s) (s .args .state .now) (l .v) _ (d .before .before .before .before .entries .ensures) (k .result) (k .ensures .0) _
-          (t .loop-test .taken) (l .inv .4) (c .if1 .taken),
+      found-wrong (lists s) (s .args .state .now) _ (l .v) (t .loop-test .taken) (l .inv .4) (k .result) (k .ensures .0) (c .if1 .taken),
       λ z. absurd (true≢false refl z),
     )
 
@@ -102,18 +95,16 @@ loop-again : tie.Need-loop-again Inv-loop μ-loop
 loop-again c =
     let d = c .before .before .before .before .before .before .before in
     let k = d .lay-node in
-    let h = d .before .before .before .before .entries in
     let t = turn d in
     let l = t .before .loop in
     let s = begin t in
     let x = s .args in (
       omega (arith, t .loop-test .taken),
-      k .kept .1 .1 .1 .1 .1 .1 .1 .1 .1 .0 ∙ l .inv .1,
-      k .kept .1 .1 .1 .1 .1 .1 .1 .1 .1 .1 .0 ∙ l .inv .2,
-      k .kept .1 .1 .1 .1 .1 .1 .1 .1 .1 .1 .1 .0 ∙ l .inv .3,
+      k .kept .1 .1 .1 .1 .1 .1 .1 .1 .1 .1 .0 ∙ l .inv .1,
+      k .kept .1 .1 .1 .1 .1 .1 .1 .1 .1 .1 .1 .0 ∙ l .inv .2,
+      k .kept .1 .1 .1 .1 .1 .1 .1 .1 .1 .1 .1 .1 .0 ∙ l .inv .3,
       passed-more (lists s) (x .state .now) (l .v) (l .inv .4)
-          (sym (told (lists s) (x .state .now) (l .v) _ (h .ensures) (k .result) (k .ensures .0)) ∙ c .if1 .left)
-          (λ top. k .ensures .1 .0 (c .if1 .left) (x .start .now) (x .list .now) top (sym (h .ensures)))
+          (sym (k .ensures .0) ∙ c .if1 .left) (k .ensures .1 .0 (c .if1 .left))
           (k .ensures .1 .1 .0) (k .ensures .1 .1 .1) (k .ensures .1 .1 .2),
     )
 
@@ -133,5 +124,5 @@ returns-2 c =
 
 pub lay-nodes-spec : {M : Type 1} → statement M
 lay-nodes-spec =
-    tie.close (tie.spec Inv-loop μ-loop sub-m loop-holds entries-requires lay-node-requires same-length same-length-2
+    tie.close (tie.spec Inv-loop μ-loop sub-m loop-holds lay-node-requires same-length same-length-2
     same-length-3 returns add-v loop-less loop-again same-length-4 same-length-5 same-length-6 returns-2)

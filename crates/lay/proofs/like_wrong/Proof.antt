@@ -1,23 +1,23 @@
--- `lay::like_wrong` meets its contract: by the two tests, of which the second is the sign of the cross product.
+-- `lay::like_wrong` meets its contract: by the two tests, of which the second asks for the sign of the cross product.
 use Rattle.lay.proofs.like_wrong.Statement.{statement}
 use Rattle.lay.proofs.like_wrong.Tie as tie
 use Prim.Native.Nat.{ℕ}
 use native.Mathlib.Omega.{arith}
 use mathlib.Core.Path.{_≡_, sym, ap, ap₂, _∙_}
-use mathlib.Core.Bool.{Bool, false, not, _||_}
+use mathlib.Core.Bool.{Bool, false, not, _||_, _&&_}
 use mir.Syntax.{w64}
 use mir.Val.{ofZ}
 use lib.Dec.{eqb}
 use lib.IntN.{ℤ}
 use lib.ListN.{getD}
 use borrow.Author.Needs.{needs}
-use borrow.Author.Tests.{eq-eqb, ne-eqb}
-use Rattle.laws.specs.Test.{pick-true, pick-false}
+use Rattle.laws.specs.Test.{pick, pick-true, pick-false}
 use Rattle.laws.specs.Bounds.{fits64}
 use Rattle.laws.specs.Sign.{zer, sgn, eqS, eq0-sgn}
 use Rattle.turn.specs.declared.Point.{Point}
 use Rattle.turn.specs.Points.{differ, fromTo, cross}
 use Rattle.graph.specs.Graph.{pointAt}
+use Rattle.graph.specs.Checks.{skipped}
 
 abbrev p : tie.Start → ℕ → Point
 p s = pointAt (s .args .px .now) (s .args .py .now)
@@ -113,21 +113,18 @@ parallel c =
     ap (λ (z : ℤ). eqS (sgn z) zer) (sym (product-is c))
     ∙ sym (eq0-sgn (c .cross-product .result) (fits64 (c .cross-product .result) (omega (arith, c .cross-product .ensures .1))))
 
+parallel-wrong-requires : tie.Need-parallel-wrong-requires
+parallel-wrong-requires c κs =
+    let r = start (past c) .pre in (omega (arith, r .1 .1 .0, r .1 .1 .1 .0), omega (arith, r .1 .1 .0, r .1 .1 .1 .1))
+
 returns-2 : tie.Need-returns-2
-returns-2 c = sym (pick-false _ _ (passed (past (c .before))) ∙ pick-false _ _ (parallel (c .before) ∙ ne-eqb _ 0 (c .if2 .taken)))
-
-shared-slice-read-result : tie.Need-shared-slice-read-result
-shared-slice-read-result c = let r = start (past (c .before .before)) .pre in omega (arith, r .1 .1 .0, r .1 .1 .1 .0)
-
-shared-slice-read-result-2 : tie.Need-shared-slice-read-result-2
-shared-slice-read-result-2 c = let r = start (past (c .before .before .before)) .pre in omega (arith, r .1 .1 .0, r .1 .1 .1 .1)
-
-returns-3 : tie.Need-returns-3
-returns-3 c =
-    let d = c .before .before .before in
-    sym (pick-false _ _ (passed (past d)) ∙ pick-true _ _ (parallel d ∙ eq-eqb _ 0 (c .before .before .if2 .left)))
+returns-2 c =
+    let x = start (past (c .before)) .args in
+    c .parallel-wrong .ensures
+    ∙ ap (λ (t : Bool). pick t (not (skipped (x .state .now) (x .e)) && not (skipped (x .state .now) (x .f))) false) (sym (parallel (c .before)))
+    ∙ sym (pick-false _ _ (passed (past (c .before))))
 
 pub like-wrong-spec : {M : Type 1} → statement M
 like-wrong-spec = tie.close (tie.spec point-at-requires point-at-requires-2 mul-wide shared-slice-read-wide
     wide-requires differ-requires returns point-at-requires-3 between-requires point-at-requires-4 between-requires-2
-    cross-product-requires returns-2 shared-slice-read-result shared-slice-read-result-2 returns-3)
+    cross-product-requires parallel-wrong-requires returns-2)
