@@ -1,17 +1,17 @@
--- What is known of the entries taken so far, and of the next one: their point, their order, and whether they clash.
+-- What is known of the entries taken so far, and of the next one: their node, their point, their order, and whether they clash.
 use Prim.Native.Nat.{ℕ, _+_, _≤_, _<_}
 use native.Mathlib.Omega.{arith}
 use native.Mathlib.Numerals.{add-one}
 use mathlib.Core.Path.{_≡_, refl, sym, ap, _∙_, subst}
-use mathlib.Core.Logic.{_⊎_, ⊎-elim}
+use mathlib.Core.Logic.{_⊎_, inl, inr, ⊎-elim}
 use mathlib.Core.Bool.{Bool, true, false, not, _||_, _&&_}
 use mathlib.Core.List.{List, [], _∷_, _++_}
-use lib.Dec.{eqb}
+use lib.Dec.{eqb, leb}
 use lib.IntN.{ℤ}
 use lib.ListN.{length, getD, take}
 use lib.Seq.{getD-take, length-take-le, take-suc}
-use borrow.Author.Tests.{eqb-false, eq-eqb, ne-eqb}
-use Rattle.laws.specs.Test.{true≢false, true-is, not-true, or-false}
+use borrow.Author.Tests.{leb-false, eqb-true, eqb-false, eq-eqb, ne-eqb}
+use Rattle.laws.specs.Test.{true≢false, true-is, not-true, or-false, false-or, and-false}
 use Rattle.laws.specs.Lists.{place-of, member}
 use Rattle.laws.specs.Lowest.{some, some-no, none-of}
 use Rattle.turn.specs.declared.Point.{Point}
@@ -19,7 +19,7 @@ use Rattle.turn.specs.Points.{OnGrid, differ}
 use Rattle.turn.specs.Angle.{sameDirection}
 use Rattle.turn.specs.Directions.{same-sym}
 use Rattle.graph.specs.Graph.{Graph, pointAt}
-use Rattle.graph.specs.Checks.{nodeAt, endAt, awayFrom, apart, skipped, alike}
+use Rattle.graph.specs.Checks.{nodeAt, endAt, awayFrom, stray, apart, skipped, alike}
 use Rattle.graph.specs.Quick.{standsBefore, alikeBefore, clashAt}
 use Rattle.graph.specs.PointLaws.{same-point}
 use Rattle.graph.specs.EndLaws.{end-on-grid}
@@ -28,7 +28,7 @@ use Rattle.next.specs.Choice.{Mem}
 use Rattle.rings.specs.RingOrder.{Forward, ring-apart}
 use Rattle.rings.specs.Rings.{InOrder}
 use Rattle.hoop.specs.declared.Hoop.{Hoop}
-use Rattle.hoop.specs.Hoops.{Laying}
+use Rattle.hoop.specs.Hoops.{wrongAt, Laying}
 
 -- ---- tests of three
 or-first : (x y z : Bool) → x ≡ true → x || y || z ≡ true
@@ -47,6 +47,18 @@ or-third false false z e = e
 
 or-none : (x y z : Bool) → x ≡ false → y ≡ false → z ≡ false → x || y || z ≡ false
 or-none x y z p q r = rw (p, q, r)
+
+or-last : (x y : Bool) → y ≡ true → x || y ≡ true
+or-last true y e = refl
+or-last false y e = e
+
+or-carried : (x y z : Bool) → (y ≡ true → z ≡ true) → x || y ≡ true → x || z ≡ true
+or-carried true y z f e = refl
+or-carried false y z f e = f e
+
+not-not : (b : Bool) → not b ≡ false → b ≡ true
+not-not true e = refl
+not-not false e = absurd (true≢false refl e)
 
 and-all : (x y z : Bool) → x ≡ true → y ≡ true → z ≡ true → x && y && z ≡ true
 and-all x y z p q r = rw (p, q, r)
@@ -71,6 +83,15 @@ some-at test n i h e = by (some test n) refl
     by true q = refl
     by false q = absurd (true≢false e (none-of test n q i h))
 
+-- ---- what is no stray: a link, with an end at node v
+pub link-below : (aid bid : List ℕ) (v x : ℕ) → stray aid bid v x ≡ false → x < length aid
+link-below aid bid v x e = leb-false (length aid) x (or-false (leb (length aid) x) _ e .0)
+
+pub link-there : (aid bid : List ℕ) (v x : ℕ) → stray aid bid v x ≡ false → (getD aid x 0 ≡ v) ⊎ (getD bid x 0 ≡ v)
+link-there aid bid v x e =
+    ⊎-elim (λ p. inl (eqb-true (getD aid x 0) v (not-not _ p))) (λ p. inr (eqb-true (getD bid x 0) v (not-not _ p)))
+    (and-false _ _ (or-false (leb (length aid) x) _ e .1))
+
 -- ---- the first j of a list
 pub in-take : (l : List ℕ) (j i : ℕ) → j ≤ length l → i < j → Mem (getD l i 0) (take j l)
 in-take l j i h k =
@@ -79,8 +100,21 @@ in-take l j i h k =
 pub take-more : (l : List ℕ) (j : ℕ) → j < length l → take j l ++ (getD l j 0 ∷ []) ≡ take (j + 1) l
 take-more l j h = sym (take-suc l j 0 h) ∙ ap (λ n. take n l) (sym (add-one j))
 
-module _ {ax ay bx by : List ℤ} {aid state here : List ℕ} {v : ℕ} {home : Point} {nxt prv : List ℕ} {j : ℕ} {hoop : Hoop}
-    (y : Laying ax ay bx by aid state here v home nxt prv j hoop) (jn : j < length here) where
+-- ---- a stray entry, or one with another point
+pub wrong-missed : {ax ay bx by : List ℤ} {aid bid state here : List ℕ} {v : ℕ} {home : Point} {nxt prv : List ℕ} {j : ℕ} {hoop : Hoop}
+    → Laying ax ay bx by aid bid state here v home nxt prv j hoop
+    → stray aid bid v (getD here j 0) || differ home (endAt (pointAt ax ay) (pointAt bx by) (nodeAt aid) v (getD here j 0)) ≡ true
+    → wrongAt ax ay bx by aid bid state here v j ≡ true
+wrong-missed {ax} {ay} {bx} {by} {aid} {bid} {state} {here} {v} {home} {nxt} {prv} {j} y e =
+    or-carried (stray aid bid v f) _ _ (λ d. or-second (standsBefore here j f) _ (alikeBefore (pointAt ax ay) (pointAt bx by) (nodeAt aid) state here v j f)
+    (subst (λ p. differ p (endAt (pointAt ax ay) (pointAt bx by) (nodeAt aid) v f) ≡ true) (y .home-is) d)) e
+  where
+    f : ℕ
+    f = getD here j 0
+
+-- ---- an entry that is not stray
+module _ {ax ay bx by : List ℤ} {aid bid state here : List ℕ} {v : ℕ} {home : Point} {nxt prv : List ℕ} {j : ℕ} {hoop : Hoop}
+    (y : Laying ax ay bx by aid bid state here v home nxt prv j hoop) (jn : j < length here) (own : stray aid bid v (getD here j 0) ≡ false) where
   abbrev pub g : Graph
   g = linksOf ax ay bx by aid
 
@@ -103,11 +137,17 @@ module _ {ax ay bx by : List ℤ} {aid state here : List ℕ} {v : ℕ} {home : 
       let k : p .place < j = omega (arith, p .within, length-take-le j here (omega arith)) in
       record { place = p .place; early = k; is = sym (getD-take j here (p .place) 0 k) ∙ p .here }
 
+  -- ---- they are links with an end at node v
+  pub own-x : (x : ℕ) → Mem x l → stray aid bid v x ≡ false
+  own-x x m =
+      let p = entry-of x m in
+      subst (λ z. stray aid bid v z ≡ false) (p .is) (or-false (stray aid bid v (getD here (p .place) 0)) _ (y .clear (p .place) (p .early)) .0)
+
   pub below-f : f < length aid
-  below-f = y .below j jn
+  below-f = link-below aid bid v f own
 
   pub below-x : (x : ℕ) → Mem x l → x < length aid
-  below-x x m = let p = entry-of x m in subst (λ z. z < length aid) (p .is) (y .below (p .place) (omega (arith, p .early)))
+  below-x x m = link-below aid bid v x (own-x x m)
 
   pub forward-f : Forward g f
   forward-f = y .strict f below-f
@@ -118,7 +158,7 @@ module _ {ax ay bx by : List ℤ} {aid state here : List ℕ} {v : ℕ} {home : 
   -- ---- their point
   pub home-grid : OnGrid home
   home-grid =
-      let k : getD here 0 0 < length aid = y .below 0 (omega arith) in
+      let k = y .first-below in
       subst OnGrid (sym (y .home-is))
       (end-on-grid (pointAt ax ay) (pointAt bx by) (nodeAt aid) v (getD here 0 0) (y .grids .a-grid _ k) (y .grids .b-grid _ k))
 
@@ -129,7 +169,7 @@ module _ {ax ay bx by : List ℤ} {aid state here : List ℕ} {v : ℕ} {home : 
   home-at i h =
       y .home-is ∙ same-point (endAt (pointAt ax ay) (pointAt bx by) (nodeAt aid) v (getD here 0 0))
       (endAt (pointAt ax ay) (pointAt bx by) (nodeAt aid) v (getD here i 0))
-      (or-false (standsBefore here i (getD here i 0)) _ (or-false _ _ (y .clear i h) .0) .1)
+      (or-false (standsBefore here i (getD here i 0)) _ (or-false _ _ (or-false (stray aid bid v (getD here i 0)) _ (y .clear i h) .1) .0) .1)
 
   pub home-x : (x : ℕ) → Mem x l → Home x
   home-x x m = let p = entry-of x m in subst Home (p .is) (home-at (p .place) (p .early))
@@ -138,8 +178,17 @@ module _ {ax ay bx by : List ℤ} {aid state here : List ℕ} {v : ℕ} {home : 
   home-f e = same-point home (endAt (pointAt ax ay) (pointAt bx by) (nodeAt aid) v f) e
 
   -- ---- a clash
-  abbrev pub clash : Bool
+  abbrev clash : Bool
   clash = clashAt (pointAt ax ay) (pointAt bx by) (nodeAt aid) state here v j
+
+  abbrev pub wrong : Bool
+  wrong = wrongAt ax ay bx by aid bid state here v j
+
+  wrong-by : clash ≡ true → wrong ≡ true
+  wrong-by e = or-last (stray aid bid v f) clash e
+
+  right-by : clash ≡ false → wrong ≡ false
+  right-by e = false-or (stray aid bid v f) clash own e
 
   abbrev stands : Bool
   stands = standsBefore here j f
@@ -150,35 +199,31 @@ module _ {ax ay bx by : List ℤ} {aid state here : List ℕ} {v : ℕ} {home : 
   abbrev alikes : Bool
   alikes = alikeBefore (pointAt ax ay) (pointAt bx by) (nodeAt aid) state here v j f
 
-  pub clash-apart : differ home (endAt (pointAt ax ay) (pointAt bx by) (nodeAt aid) v f) ≡ true → clash ≡ true
-  clash-apart e = or-second stands elsewhere alikes
-      (subst (λ p. differ p (endAt (pointAt ax ay) (pointAt bx by) (nodeAt aid) v f) ≡ true) (y .home-is) e)
-
-  pub clash-stands : stands ≡ true → clash ≡ true
-  clash-stands e = or-first stands elsewhere alikes e
+  pub wrong-stands : stands ≡ true → wrong ≡ true
+  wrong-stands e = wrong-by (or-first stands elsewhere alikes e)
 
   together : differ home (endAt (pointAt ax ay) (pointAt bx by) (nodeAt aid) v f) ≡ false → elsewhere ≡ false
   together e = subst (λ p. differ p (endAt (pointAt ax ay) (pointAt bx by) (nodeAt aid) v f) ≡ false) (y .home-is) e
 
   -- a skipped entry
-  pub no-clash-skipped : differ home (endAt (pointAt ax ay) (pointAt bx by) (nodeAt aid) v f) ≡ false → getD state f 0 ≡ 1 → stands ≡ false
-      → clash ≡ false
-  no-clash-skipped e s n = or-none stands elsewhere alikes n (together e)
+  pub right-skipped : differ home (endAt (pointAt ax ay) (pointAt bx by) (nodeAt aid) v f) ≡ false → getD state f 0 ≡ 1 → stands ≡ false
+      → wrong ≡ false
+  right-skipped e s n = right-by (or-none stands elsewhere alikes n (together e)
       (some-no (λ i. alike (pointAt ax ay) (pointAt bx by) (nodeAt aid) state v (getD here i 0) f) j
-      (λ i h. not-second (not (skipped state (getD here i 0))) (not (skipped state f)) _ (ap not (eq-eqb (getD state f 0) 1 s))))
+      (λ i h. not-second (not (skipped state (getD here i 0))) (not (skipped state f)) _ (ap not (eq-eqb (getD state f 0) 1 s)))))
 
   -- an unskipped entry
   module _ (unskipped : getD state f 0 ≡ 1 → ⊥) where
     opened : (x : ℕ) → (getD state x 0 ≡ 1 → ⊥) → not (skipped state x) ≡ true
     opened x o = ap not (ne-eqb (getD state x 0) 1 o)
 
-    pub clash-alike : (x : ℕ) → Mem x l → sameDirection (awayFrom g v x) (awayFrom g v f) ≡ true → clash ≡ true
-    clash-alike x m d =
+    pub wrong-alike : (x : ℕ) → Mem x l → sameDirection (awayFrom g v x) (awayFrom g v f) ≡ true → wrong ≡ true
+    wrong-alike x m d =
         let p = entry-of x m in
-        or-third stands elsewhere alikes (some-at (λ i. alike (pointAt ax ay) (pointAt bx by) (nodeAt aid) state v (getD here i 0) f) j (p .place)
+        wrong-by (or-third stands elsewhere alikes (some-at (λ i. alike (pointAt ax ay) (pointAt bx by) (nodeAt aid) state v (getD here i 0) f) j (p .place)
         (p .early) (subst (λ z. alike (pointAt ax ay) (pointAt bx by) (nodeAt aid) state v z f ≡ true) (sym (p .is))
         (and-all (not (skipped state x)) (not (skipped state f)) (sameDirection (awayFrom g v x) (awayFrom g v f))
-        (opened x (y .held .stood .ring .only x m .1)) (opened f unskipped) d)))
+        (opened x (y .held .stood .ring .only x m .1)) (opened f unskipped) d))))
 
     -- each link of the ring stands before it or after it
     module _ (order : (x : ℕ) → Mem x l → InOrder g v x f ⊎ InOrder g v f x) (new : (x : ℕ) → Mem x l → x ≡ f → ⊥) where
@@ -204,5 +249,5 @@ module _ {ax ay bx by : List ℤ} {aid state here : List ℕ} {v : ℕ} {home : 
           tell i h false e = not-third (not (skipped state (getD here i 0))) (not (skipped state f)) _
               (spread (getD here i 0) (ringed i h (eqb-false (getD state (getD here i 0) 0) 1 e)))
 
-      pub no-clash : differ home (endAt (pointAt ax ay) (pointAt bx by) (nodeAt aid) v f) ≡ false → clash ≡ false
-      no-clash e = or-none stands elsewhere alikes none-stands (together e) none-alike
+      pub right-ordered : differ home (endAt (pointAt ax ay) (pointAt bx by) (nodeAt aid) v f) ≡ false → wrong ≡ false
+      right-ordered e = right-by (or-none stands elsewhere alikes none-stands (together e) none-alike)

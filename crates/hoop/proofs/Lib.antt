@@ -6,6 +6,7 @@ pub mod Lasts
 pub mod Stores
 pub mod Grows
 pub mod Holds
+pub mod Missed
 pub mod Among
 pub mod Steps
 pub mod Crossings

@@ -13,32 +13,33 @@ use borrow.Author.Count.{below-more}
 use Rattle.laws.specs.Lists.{place-of, member}
 use Rattle.turn.specs.declared.Point.{Point}
 use Rattle.turn.specs.Points.{differ}
-use Rattle.graph.specs.Graph.{Graph, pointAt}
-use Rattle.graph.specs.Checks.{nodeAt, endAt}
-use Rattle.graph.specs.Quick.{standsBefore, clashAt}
+use Rattle.graph.specs.Graph.{Graph, lent, graphOf, pointAt}
+use Rattle.graph.specs.Checks.{nodeAt, endAt, stray}
+use Rattle.graph.specs.Quick.{standsBefore}
 use Rattle.graph.specs.Known.{Points, Grids}
 use Rattle.hoop.specs.Links.{linksOf}
 use Rattle.next.specs.Choice.{Mem}
-use Rattle.rings.specs.Ends.{endOf, end-link, end-below}
+use Rattle.rings.specs.Ends.{endOf, end-node, end-link, end-below}
 use Rattle.rings.specs.RingOrder.{Forward, ring-irreflexive}
 use Rattle.rings.specs.Rings.{InOrder}
 use Rattle.rings.specs.Sorted.{BeforeAll, Sorted, sorted-short}
 use Rattle.rings.specs.Linked.{Leads}
 use Rattle.rings.specs.Making.{RingOf, take-skipped, take-front, take-after}
-use Rattle.rings.specs.Field.{crossMark, prevOf}
+use Rattle.rings.specs.Field.{crossMark, prevOf, endNode, ElseKept}
 use Rattle.hoop.specs.declared.Hoop.{Hoop}
 use Rattle.hoop.specs.declared.Place.{Place}
 use Rattle.hoop.specs.declared.Place.the-variants.{First, After, Alike}
 use Rattle.hoop.specs.Hoops.{Before, Backed, Sought, GoesAfter, Placed, Outcome, putEnd, PlaceFits, Fits}
-use Rattle.hoop.specs.Hoops.{Stood, Told, Held, Laying, Entered, KeptBut}
+use Rattle.hoop.specs.Hoops.{Stood, Told, Held, wrongAt, Laying, Entered}
 use Rattle.hoop.proofs.Ways.{in-order, run-alike}
 use Rattle.hoop.proofs.Lasts.{last-at, split-two, neighbours}
 use Rattle.hoop.proofs.Grows.{both-sides, not-among, Ready, next-is}
 use Rattle.hoop.proofs.Holds.{KeptOff, Grown, grown-first, grown-after}
-use Rattle.hoop.proofs.Among.{take-more, entry-of, below-f, below-x, forward-f, forward-x, home-x, home-f, clash-alike, no-clash, no-clash-skipped}
+use Rattle.hoop.proofs.Among.{link-there, take-more, own-x, below-f, below-x, forward-f, forward-x, home-x, home-f}
+use Rattle.hoop.proofs.Among.{wrong-alike, right-ordered, right-skipped}
 
-module _ {ax ay bx by : List ℤ} {aid state here : List ℕ} {v : ℕ} {home : Point} {nxt prv : List ℕ} {j : ℕ} {hoop : Hoop}
-    (y : Laying ax ay bx by aid state here v home nxt prv j hoop) (jn : j < length here) where
+module _ {ax ay bx by : List ℤ} {aid bid state here : List ℕ} {v : ℕ} {home : Point} {nxt prv : List ℕ} {j : ℕ} {hoop : Hoop}
+    (y : Laying ax ay bx by aid bid state here v home nxt prv j hoop) (jn : j < length here) (own : stray aid bid v (getD here j 0) ≡ false) where
   abbrev g : Graph
   g = linksOf ax ay bx by aid
 
@@ -83,7 +84,7 @@ module _ {ax ay bx by : List ℤ} {aid state here : List ℕ} {v : ℕ} {home : 
   }
 
   end-in : (i : ℕ) → i < length l → e (getD l i 0) < 2 * length aid
-  end-in i h = end-below g v (getD l i 0) (length aid) (below-x y jn (getD l i 0) (member 0 l i h))
+  end-in i h = end-below g v (getD l i 0) (length aid) (below-x y jn own (getD l i 0) (member 0 l i h))
 
   pub sought : Sought (length ax) prv hoop
   sought = record {
@@ -97,7 +98,7 @@ module _ {ax ay bx by : List ℤ} {aid state here : List ℕ} {v : ℕ} {home : 
 
   -- ---- what the linking is lent
   short : length l ≤ length aid
-  short = sorted-short (InOrder g v) l (length aid) (λ x m. ring-irreflexive g v x (forward-x y jn x m)) (st .ring .sorted) (below-x y jn)
+  short = sorted-short (InOrder g v) l (length aid) (λ x m. ring-irreflexive g v x (forward-x y jn own x m)) (st .ring .sorted) (below-x y jn own)
 
   module _ (place : Place) (p : Placed (pointAt ax ay) (pointAt bx by) home e l (e f) place) where
     pub fits : Fits nxt prv hoop place (e f)
@@ -106,7 +107,7 @@ module _ {ax ay bx by : List ℤ} {aid state here : List ℕ} {v : ℕ} {home : 
       few = y .few;
       nxt-long = y .nxt-long;
       prv-long = y .prv-long;
-      below = end-below g v f (length aid) (below-f y jn);
+      below = end-below g v f (length aid) (below-f y jn own);
       count = omega (arith, told .counted, short);
       hoop-below = λ h. let k : 0 < length l = omega (arith, told .counted) in (
         subst (λ x. x < 2 * length aid) (sym (told .headed k)) (end-in 0 k),
@@ -137,37 +138,41 @@ module _ {ax ay bx by : List ℤ} {aid state here : List ℕ} {v : ℕ} {home : 
 
   -- ---- what they leave
   pub record Step (o : Outcome) : Type 0 where
-    pub entered : Entered ax ay bx by aid state here v home (o .nxt) (o .prv) j (o .taken)
-    pub kept-nxt : KeptBut aid here v nxt (o .nxt)
-    pub kept-prv : KeptBut aid here v prv (o .prv)
+    pub entered : Entered ax ay bx by aid bid state here v home (o .nxt) (o .prv) j (o .taken)
+    pub kept-nxt : ElseKept aid bid v nxt (o .nxt)
+    pub kept-prv : ElseKept aid bid v prv (o .prv)
 
   -- one more entry has been taken
   taken-one : (nxt′ prv′ : List ℕ) (hoop′ : Hoop) → length nxt′ ≡ length nxt → length prv′ ≡ length prv
-      → clashAt (pointAt ax ay) (pointAt bx by) (nodeAt aid) state here v j ≡ false
-      → Held g state v (take j here ++ (f ∷ [])) nxt′ prv′ hoop′ → Laying ax ay bx by aid state here v home nxt′ prv′ (j + 1) hoop′
+      → wrongAt ax ay bx by aid bid state here v j ≡ false
+      → Held g state v (take j here ++ (f ∷ [])) nxt′ prv′ hoop′ → Laying ax ay bx by aid bid state here v home nxt′ prv′ (j + 1) hoop′
   taken-one nxt′ prv′ hoop′ n p c h = record {
     points = y .points;
     grids = y .grids;
     strict = y .strict;
+    same = y .same;
     states = y .states;
     few = y .few;
     nxt-long = omega (arith, y .nxt-long);
     prv-long = omega (arith, y .prv-long);
-    below = y .below;
+    first-below = y .first-below;
     home-is = y .home-is;
-    clear = below-more (λ k. clashAt (pointAt ax ay) (pointAt bx by) (nodeAt aid) state here v k ≡ false) j (y .clear) c;
+    clear = below-more (λ k. wrongAt ax ay bx by aid bid state here v k ≡ false) j (y .clear) c;
     held = subst (λ t. Held g state v t nxt′ prv′ hoop′) (take-more here j jn) h;
   }
 
-  -- only ends of the entries have been written
-  kept-off : (old new : List ℕ) → KeptOff g v (f ∷ l) old new → KeptBut aid here v old new
-  kept-off old new k h d = k h (λ x m. ⊎-elim (λ (p : x ≡ f). λ q. d j jn (q ∙ ap e p))
-      (λ i q. let n = entry-of y jn x i in d (n .place) (omega (arith, n .early)) (q ∙ ap e (sym (n .is)))) (List·Memᴰ·cases-cons m))
+  -- only ends at node v have been written
+  at-node : (x : ℕ) → stray aid bid v x ≡ false → endNode aid bid (e x) ≡ v
+  at-node x n = end-node (graphOf (lent ax ay bx by aid bid [] []) []) v x (link-there aid bid v x n)
+
+  kept-off : (old new : List ℕ) → KeptOff g v (f ∷ l) old new → ElseKept aid bid v old new
+  kept-off old new k h d = k h (λ x m q. d (subst (λ z. endNode aid bid z ≡ v) (sym q) (⊎-elim
+      (λ (p : x ≡ f). subst (λ z. endNode aid bid (e z) ≡ v) (sym p) (at-node f own)) (λ i. at-node x (own-x y jn own x i)) (List·Memᴰ·cases-cons m))))
 
   module _ (same : differ home (endAt (pointAt ax ay) (pointAt bx by) (nodeAt aid) v f) ≡ false) where
     -- a skipped entry changes nothing
-    pub skip-entry : getD state f 0 ≡ 1 → standsBefore here j f ≡ false → Laying ax ay bx by aid state here v home nxt prv (j + 1) hoop
-    skip-entry s n = taken-one nxt prv hoop refl refl (no-clash-skipped y jn same s n) (record {
+    pub skip-entry : getD state f 0 ≡ 1 → standsBefore here j f ≡ false → Laying ax ay bx by aid bid state here v home nxt prv (j + 1) hoop
+    skip-entry s n = taken-one nxt prv hoop refl refl (right-skipped y jn own same s n) (record {
       links = l;
       stood = record { ring = take-skipped f (st .ring) s; linked = st .linked; marked = st .marked; last = st .last };
       told = told;
@@ -178,25 +183,25 @@ module _ {ax ay bx by : List ℤ} {aid state here : List ℕ} {v : ℕ} {home : 
       put-step : (order : (x : ℕ) → Mem x l → InOrder g v x f ⊎ InOrder g v f x) → (o : Outcome)
           → (Ready g v (length aid) nxt prv l f → Grown g state v (take j here ++ (f ∷ [])) nxt prv (f ∷ l) o) → Step o
       put-step order o grow =
-          let new = not-among g v f l (forward-f y jn) order in
+          let new = not-among g v f l (forward-f y jn own) order in
           let w = grow (record {
             few = y .few;
             nxt-long = y .nxt-long;
             prv-long = y .prv-long;
-            forward = λ x m. ⊎-elim (λ (p : x ≡ f). subst (Forward g) (sym p) (forward-f y jn)) (forward-x y jn x) (List·Memᴰ·cases-cons m);
-            below = λ x m. ⊎-elim (λ (p : x ≡ f). subst (λ z. z < length aid) (sym p) (below-f y jn)) (below-x y jn x) (List·Memᴰ·cases-cons m);
+            forward = λ x m. ⊎-elim (λ (p : x ≡ f). subst (Forward g) (sym p) (forward-f y jn own)) (forward-x y jn own x) (List·Memᴰ·cases-cons m);
+            below = λ x m. ⊎-elim (λ (p : x ≡ f). subst (λ z. z < length aid) (sym p) (below-f y jn own)) (below-x y jn own x) (List·Memᴰ·cases-cons m);
             new = new;
           }) in
           record {
-            entered = subst (Entered ax ay bx by aid state here v home (o .nxt) (o .prv) j) (sym (w .makes-it))
-                (taken-one (o .nxt) (o .prv) (w .hoop) (w .nxt-len) (w .prv-len) (no-clash y jn unskipped order new same) (w .held));
+            entered = subst (Entered ax ay bx by aid bid state here v home (o .nxt) (o .prv) j) (sym (w .makes-it))
+                (taken-one (o .nxt) (o .prv) (w .hoop) (w .nxt-len) (w .prv-len) (right-ordered y jn own unskipped order new same) (w .held));
             kept-nxt = kept-off nxt (o .nxt) (w .kept-nxt);
             kept-prv = kept-off prv (o .prv) (w .kept-prv);
           }
 
       -- the order of ends is that of links
       after-f : (x : ℕ) → Mem x l → Before (pointAt ax ay) (pointAt bx by) home (e f) (e x) → InOrder g v f x
-      after-f x m t = in-order g v home f x (home-f y jn same) (home-x y jn x m) t
+      after-f x m t = in-order g v home f x (home-f y jn own same) (home-x y jn own x m) t
 
       first-step : Placed (pointAt ax ay) (pointAt bx by) home e l (e f) First → Step (putEnd nxt prv hoop First (e f))
       first-step p =
@@ -218,8 +223,8 @@ module _ {ax ay bx by : List ℤ} {aid state here : List ℕ} {v : ℕ} {home : 
           (subst (λ m. Told g v m hoop) is told) ring))
         where
           forward : (x : ℕ) → Mem x (f ∷ (s ++ (r ∷ t))) → Forward g x
-          forward x m = ⊎-elim (λ (p : x ≡ f). subst (Forward g) (sym p) (forward-f y jn))
-              (λ i. forward-x y jn x (subst (Mem x) (sym is) i)) (List·Memᴰ·cases-cons m)
+          forward x m = ⊎-elim (λ (p : x ≡ f). subst (Forward g) (sym p) (forward-f y jn own))
+              (λ i. forward-x y jn own x (subst (Mem x) (sym is) i)) (List·Memᴰ·cases-cons m)
 
           ring : RingOf g state v (take j here ++ (f ∷ [])) (s ++ (r ∷ (f ∷ t)))
           ring = take-after f s r t (subst (RingOf g state v (take j here)) is (st .ring)) unskipped forward first rest
@@ -228,7 +233,7 @@ module _ {ax ay bx by : List ℤ} {aid state here : List ℕ} {v : ℕ} {home : 
       after-step h p =
           subst (λ x. Step (putEnd nxt prv hoop (After x) (e f))) (sym (p .here))
           (behind-step (take i l) r (drop (suc i) l) (split-at l i 0 (p .within))
-          (in-order g v home r f (home-x y jn r in-r) (home-f y jn same)
+          (in-order g v home r f (home-x y jn own r in-r) (home-f y jn own same)
           (subst (λ x. Before (pointAt ax ay) (pointAt bx by) home x (e f)) (p .here) (p .first))) rest)
         where
           i : ℕ
@@ -254,8 +259,8 @@ module _ {ax ay bx by : List ℤ} {aid state here : List ℕ} {v : ℕ} {home : 
       place-step Alike p =
           let m = member 0 l (p .place) (p .within) in
           record {
-            entered = clash-alike y jn unskipped (getD l (p .place) 0) m
-                (run-alike g v home (getD l (p .place) 0) f (home-x y jn _ m) (home-f y jn same) (forward-x y jn _ m) (forward-f y jn) (p .parallel));
+            entered = wrong-alike y jn own unskipped (getD l (p .place) 0) m
+                (run-alike g v home (getD l (p .place) 0) f (home-x y jn own _ m) (home-f y jn own same) (forward-x y jn own _ m) (forward-f y jn own) (p .parallel));
             kept-nxt = λ h d. refl;
             kept-prv = λ h d. refl;
           }
@@ -263,7 +268,7 @@ module _ {ax ay bx by : List ℤ} {aid state here : List ℕ} {v : ℕ} {home : 
   -- ---- the same of a number q that is f's end, as the code has it
   module _ (q : ℕ) (is : q ≡ e f) where
     pub end-link-below : q / 2 < length ax
-    end-link-below = subst (λ x. x / 2 < length ax) (sym is) (omega (arith, end-link g v f, below-f y jn, y .points .ax-long))
+    end-link-below = subst (λ x. x / 2 < length ax) (sym is) (omega (arith, end-link g v f, below-f y jn own, y .points .ax-long))
 
     module _ (place : Place) (p : Placed (pointAt ax ay) (pointAt bx by) home e l q place) where
       placed : Placed (pointAt ax ay) (pointAt bx by) home e l (e f) place

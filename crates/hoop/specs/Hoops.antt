@@ -2,7 +2,7 @@
 -- what linking it leaves, and what is known once the first entries have been taken.
 use Prim.Native.Nat.{ℕ, _+_, _*_, _-_, _≤_, _<_}
 use mathlib.Core.Path.{_≡_}
-use mathlib.Core.Bool.{true}
+use mathlib.Core.Bool.{Bool, true, _||_}
 use mathlib.Core.List.{List, [], _∷_}
 use lib.Dec.{eqb}
 use lib.IntN.{ℤ, pos}
@@ -15,12 +15,12 @@ use Rattle.turn.specs.declared.Vector.{Vector}
 use Rattle.turn.specs.Limits.{maxLinks}
 use Rattle.turn.specs.Points.{before, fromTo, cross}
 use Rattle.graph.specs.Graph.{Graph, pointAt}
-use Rattle.graph.specs.Checks.{nodeAt, endAt}
+use Rattle.graph.specs.Checks.{nodeAt, endAt, stray}
 use Rattle.graph.specs.Quick.{clashAt}
-use Rattle.graph.specs.Known.{Points, Grids, Below}
+use Rattle.graph.specs.Known.{Points, Grids}
 use Rattle.hoop.specs.Links.{linksOf}
 use Rattle.next.specs.Choice.{Mem}
-use Rattle.rings.specs.Ends.{aEnd, bEnd, linkOf, isA, endOf}
+use Rattle.rings.specs.Ends.{linkOf, isA, endOf}
 use Rattle.rings.specs.RingOrder.{inTurn}
 use Rattle.rings.specs.Linked.{Linked}
 use Rattle.rings.specs.Climb.{AtLast}
@@ -169,28 +169,28 @@ pub record Held (g : Graph) (state : List ℕ) (v : ℕ) (taken nxt prv : List �
   pub stood : Stood g state v taken nxt prv links
   pub told : Told g v links hoop
 
-module _ (ax ay bx by : List ℤ) (aid state here : List ℕ) (v : ℕ) (home : Point) where
+-- entry i of node v is no link with an end there, or clashes with the first entry or an earlier one
+abbrev pub wrongAt : List ℤ → List ℤ → List ℤ → List ℤ → List ℕ → List ℕ → List ℕ → List ℕ → ℕ → ℕ → Bool
+wrongAt ax ay bx by aid bid state here v i =
+    stray aid bid v (getD here i 0) || clashAt (pointAt ax ay) (pointAt bx by) (nodeAt aid) state here v i
+
+module _ (ax ay bx by : List ℤ) (aid bid state here : List ℕ) (v : ℕ) (home : Point) where
   -- the first j entries of node v have been taken; `home` is the first one's point there
   pub record Laying (nxt prv : List ℕ) (j : ℕ) (hoop : Hoop) : Type 0 where
     pub points : Points ax ay bx by (length aid)
     pub grids : Grids ax ay bx by (length aid)
     pub strict : (k : ℕ) → k < length aid → before (pointAt ax ay k) (pointAt bx by k) ≡ true
+    pub same : length bid ≡ length aid
     pub states : length state ≡ length aid
     pub few : length aid ≤ maxLinks
     pub nxt-long : 2 * length aid ≤ length nxt
     pub prv-long : 2 * length aid ≤ length prv
-    pub below : Below here (length aid)
+    pub first-below : getD here 0 0 < length aid
     pub home-is : home ≡ endAt (pointAt ax ay) (pointAt bx by) (nodeAt aid) v (getD here 0 0)
-    pub clear : None (clashAt (pointAt ax ay) (pointAt bx by) (nodeAt aid) state here v) j
+    pub clear : None (wrongAt ax ay bx by aid bid state here v) j
     pub held : Held (linksOf ax ay bx by aid) state v (take j here) nxt prv hoop
 
   -- what becomes of entry j
   abbrev pub Entered : List ℕ → List ℕ → ℕ → Taken → Type 0
-  Entered nxt prv j Wrong = clashAt (pointAt ax ay) (pointAt bx by) (nodeAt aid) state here v j ≡ true
+  Entered nxt prv j Wrong = wrongAt ax ay bx by aid bid state here v j ≡ true
   Entered nxt prv j (Makes hoop) = Laying nxt prv (j + 1) hoop
-
--- a list by ends is as it was but for the ends at node v of its entries
-abbrev pub KeptBut : List ℕ → List ℕ → ℕ → List ℕ → List ℕ → Type 0
-KeptBut aid here v old new = (h : ℕ)
-    → ((i : ℕ) → i < length here → h ≡ pick (eqb (getD aid (getD here i 0) 0) v) (aEnd (getD here i 0)) (bEnd (getD here i 0)) → ⊥)
-    → getD new h 0 ≡ getD old h 0

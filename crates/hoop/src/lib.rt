@@ -1,6 +1,6 @@
 // The ring of a `Cross`: its entries are checked one after the other (checks 5 to 7), and each unskipped end is linked at its place.
 ghost use mathlib.Core.Path.{_≡_};
-ghost use mathlib.Core.Bool.{true, false};
+ghost use mathlib.Core.Bool.{true, false, _||_};
 ghost use mathlib.Core.List.{List};
 ghost use Prim.Native.Nat.{ℕ, _*_, _/_, _<_, _≤_};
 ghost use lib.ListN.{length, set};
@@ -8,16 +8,15 @@ ghost use Rattle.laws.specs.Test.{pick};
 ghost use Rattle.laws.specs.Lowest.{some};
 ghost use Rattle.turn.specs.Limits.{maxLinks};
 ghost use Rattle.turn.specs.declared.Point.{Point};
-ghost use Rattle.turn.specs.Points.{OnGrid, Short};
+ghost use Rattle.turn.specs.Points.{OnGrid, Short, differ};
 ghost use Rattle.graph.specs.Graph.{lent, graphOf, pointAt, part};
-ghost use Rattle.graph.specs.Checks.{nodeAt, strayIn};
+ghost use Rattle.graph.specs.Checks.{nodeAt, endAt, stray, strayIn};
 ghost use Rattle.graph.specs.Quick.{standsBefore, clashAt};
 ghost use Rattle.graph.specs.Known.{Points, Grids, Runs};
 ghost use Rattle.rings.specs.Field.{LaidCross, ElseKept};
 ghost use Rattle.hoop.specs.declared.Place.the-variants.{First, After};
 ghost use Rattle.hoop.specs.declared.Taken.the-variants.{Makes};
-ghost use Rattle.hoop.specs.Hoops.{farPoint, wayOf, Stands, Backed, Sought, Placed, Fits, after, putEnd, Laying, Entered, KeptBut};
-use check_lists::stray_in;
+ghost use Rattle.hoop.specs.Hoops.{farPoint, wayOf, Stands, Backed, Sought, Placed, Fits, after, putEnd, Laying, Entered};
 use graph::end_at;
 use graph::point_at;
 use rings::end_of;
@@ -236,13 +235,44 @@ fn stands_before(here: &[u32], j: usize, x: usize) -> bool
     stands
 }
 
-// Entry j of node v is checked against the earlier ones, and linked with them where it is unskipped; `home` is the first entry's point.
+// Checks 5 and 6: whether f is no link with an end at node v, or that end has another point than `home`.
+fn misses(
+    ax: &[i32],
+    ay: &[i32],
+    bx: &[i32],
+    by: &[i32],
+    aid: &[u32],
+    bid: &[u32],
+    home: Point,
+    v: usize,
+    f: usize,
+) -> bool
+    requires { ⌜ Points (now ax) (now ay) (now bx) (now by) (length (now aid)) ⌝ }
+    requires { ⌜ length (now bid) ≡ length (now aid) ⌝ }
+    ensures { λ r. ⌜ (let a : ℕ → Point = pointAt (now (ax .entry)) (now (ay .entry)) in
+        let b : ℕ → Point = pointAt (now (bx .entry)) (now (by .entry)) in
+        r ≡ stray (now (aid .entry)) (now (bid .entry)) v f || differ home (endAt a b (nodeAt (now (aid .entry))) v f)) ⌝ }
+{
+    if aid.len() <= f {
+        return true;
+    }
+    if wide(aid[f]) == v {
+        return differ(home, point_at(ax, ay, f));
+    }
+    if wide(bid[f]) == v {
+        return differ(home, point_at(bx, by, f));
+    }
+    true
+}
+
+// Entry j of node v is checked, also against the earlier ones, and linked with them where it is unskipped; `home` is the first entry's point.
 fn lay_entry(
     ax: &[i32],
     ay: &[i32],
     bx: &[i32],
     by: &[i32],
     aid: &[u32],
+    bid: &[u32],
     state: &[u8],
     here: &[u32],
     v: usize,
@@ -252,15 +282,15 @@ fn lay_entry(
     home: Point,
     j: usize,
 ) -> Taken
-    requires { ⌜ Laying (now ax) (now ay) (now bx) (now by) (now aid) (now state) (now here) v home (now nxt) (now prv) j hoop ⌝ }
+    requires { ⌜ Laying (now ax) (now ay) (now bx) (now by) (now aid) (now bid) (now state) (now here) v home (now nxt) (now prv) j hoop ⌝ }
     requires { ⌜ j < length (now here) ⌝ }
-    ensures { λ r. ⌜ Entered (now (ax .entry)) (now (ay .entry)) (now (bx .entry)) (now (by .entry)) (now (aid .entry)) (now (state .entry))
-        (now (here .entry)) v home (now (nxt .exit)) (now (prv .exit)) j r ⌝ }
-    ensures { λ _. ⌜ (KeptBut (now (aid .entry)) (now (here .entry)) v (now (nxt .entry)) (now (nxt .exit)))
-        × (KeptBut (now (aid .entry)) (now (here .entry)) v (now (prv .entry)) (now (prv .exit))) ⌝ }
+    ensures { λ r. ⌜ Entered (now (ax .entry)) (now (ay .entry)) (now (bx .entry)) (now (by .entry)) (now (aid .entry)) (now (bid .entry))
+        (now (state .entry)) (now (here .entry)) v home (now (nxt .exit)) (now (prv .exit)) j r ⌝ }
+    ensures { λ _. ⌜ (ElseKept (now (aid .entry)) (now (bid .entry)) v (now (nxt .entry)) (now (nxt .exit)))
+        × (ElseKept (now (aid .entry)) (now (bid .entry)) v (now (prv .entry)) (now (prv .exit))) ⌝ }
 {
     let f = wide(here[j]);
-    if differ(home, end_at(ax, ay, bx, by, aid, v, f)) {
+    if misses(ax, ay, bx, by, aid, bid, home, v, f) {
         return Taken::Wrong;
     }
     if state[f] == 1 {
@@ -304,10 +334,11 @@ pub fn lay_cross(
     ensures { λ _. ⌜ (ElseKept (now (aid .entry)) (now (bid .entry)) v (now (nxt .entry)) (now (nxt .exit)))
         × (ElseKept (now (aid .entry)) (now (bid .entry)) v (now (prv .entry)) (now (prv .exit))) ⌝ }
 {
-    if stray_in(aid, bid, here, v) {
+    let first = wide(here[0]);
+    if aid.len() <= first {
         return true;
     }
-    let home = end_at(ax, ay, bx, by, aid, v, wide(here[0]));
+    let home = end_at(ax, ay, bx, by, aid, v, first);
     let mut hoop = Hoop {
         head: 0,
         tail: 0,
@@ -315,7 +346,22 @@ pub fn lay_cross(
     };
     let mut j = 0;
     while j < here.len() {
-        match lay_entry(ax, ay, bx, by, aid, state, here, v, nxt, prv, hoop, home, j) {
+        match lay_entry(
+            ax,
+            ay,
+            bx,
+            by,
+            aid,
+            bid,
+            state,
+            here,
+            v,
+            nxt,
+            prv,
+            hoop,
+            home,
+            j,
+        ) {
             Taken::Wrong => {
                 return true;
             }
