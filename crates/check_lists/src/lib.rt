@@ -62,7 +62,7 @@ fn stray(aid: &[u32], bid: &[u32], v: usize, e: usize) -> bool
 }
 
 // Whether node v, with these entries, has such an e.
-pub fn stray_in(aid: &[u32], bid: &[u32], here: &[u32], v: usize) -> bool
+fn stray_in(aid: &[u32], bid: &[u32], here: &[u32], v: usize) -> bool
     requires { ⌜ length (now bid) ≡ length (now aid) ⌝ }
     ensures { λ r. ⌜ r ≡ strayIn (now (aid .entry)) (now (bid .entry)) (now (here .entry)) v ⌝ }
 {
