@@ -260,7 +260,8 @@ module _ {ax ay bx by : List ℤ} {aid bid state here : List ℕ} {v : ℕ} {hom
           let m = member 0 l (p .place) (p .within) in
           record {
             entered = wrong-alike y jn own unskipped (getD l (p .place) 0) m
-                (run-alike g v home (getD l (p .place) 0) f (home-x y jn own _ m) (home-f y jn own same) (forward-x y jn own _ m) (forward-f y jn own) (p .parallel));
+                (run-alike g v home (getD l (p .place) 0) f (home-x y jn own _ m) (home-f y jn own same) (forward-x y jn own _ m)
+                (forward-f y jn own) (p .parallel));
             kept-nxt = λ h d. refl;
             kept-prv = λ h d. refl;
           }

@@ -5,7 +5,7 @@ use Rattle.turn.specs.Points.{fromTo, cross}
 use Rattle.turn.specs.declared.Point.{Point}
 use Rattle.graph.specs.Graph.{pointAt}
 use Prim.Native.Nat.{ℕ}
-use Rattle.hoop.specs.Hoops.{wayOf}
+use Rattle.hoop.specs.Hoops.{farPoint, wayOf}
 use Rattle.hoop.proofs.Ways.{unlike-earlier, unlike-later, like-level, like-earlier, like-later, far-grid}
 use Rattle.hoop.proofs.compare.Statement.{statement}
 use Rattle.hoop.proofs.compare.Tie as tie
@@ -42,7 +42,8 @@ product-is : (c : tie.After-cross-product) → let s = start c in
 product-is c =
     let s = start c in
     c .cross-product .ensures .0
-    ∙ ap₂ cross (c .before .between .ensures .0 ∙ ap (fromTo (s .args .home)) (c .before .before .far-point .ensures)) (s .pre .1 .1 .1)
+    ∙ ap₂ cross (c .before .between .ensures .0
+    ∙ ap (fromTo (s .args .home)) {y = farPoint (a s) (b s) (s .args .h)} (c .before .before .far-point .ensures)) (s .pre .1 .1 .1)
 
 returns-3 : tie.Need-returns-3
 returns-3 c =
