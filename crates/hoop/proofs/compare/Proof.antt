@@ -23,7 +23,7 @@ returns-2 : tie.Need-returns-2
 returns-2 c = let s = c .before .before in unlike-later (a s) (b s) _ _ _ (c .before .if1 .taken) (c .if2 .left)
 
 far-point-requires : tie.Need-far-point-requires
-far-point-requires c κs = search needs
+far-point-requires c κs = (c .before .pre .0, c .before .pre .1 .1 .0 .0)
 
 between-requires : tie.Need-between-requires
 between-requires c κs =
@@ -31,7 +31,7 @@ between-requires c κs =
     (s .pre .1 .1 .0 .1, rw (c .far-point .ensures) (far-grid (a s) (b s) _ _ (s .pre .1 .0 .a-grid) (s .pre .1 .0 .b-grid) (s .pre .1 .1 .0 .0)))
 
 cross-product-requires : tie.Need-cross-product-requires
-cross-product-requires c κs = search needs
+cross-product-requires c κs = (c .between .ensures .1, c .before .before .before .pre .1 .1 .0 .2)
 
 abbrev start : tie.After-cross-product → tie.Start
 start c = c .before .before .before .before

@@ -33,10 +33,10 @@ mul-wide : tie.Need-mul-wide
 mul-wide c = search needs
 
 shared-slice-read-wide : tie.Need-shared-slice-read-wide
-shared-slice-read-wide c = search needs
+shared-slice-read-wide c = c .before .before .before .before .before .before .before .pre .1
 
 wide-requires : tie.Need-wide-requires
-wide-requires c κs = search needs
+wide-requires c κs = tt
 
 abbrev start : tie.After-wide → tie.Start
 start c = c .before .before .before .before .before .before .before .before
