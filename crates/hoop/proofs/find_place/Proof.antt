@@ -86,7 +86,7 @@ shared-slice-read-wide : tie.Need-shared-slice-read-wide Inv-loop μ-loop
 shared-slice-read-wide c = omega (arith, below (c .before .before .before .before), start (c .before .before .before .before) .pre .1 .1 .1 .long)
 
 wide-requires : tie.Need-wide-requires Inv-loop μ-loop
-wide-requires c κs = search needs
+wide-requires c κs = tt
 
 sub-i : tie.Need-sub-i Inv-loop μ-loop
 sub-i c = omega arith

@@ -61,7 +61,7 @@ sub-wide : tie.Need-sub-wide
 sub-wide c = let d = c .before .before .before in d .before .before .before .pre .place-fits .2 (d .if1 .left) .0
 
 wide-requires : tie.Need-wide-requires
-wide-requires c κs = search needs
+wide-requires c κs = tt
 
 link-end-requires-2 : tie.Need-link-end-requires-2
 link-end-requires-2 c κs =
