@@ -67,7 +67,8 @@ right : (c : tie.Else1) → let s = begun c in
     (stray (s .args .aid .now) (s .args .bid .now) (s .args .v) (f s) ≡ false) × (differ (s .args .home) (point s (f s)) ≡ false)
 right c =
     let s = begun c in
-    or-false (stray (s .args .aid .now) (s .args .bid .now) (s .args .v) (f s)) (differ (s .args .home) (point s (f s))) (sym (asked (c .before)) ∙ c .if1 .left)
+    or-false (stray (s .args .aid .now) (s .args .bid .now) (s .args .v) (f s)) (differ (s .args .home) (point s (f s)))
+    (sym (asked (c .before)) ∙ c .if1 .left)
 
 own : (c : tie.Else1) → let s = begun c in stray (s .args .aid .now) (s .args .bid .now) (s .args .v) (f s) ≡ false
 own c = right c .0
