@@ -117,8 +117,8 @@ module _ {ax ay bx by : List ℤ} {aid bid state here : List ℕ} {v : ℕ} {hom
   module _ {nxt₀ prv₀ nxt prv : List ℕ} {hoop : Hoop} {j : ℕ} (c : Crossing ax ay bx by aid bid state here v home nxt₀ prv₀ nxt prv hoop j) where
     -- an entry has been taken
     pub cross-more : (nxt′ prv′ : List ℕ) (hoop′ : Hoop) → j < length here → length nxt′ ≡ length nxt → length prv′ ≡ length prv
-        → (t : Taken) → t ≡ Makes hoop′ → Entered ax ay bx by aid bid state here v home nxt′ prv′ j t → ElseKept aid bid v nxt nxt′ → ElseKept aid
-        bid v prv prv′
+        → (t : Taken) → t ≡ Makes hoop′ → Entered ax ay bx by aid bid state here v home nxt′ prv′ j t
+        → ElseKept aid bid v nxt nxt′ → ElseKept aid bid v prv prv′
         → Crossing ax ay bx by aid bid state here v home nxt₀ prv₀ nxt′ prv′ hoop′ (j + 1)
     cross-more nxt′ prv′ hoop′ h n p t is y kn kp = record {
       within = omega arith;

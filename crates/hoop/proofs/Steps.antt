@@ -216,8 +216,7 @@ module _ {ax ay bx by : List ℤ} {aid bid state here : List ℕ} {v : ℕ} {hom
       behind-step : (s : List ℕ) (r : ℕ) (t : List ℕ) → l ≡ s ++ (r ∷ t) → InOrder g v r f → BeforeAll (InOrder g v) f t
           → Step (putEnd nxt prv hoop (After (e r)) (e f))
       behind-step s r t is first rest =
-          put-step (λ x m. both-sides (InOrder g v) (s ++ (r ∷ [])) t f (subst (Sorted (InOrder g v)) (sym (append-assoc s (r ∷ []) (f ∷ t))) (ring
-          .sorted))
+          put-step (λ x m. both-sides (InOrder g v) (s ++ (r ∷ [])) t f (subst (Sorted (InOrder g v)) (sym (append-assoc s (r ∷ []) (f ∷ t))) (ring .sorted))
           x (subst (Mem x) (is ∙ sym (append-assoc s (r ∷ []) t)) m)) (putEnd nxt prv hoop (After (e r)) (e f))
           (λ h. subst (λ m. Grown g state v (take j here ++ (f ∷ [])) nxt prv (f ∷ m) (putEnd nxt prv hoop (After (e r)) (e f))) (sym is)
           (grown-after s r t (subst (λ m. Ready g v (length aid) nxt prv m f) is h) (subst (Stood g state v (take j here) nxt prv) is st)
@@ -261,8 +260,8 @@ module _ {ax ay bx by : List ℤ} {aid bid state here : List ℕ} {v : ℕ} {hom
           let m = member 0 l (p .place) (p .within) in
           record {
             entered = wrong-alike y jn own unskipped (getD l (p .place) 0) m
-                (run-alike g v home (getD l (p .place) 0) f (home-x y jn own _ m) (home-f y jn own same) (forward-x y jn own _ m) (forward-f y jn
-                own) (p .parallel));
+                (run-alike g v home (getD l (p .place) 0) f (home-x y jn own _ m) (home-f y jn own same) (forward-x y jn own _ m)
+                (forward-f y jn own) (p .parallel));
             kept-nxt = λ h d. refl;
             kept-prv = λ h d. refl;
           }

@@ -5,7 +5,7 @@ use Rattle.turn.specs.Points.{fromTo, cross}
 use Rattle.turn.specs.declared.Point.{Point}
 use Rattle.graph.specs.Graph.{pointAt}
 use Prim.Native.Nat.{ℕ}
-use Rattle.hoop.specs.Hoops.{wayOf}
+use Rattle.hoop.specs.Hoops.{farPoint, wayOf}
 use Rattle.hoop.proofs.Ways.{unlike-earlier, unlike-later, like-level, like-earlier, like-later, far-grid}
 use Rattle.hoop.proofs.compare.Statement.{statement}
 use Rattle.hoop.proofs.compare.Tie as tie
@@ -23,7 +23,7 @@ returns-2 : tie.Need-returns-2
 returns-2 c = let s = c .before .before in unlike-later (a s) (b s) _ _ _ (c .before .if1 .taken) (c .if2 .left)
 
 far-point-requires : tie.Need-far-point-requires
-far-point-requires c κs = search needs
+far-point-requires c κs = (c .before .pre .0, c .before .pre .1 .1 .0 .0)
 
 between-requires : tie.Need-between-requires
 between-requires c κs =
@@ -31,7 +31,7 @@ between-requires c κs =
     (s .pre .1 .1 .0 .1, rw (c .far-point .ensures) (far-grid (a s) (b s) _ _ (s .pre .1 .0 .a-grid) (s .pre .1 .0 .b-grid) (s .pre .1 .1 .0 .0)))
 
 cross-product-requires : tie.Need-cross-product-requires
-cross-product-requires c κs = search needs
+cross-product-requires c κs = (c .between .ensures .1, c .before .before .before .pre .1 .1 .0 .2)
 
 abbrev start : tie.After-cross-product → tie.Start
 start c = c .before .before .before .before
@@ -42,7 +42,8 @@ product-is : (c : tie.After-cross-product) → let s = start c in
 product-is c =
     let s = start c in
     c .cross-product .ensures .0
-    ∙ ap₂ cross (c .before .between .ensures .0 ∙ ap (fromTo (s .args .home)) (c .before .before .far-point .ensures)) (s .pre .1 .1 .1)
+    ∙ ap₂ cross (c .before .between .ensures .0
+    ∙ ap (fromTo (s .args .home)) {y = farPoint (a s) (b s) (s .args .h)} (c .before .before .far-point .ensures)) (s .pre .1 .1 .1)
 
 returns-3 : tie.Need-returns-3
 returns-3 c =

@@ -8,6 +8,7 @@ use Rattle.turn.specs.declared.Point.{Point}
 use Rattle.turn.specs.Points.{fromTo}
 use Rattle.graph.specs.Graph.{pointAt}
 use Rattle.rings.specs.Ends.{link-below}
+use Rattle.hoop.specs.Hoops.{farPoint}
 use Rattle.hoop.proofs.Ways.{far-grid}
 use Rattle.hoop.proofs.Search.{Searching, search-start, search-end, search-after, search-alike, search-on, search-below}
 use Rattle.hoop.proofs.find_place.Statement.{statement}
@@ -54,7 +55,7 @@ compare-requires c κs =
         s .pre .1 .0,
         (
           (link-below _ _ (below c), s .pre .1 .1 .0 .1, w .1),
-          w .0 ∙ ap (fromTo (s .args .home)) (c .before .before .before .far-point .ensures),
+          w .0 ∙ ap (fromTo (s .args .home)) {y = farPoint (a s) (b s) (s .args .q)} (c .before .before .before .far-point .ensures),
         ),
       ),
     )
@@ -85,7 +86,7 @@ shared-slice-read-wide : tie.Need-shared-slice-read-wide Inv-loop μ-loop
 shared-slice-read-wide c = omega (arith, below (c .before .before .before .before), start (c .before .before .before .before) .pre .1 .1 .1 .long)
 
 wide-requires : tie.Need-wide-requires Inv-loop μ-loop
-wide-requires c κs = search needs
+wide-requires c κs = tt
 
 sub-i : tie.Need-sub-i Inv-loop μ-loop
 sub-i c = omega arith

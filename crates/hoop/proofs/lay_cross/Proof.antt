@@ -21,10 +21,10 @@ abbrev μ-loop : tie.MeasureT-loop
 
 -- ---- the first entry
 shared-slice-read-wide : tie.Need-shared-slice-read-wide Inv-loop μ-loop
-shared-slice-read-wide c = search needs
+shared-slice-read-wide c = c .before .before .before .before .before .before .before .pre .1 .1 .1 .1 .1
 
 wide-requires : tie.Need-wide-requires Inv-loop μ-loop
-wide-requires c κs = search needs
+wide-requires c κs = tt
 
 abbrev start : tie.After-wide Inv-loop μ-loop → tie.Start Inv-loop μ-loop
 start c = c .before .before .before .before .before .before .before .before
@@ -52,8 +52,9 @@ loop-holds c =
     let x = begun d .args in
     let p = begun d .pre in
     cross-start (x .nxt .now) (x .prv .now) (p .0) (p .1 .0) (p .1 .1 .0) (p .1 .1 .1 .0) (p .1 .1 .1 .1 .0)
-    (subst (λ k. k < length (x .aid .now)) n (d .if1 .left)) (c .end-at .ensures
-    ∙ ap (endAt (pointAt (x .ax .now) (x .ay .now)) (pointAt (x .bx .now) (x .by .now)) (nodeAt (x .aid .now)) (x .v)) n)
+    (subst (λ k. k < length (x .aid .now)) n (d .if1 .left))
+    (subst (λ k. c .end-at .result ≡ endAt (pointAt (x .ax .now) (x .ay .now)) (pointAt (x .bx .now) (x .by .now)) (nodeAt (x .aid .now)) (x .v) k) n
+    (c .end-at .ensures))
 
 lay-entry-requires : tie.Need-lay-entry-requires Inv-loop μ-loop
 lay-entry-requires c κs = (c .before .before .before .loop .inv .laying, c .before .before .loop-test .taken)

@@ -2,7 +2,7 @@
 use native.Mathlib.Omega.{arith}
 use Prim.Native.Nat.{ℕ, _<_}
 use mathlib.Core.Path.{_≡_, refl, sym, ap, _∙_, subst}
-use mathlib.Core.Bool.{false, _||_}
+use mathlib.Core.Bool.{Bool, false, _||_}
 use lib.ListN.{length, getD}
 use borrow.Author.Needs.{needs}
 use Rattle.laws.specs.Test.{or-false}
@@ -33,10 +33,10 @@ mul-wide : tie.Need-mul-wide
 mul-wide c = search needs
 
 shared-slice-read-wide : tie.Need-shared-slice-read-wide
-shared-slice-read-wide c = search needs
+shared-slice-read-wide c = c .before .before .before .before .before .before .before .pre .1
 
 wide-requires : tie.Need-wide-requires
-wide-requires c κs = search needs
+wide-requires c κs = tt
 
 abbrev start : tie.After-wide → tie.Start
 start c = c .before .before .before .before .before .before .before .before
@@ -48,11 +48,11 @@ misses-requires c κs = (start c .pre .0 .points, start c .pre .0 .same)
 abbrev named : tie.After-misses → tie.After-wide
 named c = c .before
 
-asked : (c : tie.After-misses) → let s = start (named c) in
-    c .misses .result ≡ stray (s .args .aid .now) (s .args .bid .now) (s .args .v) (f s) || differ (s .args .home) (point s (f s))
-asked c =
-    let s = start (named c) in
-    c .misses .ensures ∙ ap (λ x. stray (s .args .aid .now) (s .args .bid .now) (s .args .v) x || differ (s .args .home) (point s x)) (named c .wide .ensures)
+abbrev miss : tie.Start → ℕ → Bool
+miss s x = stray (s .args .aid .now) (s .args .bid .now) (s .args .v) x || differ (s .args .home) (point s x)
+
+asked : (c : tie.After-misses) → c .misses .result ≡ miss (start (named c)) (f (start (named c)))
+asked c = subst (λ x. c .misses .result ≡ miss (start (named c)) x) (named c .wide .ensures) (c .misses .ensures)
 
 returns : tie.Need-returns
 returns c =
@@ -63,15 +63,18 @@ returns c =
 abbrev begun : tie.Else1 → tie.Start
 begun c = start (named (c .before))
 
-own : (c : tie.Else1) → let s = begun c in stray (s .args .aid .now) (s .args .bid .now) (s .args .v) (f s) ≡ false
-own c =
+right : (c : tie.Else1) → let s = begun c in
+    (stray (s .args .aid .now) (s .args .bid .now) (s .args .v) (f s) ≡ false) × (differ (s .args .home) (point s (f s)) ≡ false)
+right c =
     let s = begun c in
-    or-false (stray (s .args .aid .now) (s .args .bid .now) (s .args .v) (f s)) _ (sym (asked (c .before)) ∙ c .if1 .left) .0
+    or-false (stray (s .args .aid .now) (s .args .bid .now) (s .args .v) (f s)) (differ (s .args .home) (point s (f s)))
+    (sym (asked (c .before)) ∙ c .if1 .left)
+
+own : (c : tie.Else1) → let s = begun c in stray (s .args .aid .now) (s .args .bid .now) (s .args .v) (f s) ≡ false
+own c = right c .0
 
 same : (c : tie.Else1) → let s = begun c in differ (s .args .home) (point s (f s)) ≡ false
-same c =
-    let s = begun c in
-    or-false (stray (s .args .aid .now) (s .args .bid .now) (s .args .v) (f s)) _ (sym (asked (c .before)) ∙ c .if1 .left) .1
+same c = right c .1
 
 entry-is : (c : tie.Else1) → c .before .before .wide .result ≡ f (begun c)
 entry-is c = c .before .before .wide .ensures
@@ -118,7 +121,7 @@ abbrev unskipped : tie.After-end-of → tie.Else1
 unskipped c = c .before .before .before
 
 end-is : (c : tie.After-end-of) → let s = begun (unskipped c) in c .end-of .result ≡ end s (f s)
-end-is c = let d = unskipped c in c .end-of .ensures ∙ ap (end (begun d)) (entry-is d)
+end-is c = let d = unskipped c in subst (λ x. c .end-of .result ≡ end (begun d) x) (entry-is d) (c .end-of .ensures)
 
 find-place-requires : tie.Need-find-place-requires
 find-place-requires c κs =
@@ -147,10 +150,10 @@ put-end-requires c κs =
     fits-at (s .pre .0) (s .pre .1) (own u) _ (end-is (ended d)) (d .find-place .result) (placed d)
 
 same-length : tie.Need-same-length
-same-length c = search needs
+same-length c = c .before .before .before .before .put-end .kept .0
 
 same-length-2 : tie.Need-same-length-2
-same-length-2 c = search needs
+same-length-2 c = c .before .before .before .before .put-end .kept .1 .0
 
 returns-4 : tie.Need-returns-4
 returns-4 c =

@@ -28,10 +28,10 @@ mul-wide : tie.Need-mul-wide
 mul-wide c = search needs
 
 shared-slice-read-wide : tie.Need-shared-slice-read-wide
-shared-slice-read-wide c = search needs
+shared-slice-read-wide c = c .before .if1 .left
 
 wide-requires : tie.Need-wide-requires
-wide-requires c κs = search needs
+wide-requires c κs = tt
 
 -- ---- f is a link
 abbrev start : tie.Else1 → tie.Start
@@ -45,7 +45,7 @@ point-at-requires c κs =
     (omega (arith, d .if1 .left, p .ax-long), omega (arith, d .if1 .left, p .ay-long))
 
 differ-requires : tie.Need-differ-requires
-differ-requires c κs = search needs
+differ-requires c κs = tt
 
 returns-2 : tie.Need-returns-2
 returns-2 c =
@@ -70,7 +70,7 @@ shared-slice-read-wide-2 : tie.Need-shared-slice-read-wide-2
 shared-slice-read-wide-2 c = let d = linked (c .before) in omega (arith, d .if1 .left, start d .pre .1)
 
 wide-requires-2 : tie.Need-wide-requires-2
-wide-requires-2 c κs = search needs
+wide-requires-2 c κs = tt
 
 -- its b is
 point-at-requires-2 : tie.Need-point-at-requires-2
@@ -80,7 +80,7 @@ point-at-requires-2 c κs =
     (omega (arith, d .if1 .left, p .bx-long), omega (arith, d .if1 .left, p .by-long))
 
 differ-requires-2 : tie.Need-differ-requires-2
-differ-requires-2 c κs = search needs
+differ-requires-2 c κs = tt
 
 returns-3 : tie.Need-returns-3
 returns-3 c =

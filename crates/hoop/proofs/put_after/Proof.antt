@@ -7,10 +7,10 @@ use Rattle.hoop.proofs.put_after.Statement.{statement}
 use Rattle.hoop.proofs.put_after.Tie as tie
 
 cast-from : tie.Need-cast-from
-cast-from c = search needs
+cast-from c = let p = c .before .before .pre in omega (arith, p .below, p .few)
 
 add-from : tie.Need-add-from
-add-from c = search needs
+add-from c = let p = c .before .before .pre in omega (arith, p .below, p .few)
 
 -- there is a first and a last end
 held : (s : tie.Start) → (s .args .hoop .head < 2 * s .pre .n) × (s .args .hoop .tail < 2 * s .pre .n)
@@ -39,10 +39,10 @@ add-t20 : tie.Need-add-t20
 add-t20 c = search needs
 
 same-length : tie.Need-same-length
-same-length c = search needs
+same-length c = c .before .before .before .before .link-end .kept .0
 
 same-length-2 : tie.Need-same-length-2
-same-length-2 c = search needs
+same-length-2 c = c .before .before .before .before .link-end .kept .1 .0
 
 returns : tie.Need-returns
 returns c =
@@ -61,7 +61,7 @@ sub-wide : tie.Need-sub-wide
 sub-wide c = let d = c .before .before .before in d .before .before .before .pre .place-fits .2 (d .if1 .left) .0
 
 wide-requires : tie.Need-wide-requires
-wide-requires c κs = search needs
+wide-requires c κs = tt
 
 link-end-requires-2 : tie.Need-link-end-requires-2
 link-end-requires-2 c κs =
@@ -82,10 +82,10 @@ add-t21 : tie.Need-add-t21
 add-t21 c = search needs
 
 same-length-3 : tie.Need-same-length-3
-same-length-3 c = search needs
+same-length-3 c = c .before .before .before .before .link-end2 .kept .0
 
 same-length-4 : tie.Need-same-length-4
-same-length-4 c = search needs
+same-length-4 c = c .before .before .before .before .link-end2 .kept .1 .0
 
 returns-2 : tie.Need-returns-2
 returns-2 c =

@@ -28,10 +28,10 @@ returns : tie.Need-returns
 returns c = let a = c .before .before .before .before .args in ap (λ p. putEnd (a .nxt .now) (a .prv .now) (a .hoop) p (a .q)) (sym (c .enum-told .given .1))
 
 same-length : tie.Need-same-length
-same-length c = search needs
+same-length c = c .before .before .before .before .put-first .kept .0
 
 same-length-2 : tie.Need-same-length-2
-same-length-2 c = search needs
+same-length-2 c = c .before .before .before .before .put-first .kept .1 .0
 
 returns-2 : tie.Need-returns-2
 returns-2 c =
@@ -40,10 +40,10 @@ returns-2 c =
     c .before .before .before .before .put-first .ensures ∙ ap (λ p. putEnd (a .nxt .now) (a .prv .now) (a .hoop) p (a .q)) (sym (d .enum-told2 .given .1))
 
 same-length-3 : tie.Need-same-length-3
-same-length-3 c = search needs
+same-length-3 c = c .before .before .before .before .put-after .kept .0
 
 same-length-4 : tie.Need-same-length-4
-same-length-4 c = search needs
+same-length-4 c = c .before .before .before .before .put-after .kept .1 .0
 
 returns-3 : tie.Need-returns-3
 returns-3 c =

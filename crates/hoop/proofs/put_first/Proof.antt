@@ -8,16 +8,16 @@ use Rattle.hoop.proofs.put_first.Statement.{statement}
 use Rattle.hoop.proofs.put_first.Tie as tie
 
 cast-nxt : tie.Need-cast-nxt
-cast-nxt c = search needs
+cast-nxt c = let p = c .before .before .before .pre in omega (arith, p .below, p .few)
 
 add-nxt : tie.Need-add-nxt
-add-nxt c = search needs
+add-nxt c = let p = c .before .before .before .pre in omega (arith, p .below, p .few)
 
 mul-nxt : tie.Need-mul-nxt
 mul-nxt c = search needs
 
 slice-write-nxt : tie.Need-slice-write-nxt
-slice-write-nxt c = search needs
+slice-write-nxt c = let p = c .before .before .before .pre in omega (arith, p .below, p .nxt-long)
 
 cast-prv : tie.Need-cast-prv
 cast-prv c = search needs
@@ -26,7 +26,7 @@ mul-prv : tie.Need-mul-prv
 mul-prv c = search needs
 
 slice-write-prv : tie.Need-slice-write-prv
-slice-write-prv c = search needs
+slice-write-prv c = let p = c .before .before .before .pre in omega (arith, p .below, p .prv-long)
 
 same-length : tie.Need-same-length
 same-length c = search needs
@@ -73,10 +73,10 @@ add-t22 : tie.Need-add-t22
 add-t22 c = search needs
 
 same-length-3 : tie.Need-same-length-3
-same-length-3 c = search needs
+same-length-3 c = c .before .before .before .before .link-end .kept .0
 
 same-length-4 : tie.Need-same-length-4
-same-length-4 c = search needs
+same-length-4 c = c .before .before .before .before .link-end .kept .1 .0
 
 returns-2 : tie.Need-returns-2
 returns-2 c =
