@@ -1,4 +1,4 @@
--- What is laid at a node stays so while another node is laid.
+-- What is laid at a node stays so while the lists stay so at its ends: so while another node is laid.
 use Prim.Native.Nat.{ℕ, _≤_, _<_, _%_}
 use mathlib.Core.Path.{_≡_, refl, sym, ap, ap₂, _∙_, subst}
 use mathlib.Core.Bool.{Bool}
@@ -27,32 +27,32 @@ at-last-kept : (s t : ℕ → Bool) (l : List ℕ) → ((x : ℕ) → Mem x l �
 at-last-kept s t [] f h = tt
 at-last-kept s t (x ∷ l) f h = last-kept s t x l f h
 
--- ---- node u, while node v is laid
-module _ (lists : Lent) (top state : List ℕ) (u v : ℕ) (apart : u ≡ v → ⊥)
+-- ---- node u, while the lists stay as they are at its ends
+module _ (lists : Lent) (top state : List ℕ) (u : ℕ)
     (ends : (i : ℕ) → i < length (entriesOf lists u) → EndAt (lists .aId) (lists .bId) u (getD (entriesOf lists u) i 0))
-    (nxt prv lead nxt′ prv′ lead′ : List ℕ) (kn : ElseKept (lists .aId) (lists .bId) v nxt nxt′)
-    (kp : ElseKept (lists .aId) (lists .bId) v prv prv′) (kl : OthersKept (lists .aId) v lead lead′) where
+    (nxt prv lead nxt′ prv′ lead′ : List ℕ) (kn : (h : ℕ) → endNode (lists .aId) (lists .bId) h ≡ u → getD nxt′ h 0 ≡ getD nxt h 0)
+    (kp : (h : ℕ) → endNode (lists .aId) (lists .bId) h ≡ u → getD prv′ h 0 ≡ getD prv h 0)
+    (kl : (k : ℕ) → getD (lists .aId) k 0 ≡ u → getD lead′ k 0 ≡ getD lead k 0) where
   abbrev g : Graph
   g = graphOf lists top
 
-  -- an entry's end is there, and no end at node v
+  -- an entry's end is there
   entry-node : (k : ℕ) → Mem k (g .entries u) → endNode (lists .aId) (lists .bId) (endOf g u k) ≡ u
   entry-node k m =
       let p = place-of 0 (g .entries u) m in
       end-node g u k (subst (EndAt (lists .aId) (lists .bId) u) (p .here) (ends (p .place) (p .within)) .end)
 
   next-same : (k : ℕ) → Mem k (g .entries u) → getD nxt′ (endOf g u k) 0 ≡ getD nxt (endOf g u k) 0
-  next-same k m = kn (endOf g u k) (λ e. apart (sym (entry-node k m) ∙ e))
+  next-same k m = kn (endOf g u k) (entry-node k m)
 
   back-same : (k : ℕ) → Mem k (g .entries u) → getD prv′ (endOf g u k) 0 ≡ getD prv (endOf g u k) 0
-  back-same k m = kp (endOf g u k) (λ e. apart (sym (entry-node k m) ∙ e))
+  back-same k m = kp (endOf g u k) (entry-node k m)
 
   -- the entry that is named
   named-same : (k : ℕ) → g .aNode k ≡ u → named g lead′ nxt′ k ≡ named g lead nxt k
   named-same k i =
       ap₂ (λ (l h : ℕ). pick (eqb l 1) k (pick (eqb l 2) (linkOf h) (pick (clockwise (g .a (linkOf h)) (g .b (linkOf h)) (g .b k)) (linkOf h) k)))
-      (kl k (λ e. apart (sym i ∙ e)))
-      (kn (aEnd k) (λ e. apart (sym (a-end-node (lists .aId) (lists .bId) k ∙ i) ∙ e)))
+      (kl k i) (kn (aEnd k) (a-end-node (lists .aId) (lists .bId) k ∙ i))
 
   bridge-kept : (x y : ℕ) → g .entries u ≡ x ∷ (y ∷ []) → LaidBridge g u x y nxt lead → LaidBridge g u x y nxt′ lead′
   bridge-kept x y q b = record {
@@ -72,8 +72,18 @@ module _ (lists : Lent) (top state : List ℕ) (u v : ℕ) (apart : u ≡ v → 
         (λ k m. ap (leb wrapMark) (next-same k (c .ring .only k m .listed))) (c .last);
   }
 
-  pub laid-kept : Laid g state u nxt prv lead → Laid g state u nxt′ prv′ lead′
-  laid-kept l = record {
+  pub laid-still : Laid g state u nxt prv lead → Laid g state u nxt′ prv′ lead′
+  laid-still l = record {
     bridge = λ x y q. bridge-kept x y q (l .bridge x y q);
     cross = λ n. cross-kept (l .cross n);
   }
+
+-- ---- while node v is laid
+pub laid-kept : (lists : Lent) (top state : List ℕ) (u v : ℕ) → (u ≡ v → ⊥)
+    → ((i : ℕ) → i < length (entriesOf lists u) → EndAt (lists .aId) (lists .bId) u (getD (entriesOf lists u) i 0))
+    → (nxt prv lead nxt′ prv′ lead′ : List ℕ) → ElseKept (lists .aId) (lists .bId) v nxt nxt′
+    → ElseKept (lists .aId) (lists .bId) v prv prv′ → OthersKept (lists .aId) v lead lead′
+    → Laid (graphOf lists top) state u nxt prv lead → Laid (graphOf lists top) state u nxt′ prv′ lead′
+laid-kept lists top state u v apart ends nxt prv lead nxt′ prv′ lead′ kn kp kl =
+    laid-still lists top state u ends nxt prv lead nxt′ prv′ lead′ (λ h i. kn h (λ e. apart (sym i ∙ e))) (λ h i. kp h (λ e. apart (sym i ∙ e)))
+    (λ k i. kl k (λ e. apart (sym i ∙ e)))

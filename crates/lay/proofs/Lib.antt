@@ -4,3 +4,4 @@ mod Bridges
 mod Outcomes
 mod Kept
 mod Nodes
+mod Passes

@@ -1,7 +1,6 @@
--- A node that is laid, by its kind; and all nodes below one, as the loop over them keeps it.
-use Prim.Native.Nat.{ℕ, _+_, _-_, _≤_, _<_}
+-- A node that is laid, by its kind.
+use Prim.Native.Nat.{ℕ, _+_, _-_, _<_}
 use native.Mathlib.Omega.{arith}
-use native.Mathlib.Decide.{ℕ-discrete}
 use mathlib.Core.Path.{_≡_, refl, sym, ap, ap₂, _∙_, subst}
 use mathlib.Core.Bool.{Bool, true, false}
 use mathlib.Core.List.{List, [], _∷_}
@@ -9,17 +8,14 @@ use lib.IntN.{ℤ}
 use lib.ListN.{length, getD, drop}
 use lib.Seq.{getD-take, getD-drop}
 use borrow.Author.Tests.{eq-eqb, ne-eqb}
-use borrow.Author.Count.{below-none, below-more}
 use Rattle.laws.specs.Test.{pick, pick-true, pick-false}
-use Rattle.laws.specs.Lowest.{some, None, some-yes}
-use Rattle.graph.specs.Graph.{Lent, lent, Graph, graphOf, pointAt, part}
-use Rattle.graph.specs.Checks.{aOf, bOf, nodeAt, strayIn, entriesOf}
+use Rattle.laws.specs.Lowest.{some}
+use Rattle.graph.specs.Graph.{lent, Graph, graphOf, pointAt, part}
+use Rattle.graph.specs.Checks.{nodeAt, strayIn}
 use Rattle.graph.specs.Quick.{clashAt, bridgeWrong, nodeWrong}
 use Rattle.graph.specs.Passes.{Rising}
 use Rattle.graph.specs.Total.{part-length}
-use Rattle.graph.specs.Sound.{FineNode, fine-node}
-use Rattle.rings.specs.Field.{LaidBridge, LaidCross, Laid, ElseKept, OthersKept}
-use Rattle.lay.proofs.Kept.{laid-kept}
+use Rattle.rings.specs.Field.{LaidBridge, LaidCross, Laid}
 
 -- ---- one node, with the entries `here`
 module _ (g : Graph) (state : List ℕ) (v : ℕ) (nxt prv lead here : List ℕ) (q : g .entries v ≡ here) where
@@ -42,7 +38,7 @@ entry-at : (start list : List ℕ) (v i : ℕ) → i < getD start (v + 1) 0 - ge
 entry-at start list v i l = getD-take (getD start (v + 1) 0 - getD start v 0) (drop (getD start v 0) list) i 0 l ∙ getD-drop (getD start v 0) list i 0
 
 -- what a node's contract asks, of the answer r and the lists left, by the node's kind; its entries stand from `from` to before `to`
-module _ (ax ay bx by : List ℤ) (aId bId state start list : List ℕ) (v : ℕ) (r : Bool) (nxt prv lead : List ℕ)
+module _ (ax ay bx by : List ℤ) (aId bId state start list : List ℕ) (v : ℕ) (r : Bool) (nxt : List ℕ)
     (rising : Rising start list) (l : v < length start - 1) (from to : ℕ) (at : from ≡ getD start v 0) (end : to ≡ getD start (v + 1) 0) where
   abbrev Answers : Type 0
   Answers = r ≡ nodeWrong aId bId (pointAt ax ay) (pointAt bx by) (nodeAt aId) state (part start list v) v
@@ -50,8 +46,11 @@ module _ (ax ay bx by : List ℤ) (aId bId state start list : List ℕ) (v : ℕ
   abbrev graph : List ℕ → Graph
   graph = graphOf (lent ax ay bx by aId bId start list)
 
-  abbrev Lays : Type 0
-  Lays = r ≡ false → (top : List ℕ) → Laid (graph top) state v nxt prv lead
+  abbrev LaysBridge : List ℕ → Type 0
+  LaysBridge lead = r ≡ false → (prv top : List ℕ) → Laid (graph top) state v nxt prv lead
+
+  abbrev LaysCross : List ℕ → Type 0
+  LaysCross prv = r ≡ false → (lead top : List ℕ) → Laid (graph top) state v nxt prv lead
 
   first : to ≡ from + 2 → getD list from 0 ≡ getD (part start list v) 0 0
   first two = ap (λ (i : ℕ). getD list i 0) (omega arith) ∙ sym (entry-at start list v 0 (omega arith))
@@ -59,13 +58,13 @@ module _ (ax ay bx by : List ℤ) (aId bId state start list : List ℕ) (v : ℕ
   second : to ≡ from + 2 → getD list (from + 1) 0 ≡ getD (part start list v) 1 0
   second two = ap (λ (i : ℕ). getD list i 0) (omega arith) ∙ sym (entry-at start list v 1 (omega arith))
 
-  pub bridge-outcome : to ≡ from + 2 → (e f : ℕ) → e ≡ getD list from 0 → f ≡ getD list (from + 1) 0
+  pub bridge-outcome : (lead : List ℕ) → to ≡ from + 2 → (e f : ℕ) → e ≡ getD list from 0 → f ≡ getD list (from + 1) 0
       → r ≡ bridgeWrong aId bId (pointAt ax ay) (pointAt bx by) (nodeAt aId) state v e f
       → (r ≡ false → (start list top : List ℕ) → LaidBridge (graphOf (lent ax ay bx by aId bId start list) top) v e f nxt lead)
-      → Answers × Lays
-  bridge-outcome two e f p q w h = (
+      → Answers × LaysBridge lead
+  bridge-outcome lead two e f p q w h = (
     w ∙ ap₂ (bridgeWrong aId bId (pointAt ax ay) (pointAt bx by) (nodeAt aId) state v) p′ q′ ∙ sym (pick-true _ _ (eq-eqb (length here) 2 both)),
-    λ z top.
+    λ z prv top.
         node-bridge (graph top) state v nxt prv lead here refl both (subst (λ (x : ℕ). LaidBridge (graph top) v x (getD here 1 0) nxt lead) p′
         (subst (λ (y : ℕ). LaidBridge (graph top) v e y nxt lead) q′ (h z start list top))),
   )
@@ -82,15 +81,15 @@ module _ (ax ay bx by : List ℤ) (aId bId state start list : List ℕ) (v : ℕ
       q′ : f ≡ getD here 1 0
       q′ = q ∙ second two
 
-  pub cross-outcome : (to ≡ from + 2 → ⊥) → (here : List ℕ) → here ≡ part start list v
+  pub cross-outcome : (prv : List ℕ) → (to ≡ from + 2 → ⊥) → (here : List ℕ) → here ≡ part start list v
       → r ≡ pick (strayIn aId bId here v) true (some (clashAt (pointAt ax ay) (pointAt bx by) (nodeAt aId) state here v) (length here))
       → (r ≡ false → (start list top : List ℕ) → part start list v ≡ here
       → LaidCross (graphOf (lent ax ay bx by aId bId start list) top) state v nxt prv)
-      → Answers × Lays
-  cross-outcome n here i w h = (
+      → Answers × LaysCross prv
+  cross-outcome prv n here i w h = (
     w ∙ sym (pick-false _ _ (ne-eqb (length here) 2 many))
         ∙ ap (λ (m : List ℕ). nodeWrong aId bId (pointAt ax ay) (pointAt bx by) (nodeAt aId) state m v) i,
-    λ z top. node-cross (graph top) state v nxt prv lead here (sym i) many (h z start list top (sym i)),
+    λ z lead top. node-cross (graph top) state v nxt prv lead here (sym i) many (h z start list top (sym i)),
   )
     where
       many : length here ≡ 2 → ⊥
@@ -101,44 +100,3 @@ pub any-entry : {start list : List ℕ} → Rising start list → (v : ℕ) → 
     → 0 < length here
 any-entry {start} {list} h v l here e =
     subst (λ (n : List ℕ). 0 < length n) (sym e) (omega (arith, h .step v l, part-length h v l))
-
--- ---- all nodes
-module _ (lists : Lent) (state : List ℕ) where
-  abbrev wrong : ℕ → Bool
-  wrong u = nodeWrong (lists .aId) (lists .bId) (aOf lists) (bOf lists) (nodeAt (lists .aId)) state (entriesOf lists u) u
-
-  -- nothing is wrong with the nodes below v, they are laid, and no entry of another is named yet
-  pub record Passed (nxt prv lead : List ℕ) (v : ℕ) : Type 0 where
-    pub fine : None wrong v
-    pub laid : (top : List ℕ) (u : ℕ) → u < v → Laid (graphOf lists top) state u nxt prv lead
-    pub ahead : (k : ℕ) → v ≤ getD (lists .aId) k 0 → getD lead k 0 ≡ 0
-
-  pub passed-none : (nxt prv lead : List ℕ) → ((k : ℕ) → getD lead k 0 ≡ 0) → Passed nxt prv lead 0
-  passed-none nxt prv lead z = record {
-    fine = below-none _;
-    laid = λ top u l. absurd (omega arith);
-    ahead = λ k l. z k;
-  }
-
-  pub passed-more : {nxt prv lead nxt′ prv′ lead′ : List ℕ} (v : ℕ) → Passed nxt prv lead v → wrong v ≡ false
-      → ((top : List ℕ) → Laid (graphOf lists top) state v nxt′ prv′ lead′)
-      → ElseKept (lists .aId) (lists .bId) v nxt nxt′ → ElseKept (lists .aId) (lists .bId) v prv prv′ → OthersKept (lists .aId) v lead lead′
-      → Passed nxt′ prv′ lead′ (v + 1)
-  passed-more {nxt} {prv} {lead} {nxt′} {prv′} {lead′} v p w new kn kp kl = record {
-    fine = below-more _ _ (p .fine) w;
-    laid = λ top u l. at top u l (ℕ-discrete u v);
-    ahead = λ k l. kl k (λ e. omega arith) ∙ p .ahead k (omega arith);
-  }
-    where
-      fine : (u : ℕ) → u < v → FineNode (lists .aId) (lists .bId) (aOf lists) (bOf lists) (nodeAt (lists .aId)) state (entriesOf lists u) u
-      fine u b = fine-node (lists .aId) (lists .bId) (aOf lists) (bOf lists) (nodeAt (lists .aId)) state (entriesOf lists u) u (p .fine u b)
-
-      at : (top : List ℕ) (u : ℕ) → u < v + 1 → Dec (u ≡ v) → Laid (graphOf lists top) state u nxt′ prv′ lead′
-      at top u l (yes e) = subst (λ (x : ℕ). Laid (graphOf lists top) state x nxt′ prv′ lead′) (sym e) (new top)
-      at top u l (no n) =
-          let b : u < v = omega arith in
-          laid-kept lists top state u v n (fine u b .ends) nxt prv lead nxt′ prv′ lead′ kn kp kl (p .laid top u b)
-
-  -- by what the call for node v says
-  pub found-wrong : (m v : ℕ) → v < m → {nxt prv lead : List ℕ} → Passed nxt prv lead v → (r : Bool) → r ≡ wrong v → r ≡ true → true ≡ some wrong m
-  found-wrong m v l p r w e = sym (some-yes wrong m v l (p .fine) (sym w ∙ e))

@@ -17,6 +17,7 @@ ghost use Rattle.graph.specs.Known.{Points, Grids, Runs};
 ghost use Rattle.rings.specs.Ends.{aEnd, bEnd};
 ghost use Rattle.rings.specs.Field.{LaidBridge, Laid, ElseKept, OthersKept};
 ghost use Rattle.lay.specs.Stores.{paired, led};
+ghost use Rattle.lay.specs.Kinds.{BridgesLaid, CrossesLaid, BridgesKept};
 use graph::entries;
 use graph::point_at;
 use hoop::lay_cross;
@@ -24,6 +25,13 @@ use turn::between;
 use turn::cross_product;
 use turn::differ;
 use turn::wide;
+
+// What the pass over the `Bridge`s finds: something wrong; or nothing, and all nodes are `Bridge`s, or some are `Cross`es.
+enum Passed {
+    Wrong,
+    Bridges,
+    Crosses,
+}
 
 // From end p a walk goes on to end i, and from end q to end j.
 fn lay_pair(nxt: &mut [u32], p: usize, i: usize, q: usize, j: usize)
@@ -239,9 +247,8 @@ fn lay_bridge(
     lay_two_b(ax, ay, bx, by, bid, state, v, e, f, nxt)
 }
 
-// Checks 5 to 7 of node v: whether something is wrong. Where nothing is, its ends are laid. Most nodes are `Bridge`s, whose two entries
-// are read in their places: their part of the list is made for a `Cross` alone.
-fn lay_node(
+// Checks 5 to 7 of every `Bridge`. Where they find nothing wrong, the ends at each are laid. Its two entries are read in their places.
+fn lay_bridges(
     ax: &[i32],
     ay: &[i32],
     bx: &[i32],
@@ -251,42 +258,87 @@ fn lay_node(
     start: &[u32],
     list: &[u32],
     state: &[u8],
-    v: usize,
+    nxt: &mut [u32],
+    lead: &mut [u8],
+) -> Passed
+    requires { ⌜ Points (now ax) (now ay) (now bx) (now by) (length (now aid)) ⌝ }
+    requires { ⌜ Grids (now ax) (now ay) (now bx) (now by) (length (now aid)) ⌝ }
+    requires { ⌜ length (now state) ≡ length (now aid) ⌝ }
+    requires { ⌜ (Runs (now ax) (now ay) (now bx) (now by) (now aid) (now bid)) × (Rising (now start) (now list)) ⌝ }
+    requires { ⌜ (length (now aid) ≤ maxLinks) × (2 * length (now aid) ≤ length (now nxt)) × (length (now aid) ≤ length (now lead)) ⌝ }
+    requires { ⌜ ((k : ℕ) → getD (now lead) k 0 ≡ 0) ⌝ }
+    ensures { λ r. ⌜ BridgesLaid (lent (now (ax .entry)) (now (ay .entry)) (now (bx .entry)) (now (by .entry)) (now (aid .entry)) (now (bid .entry))
+        (now (start .entry)) (now (list .entry))) (now (state .entry)) (length (now (start .entry)) - 1) (now (nxt .exit)) (now (lead .exit)) r ⌝ }
+{
+    let m = start.len() - 1;
+    let mut crosses = false;
+    let mut from = 0;
+    let mut v = 0;
+    while v < m {
+        let to = wide(start[v + 1]);
+        if to != from + 2 {
+            crosses = true;
+            from = to;
+            v += 1;
+            continue;
+        }
+        let e = wide(list[from]);
+        let f = wide(list[from + 1]);
+        if lay_bridge(ax, ay, bx, by, aid, bid, state, v, e, f, nxt, lead) {
+            return Passed::Wrong;
+        }
+        from = to;
+        v += 1;
+    }
+    if crosses {
+        return Passed::Crosses;
+    }
+    Passed::Bridges
+}
+
+// Whether checks 5 to 7 find something wrong with some `Cross`. Where they find nothing, the ends at each are laid. In a loop of its own:
+// in the loop over the `Bridge`s `lay_cross` would take the registers of most nodes.
+fn lay_crosses(
+    ax: &[i32],
+    ay: &[i32],
+    bx: &[i32],
+    by: &[i32],
+    aid: &[u32],
+    bid: &[u32],
+    start: &[u32],
+    list: &[u32],
+    state: &[u8],
     nxt: &mut [u32],
     prv: &mut [u32],
-    lead: &mut [u8],
 ) -> bool
     requires { ⌜ Points (now ax) (now ay) (now bx) (now by) (length (now aid)) ⌝ }
     requires { ⌜ Grids (now ax) (now ay) (now bx) (now by) (length (now aid)) ⌝ }
     requires { ⌜ length (now state) ≡ length (now aid) ⌝ }
     requires { ⌜ (Runs (now ax) (now ay) (now bx) (now by) (now aid) (now bid)) × (Rising (now start) (now list)) ⌝ }
-    requires { ⌜ (length (now aid) ≤ maxLinks) × (2 * length (now aid) ≤ length (now nxt)) × (2 * length (now aid) ≤ length (now prv))
-        × (length (now aid) ≤ length (now lead)) ⌝ }
-    requires { ⌜ ((k : ℕ) → getD (now aid) k 0 ≡ v → getD (now lead) k 0 ≡ 0) ⌝ }
-    requires { ⌜ v < length (now start) - 1 ⌝ }
-    ensures { λ r. ⌜ (let a : ℕ → Point = pointAt (now (ax .entry)) (now (ay .entry)) in
-        let b : ℕ → Point = pointAt (now (bx .entry)) (now (by .entry)) in
-        r ≡ nodeWrong (now (aid .entry)) (now (bid .entry)) a b (nodeAt (now (aid .entry))) (now (state .entry))
-        (part (now (start .entry)) (now (list .entry)) v) v) ⌝ }
-    ensures { λ r. ⌜ (r ≡ false → (top : List ℕ) → Laid (graphOf (lent (now (ax .entry)) (now (ay .entry)) (now (bx .entry))
-        (now (by .entry)) (now (aid .entry)) (now (bid .entry)) (now (start .entry)) (now (list .entry))) top)
-        (now (state .entry)) v (now (nxt .exit)) (now (prv .exit)) (now (lead .exit))) ⌝ }
-    ensures { λ _. ⌜ (ElseKept (now (aid .entry)) (now (bid .entry)) v (now (nxt .entry)) (now (nxt .exit)))
-        × (ElseKept (now (aid .entry)) (now (bid .entry)) v (now (prv .entry)) (now (prv .exit)))
-        × (OthersKept (now (aid .entry)) v (now (lead .entry)) (now (lead .exit))) ⌝ }
+    requires { ⌜ (length (now aid) ≤ maxLinks) × (2 * length (now aid) ≤ length (now nxt)) × (2 * length (now aid) ≤ length (now prv)) ⌝ }
+    ensures { λ r. ⌜ CrossesLaid (lent (now (ax .entry)) (now (ay .entry)) (now (bx .entry)) (now (by .entry)) (now (aid .entry)) (now (bid .entry))
+        (now (start .entry)) (now (list .entry))) (now (state .entry)) (length (now (start .entry)) - 1) (now (nxt .exit)) (now (prv .exit)) r ⌝ }
+    ensures { λ _. ⌜ BridgesKept (lent (now (ax .entry)) (now (ay .entry)) (now (bx .entry)) (now (by .entry)) (now (aid .entry)) (now (bid .entry))
+        (now (start .entry)) (now (list .entry))) (now (nxt .entry)) (now (nxt .exit)) ⌝ }
 {
-    let from = wide(start[v]);
-    if wide(start[v + 1]) == from + 2 {
-        let e = wide(list[from]);
-        let f = wide(list[from + 1]);
-        return lay_bridge(ax, ay, bx, by, aid, bid, state, v, e, f, nxt, lead);
+    let m = start.len() - 1;
+    let mut from = 0;
+    let mut v = 0;
+    while v < m {
+        let to = wide(start[v + 1]);
+        if to == from + 2 {
+            from = to;
+            v += 1;
+            continue;
+        }
+        let here = entries(start, list, v);
+        if lay_cross(ax, ay, bx, by, aid, bid, state, here, v, nxt, prv) {
+            return true;
+        }
+        from = to;
+        v += 1;
     }
-    let here = entries(start, list, v);
-    // called at two places, `lay_cross` is compiled apart: in its place it would take the registers of the loop over `Bridge`s
-    if here.len() == 4 {
-        return lay_cross(ax, ay, bx, by, aid, bid, state, here, v, nxt, prv);
-    }
-    lay_cross(ax, ay, bx, by, aid, bid, state, here, v, nxt, prv)
+    false
 }
 
 // Whether checks 5 to 7 find something wrong with some node. Where they find nothing, the ends at every node are laid.
@@ -319,27 +371,9 @@ pub fn lay_nodes(
         (now (ay .entry)) (now (bx .entry)) (now (by .entry)) (now (aid .entry)) (now (bid .entry)) (now (start .entry)) (now (list .entry))) top)
         (now (state .entry)) v (now (nxt .exit)) (now (prv .exit)) (now (lead .exit))) ⌝ }
 {
-    let m = start.len() - 1;
-    let mut v = 0;
-    while v < m {
-        if lay_node(
-            ax,
-            ay,
-            bx,
-            by,
-            aid,
-            bid,
-            start,
-            list,
-            state,
-            v,
-            nxt,
-            prv,
-            lead,
-        ) {
-            return true;
-        }
-        v += 1;
+    match lay_bridges(ax, ay, bx, by, aid, bid, start, list, state, nxt, lead) {
+        Passed::Wrong => true,
+        Passed::Bridges => false,
+        Passed::Crosses => lay_crosses(ax, ay, bx, by, aid, bid, start, list, state, nxt, prv),
     }
-    false
 }

@@ -1,128 +1,112 @@
--- `lay::lay_nodes` meets its contract; the invariant: nothing is wrong with the nodes below v, and they are laid.
-use Prim.Native.Nat.{_≤_, _-_}
+-- `lay::lay_nodes` meets its contract: the `Bridge`s, and then the `Cross`es where there are any.
+use Prim.Native.Nat.{ℕ}
 use native.Mathlib.Omega.{arith}
-use mathlib.Core.Path.{_≡_, refl, sym, _∙_}
+use mathlib.Core.Path.{_≡_, _∙_}
+use mathlib.Core.List.{List}
 use lib.ListN.{length}
-use Rattle.laws.specs.Test.{true≢false}
-use Rattle.laws.specs.Lowest.{some-no}
+use borrow.Author.Needs.{needs}
 use Rattle.graph.specs.Graph.{Lent, lent}
-use Rattle.lay.proofs.Nodes.{Passed, passed-none, passed-more, found-wrong}
+use Rattle.lay.proofs.Passes.{nodes-wrong, nodes-bridges, nodes-crosses}
 use Rattle.lay.proofs.lay_nodes.Statement.{statement}
 use Rattle.lay.proofs.lay_nodes.Tie as tie
 
-abbrev Inv-loop : tie.InvT-loop
-Inv-loop ax ay bx by aid bid start list state nxt₀ prv₀ lead₀ m v₀ nxt prv lead v =
-    (v ≤ m) × (length nxt ≡ length nxt₀) × (length prv ≡ length prv₀) × (length lead ≡ length lead₀)
-    × (Passed (lent ax ay bx by aid bid start list) state nxt prv lead v)
-
-abbrev μ-loop : tie.MeasureT-loop
-μ-loop ax ay bx by aid bid start list state nxt₀ prv₀ lead₀ m v₀ nxt prv lead v = m - v
-
 -- what is lent of the graph
-abbrev lists : tie.Start Inv-loop μ-loop → Lent
+abbrev lists : tie.Start → Lent
 lists s = let x = s .args in lent (x .ax .now) (x .ay .now) (x .bx .now) (x .by .now) (x .aid .now) (x .bid .now) (x .start .now) (x .list .now)
 
-sub-m : tie.Need-sub-m Inv-loop μ-loop
-sub-m c = omega (arith, c .before .before .before .before .before .before .before .before .pre .1 .1 .1 .0 .1 .any)
+lay-bridges-requires : tie.Need-lay-bridges-requires
+lay-bridges-requires c κs =
+    let p = c .before .before .before .before .before .before .before .before .before .before .pre in
+    let n = p .1 .1 .1 .1 .0 in
+    (p .0, (p .1 .0, (p .1 .1 .0, ((p .1 .1 .1 .0 .0, p .1 .1 .1 .0 .1), ((n .0, n .1, n .3), p .1 .1 .1 .1 .1)))))
 
-loop-holds : tie.Need-loop-holds Inv-loop μ-loop
-loop-holds c =
-    let s = c .before .before .before .before .before .before .before .before in
-    let x = s .args in
-    (omega arith, refl, refl, refl, passed-none (lists s) (x .state .now) (x .nxt .now) (x .prv .now) (x .lead .now) (s .pre .1 .1 .1 .1 .1))
+-- what the pass over the `Bridge`s leaves, and the start
+abbrev nxt-left : tie.After-lay-bridges → List ℕ
+nxt-left c = c .lay-bridges .last .1 .1 .1 .1 .1 .1 .1 .1 .1 .0
 
-lay-node-requires : tie.Need-lay-node-requires Inv-loop μ-loop
-lay-node-requires c κs =
-    let p = c .before .before .before .before .before .before .before .before .before .before .before .before .before .pre in
-    let l = c .before .before .before .before .loop in
-    let n = p .1 .1 .1 .1 .0 in (
-      p .0,
-      (
-        p .1 .0,
-        (
-          p .1 .1 .0,
-          (
-            (p .1 .1 .1 .0 .0, p .1 .1 .1 .0 .1),
-            (
-              (n .0, omega (arith, n .1, l .inv .1), omega (arith, n .2, l .inv .2), omega (arith, n .3, l .inv .3)),
-              (λ k e. l .inv .4 .ahead k (omega arith), c .before .before .before .loop-test .taken),
-            ),
-          ),
-        ),
-      ),
-    )
+abbrev lead-left : tie.After-lay-bridges → List ℕ
+lead-left c = c .lay-bridges .last .1 .1 .1 .1 .1 .1 .1 .1 .1 .1 .0
 
--- the turn of the loop that a call stands in, and the start
-abbrev turn : tie.After-lay-node Inv-loop μ-loop → tie.In-loop Inv-loop μ-loop
-turn c = c .before .before .before .before
+abbrev start : tie.After-lay-bridges → tie.Start
+start c = c .before .before .before .before .before .before .before .before .before .before .before
 
-abbrev begin : tie.In-loop Inv-loop μ-loop → tie.Start Inv-loop μ-loop
-begin c = c .before .before .before .before .before .before .before .before .before .before
+nxt-same : (c : tie.After-lay-bridges) → length (nxt-left c) ≡ length (start c .args .nxt .now)
+nxt-same c = c .lay-bridges .kept .1 .1 .1 .1 .1 .1 .1 .1 .1 .0
 
-same-length : tie.Need-same-length Inv-loop μ-loop
-same-length c =
-    let d = c .before .before .before .before .before .before .before in
-    d .lay-node .kept .1 .1 .1 .1 .1 .1 .1 .1 .1 .1 .0 ∙ turn d .before .loop .inv .1
+lead-same : (c : tie.After-lay-bridges) → length (lead-left c) ≡ length (start c .args .lead .now)
+lead-same c = c .lay-bridges .kept .1 .1 .1 .1 .1 .1 .1 .1 .1 .1 .0
 
-same-length-2 : tie.Need-same-length-2 Inv-loop μ-loop
-same-length-2 c =
-    let d = c .before .before .before .before .before .before .before in
-    d .lay-node .kept .1 .1 .1 .1 .1 .1 .1 .1 .1 .1 .1 .0 ∙ turn d .before .loop .inv .2
+enum-told : tie.Need-enum-told
+enum-told c = search needs
 
-same-length-3 : tie.Need-same-length-3 Inv-loop μ-loop
-same-length-3 c =
-    let d = c .before .before .before .before .before .before .before in
-    d .lay-node .kept .1 .1 .1 .1 .1 .1 .1 .1 .1 .1 .1 .1 .0 ∙ turn d .before .loop .inv .3
+enum-told-2 : tie.Need-enum-told-2
+enum-told-2 c = search needs
 
-returns : tie.Need-returns Inv-loop μ-loop
+enum-told-3 : tie.Need-enum-told-3
+enum-told-3 c = search needs
+
+lay-crosses-requires : tie.Need-lay-crosses-requires
+lay-crosses-requires c κs =
+    let d = c .before .before .before .before .before .before .before .before in
+    let p = start d .pre in
+    let n = p .1 .1 .1 .1 .0 in
+    (p .0, (p .1 .0, (p .1 .1 .0, ((p .1 .1 .1 .0 .0, p .1 .1 .1 .0 .1), (n .0, omega (arith, n .1, nxt-same d), n .2)))))
+
+same-length : tie.Need-same-length
+same-length c = nxt-same (c .before .before .before .before .before .before)
+
+same-length-2 : tie.Need-same-length-2
+same-length-2 c = lead-same (c .before .before .before .before .before .before)
+
+returns : tie.Need-returns
 returns c =
-    let d = c .before .before .before .before .before .before .before in
-    let k = d .lay-node in
-    let t = turn d in
-    let l = t .before .loop in
-    let s = begin t in (
-      found-wrong (lists s) (s .args .state .now) _ (l .v) (t .loop-test .taken) (l .inv .4) (k .result) (k .ensures .0) (c .if1 .taken),
-      λ z. absurd (true≢false refl z),
-    )
+    let d = c .before .before .before .before .before .before in
+    let s = start d in
+    nodes-wrong (lists s) (s .args .state .now) _ (nxt-left d) (s .args .prv .now) (lead-left d) (d .lay-bridges .result) (c .enum-told .given .1)
+    (d .lay-bridges .ensures)
 
-add-v : tie.Need-add-v Inv-loop μ-loop
-add-v c = let t = turn (c .before .before .before .before .before .before .before) in omega (arith, t .loop-test .taken, begin t .good)
+same-length-3 : tie.Need-same-length-3
+same-length-3 c = nxt-same (c .before .before .before .before .before .before)
 
-loop-less : tie.Need-loop-less Inv-loop μ-loop
-loop-less c = omega arith
+same-length-4 : tie.Need-same-length-4
+same-length-4 c = lead-same (c .before .before .before .before .before .before)
 
-loop-again : tie.Need-loop-again Inv-loop μ-loop
-loop-again c =
-    let d = c .before .before .before .before .before .before .before in
-    let k = d .lay-node in
-    let t = turn d in
-    let l = t .before .loop in
-    let s = begin t in
-    let x = s .args in (
-      omega (arith, t .loop-test .taken),
-      k .kept .1 .1 .1 .1 .1 .1 .1 .1 .1 .1 .0 ∙ l .inv .1,
-      k .kept .1 .1 .1 .1 .1 .1 .1 .1 .1 .1 .1 .0 ∙ l .inv .2,
-      k .kept .1 .1 .1 .1 .1 .1 .1 .1 .1 .1 .1 .1 .0 ∙ l .inv .3,
-      passed-more (lists s) (x .state .now) (l .v) (l .inv .4)
-          (sym (k .ensures .0) ∙ c .if1 .left) (k .ensures .1 .0 (c .if1 .left))
-          (k .ensures .1 .1 .0) (k .ensures .1 .1 .1) (k .ensures .1 .1 .2),
-    )
-
-same-length-4 : tie.Need-same-length-4 Inv-loop μ-loop
-same-length-4 c = c .before .loop .inv .1
-
-same-length-5 : tie.Need-same-length-5 Inv-loop μ-loop
-same-length-5 c = c .before .loop .inv .2
-
-same-length-6 : tie.Need-same-length-6 Inv-loop μ-loop
-same-length-6 c = c .before .loop .inv .3
-
-returns-2 : tie.Need-returns-2 Inv-loop μ-loop
+returns-2 : tie.Need-returns-2
 returns-2 c =
-    let l = c .before .loop in
-    (sym (some-no _ _ (λ k h. l .inv .4 .fine k (omega arith))), λ z top v h. l .inv .4 .laid top v (omega arith))
+    let d = c .before .before .before .before .before .before in
+    let s = start d in
+    nodes-bridges (lists s) (s .args .state .now) _ (nxt-left d) (s .args .prv .now) (lead-left d) (d .lay-bridges .result) (c .enum-told2 .given .1)
+    (d .lay-bridges .ensures)
+
+-- the pass over the `Cross`es; that there are some; and the pass over the `Bridge`s, which said so
+abbrev crossed : tie.After-slice-known7 → tie.After-lay-crosses
+crossed c = c .before .before .before .before
+
+abbrev told : tie.After-lay-crosses → tie.After-enum-told3
+told c = c .before .before .before
+
+abbrev bridged : tie.After-enum-told3 → tie.After-lay-bridges
+bridged c = c .before .before .before .before .before .before
+
+same-length-5 : tie.Need-same-length-5
+same-length-5 c = crossed c .lay-crosses .kept .1 .1 .1 .1 .1 .1 .1 .1 .1 .0 ∙ nxt-same (bridged (told (crossed c)))
+
+same-length-6 : tie.Need-same-length-6
+same-length-6 c = crossed c .lay-crosses .kept .1 .1 .1 .1 .1 .1 .1 .1 .1 .1 .0
+
+same-length-7 : tie.Need-same-length-7
+same-length-7 c = lead-same (bridged (told (crossed c)))
+
+returns-3 : tie.Need-returns-3
+returns-3 c =
+    let e = told (crossed c) in
+    let d = bridged e in
+    let k = crossed c .lay-crosses in
+    let s = start d in
+    nodes-crosses (lists s) (s .args .state .now) _ (nxt-left d) (k .last .1 .1 .1 .1 .1 .1 .1 .1 .1 .0) (k .last .1 .1 .1 .1 .1 .1 .1 .1 .1 .1 .0)
+    (lead-left d) (d .lay-bridges .result) (e .enum-told3 .given .1) (d .lay-bridges .ensures) (k .result) (k .ensures .0) (k .ensures .1)
 
 pub lay-nodes-spec : {M : Type 1} → statement M
 lay-nodes-spec =
-    tie.close (tie.spec Inv-loop μ-loop sub-m loop-holds lay-node-requires same-length same-length-2
-    same-length-3 returns add-v loop-less loop-again same-length-4 same-length-5 same-length-6 returns-2)
+    tie.close (tie.spec lay-bridges-requires enum-told enum-told-2 enum-told-3 lay-crosses-requires same-length same-length-2 returns
+    same-length-3 same-length-4 returns-2 same-length-5 same-length-6 same-length-7 returns-3)
