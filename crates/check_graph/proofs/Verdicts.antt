@@ -1,13 +1,12 @@
 -- What the pass over the nodes tells of checks 5 to 7, both ways; and a refusal is not fine.
 use Prim.Native.Nat.{ℕ, _*_, _-_}
-use mathlib.Core.Path.{_≡_, sym, _∙_}
+use mathlib.Core.Path.{_≡_}
 use mathlib.Core.Bool.{Bool, true, false}
 use mathlib.Core.Bool as bool
 use mathlib.Core.List.{List}
 use lib.ListN.{length}
 use Rattle.laws.specs.Test.{true≢false}
 use Rattle.laws.specs.Lowest.{some, none-of, some-no}
-use Rattle.turn.specs.declared.Checked.{Checked}
 use Rattle.turn.specs.declared.Checked.the-variants.{Fine, Refused}
 use Rattle.graph.specs.Graph.{Lent, linkCount, nodeCount}
 use Rattle.graph.specs.Checks.{aOf, bOf, nodeAt, entriesOf, badStarts, nodesChecked}

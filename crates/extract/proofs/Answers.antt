@@ -15,7 +15,7 @@ use Rattle.graph.specs.Checks.{room, checked}
 use Rattle.graph.specs.Fine.{FineGraph, fine}
 use Rattle.next.specs.Known.{Links}
 use Rattle.next.specs.Fine.{links-known}
-use Rattle.rings.specs.Field.{Spacious, Unled, AllLaid, Field, Fielded}
+use Rattle.rings.specs.Field.{Spacious, Unled, AllLaid, Field}
 use Rattle.rings.specs.Steering as steering
 use Rattle.keep.specs.declared.Counts.{Counts}
 use Rattle.scan.specs.declared.Extraction.{Extraction}

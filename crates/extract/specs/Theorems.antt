@@ -22,7 +22,7 @@ use Rattle.graph.specs.Checks.{checked, room}
 use Rattle.next.specs.Next.{isUnvisited, unvisited}
 use Rattle.next.specs.States.{unvisited-below}
 use Rattle.keep.specs.declared.Counts.{Counts}
-use Rattle.scan.specs.declared.Extraction.the-variants.{Done, Refused}
+use Rattle.scan.specs.declared.Extraction.the-variants.{Done}
 use Rattle.walk.specs.Walk.{Step, Walk, marked, markOf}
 use Rattle.scan.specs.Scan.{Scanned, stopped, walks, scan}
 use Rattle.keep.specs.Outcome.{statesAfter, areaOf, keeps, kept, rejected, allPoints, areas, total, countsOf}

@@ -1,6 +1,8 @@
 // Rule 1 (document 01, "Walking"): the first link of a walk, read off the field of ends.
 use graph::point_at;
 use next::Next;
+use rings::CROSS;
+use rings::WRAP;
 use turn::wide;
 ghost use mathlib.Core.Path.{_≡_};
 ghost use mathlib.Core.Bool.{true};
@@ -17,11 +19,6 @@ ghost use Rattle.rings.specs.Ends.{aEnd};
 ghost use Rattle.rings.specs.Climb.{Above};
 ghost use Rattle.rings.specs.Field.{nextOf, wrapsAt, Firsts, Reads, Begun};
 ghost use Rattle.first.specs.Leading.{leading, Rises};
-
-// The marks that stand on top of an end of a `Cross`: on any, and on the ring's last.
-const CROSS: u32 = 16777216;
-
-const WRAP: u32 = 33554432;
 
 // Link x if it is unvisited, else s.
 fn unvisited_or(state: &[u8], x: usize, s: usize) -> usize

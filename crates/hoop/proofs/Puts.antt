@@ -8,7 +8,7 @@ use Rattle.laws.specs.Test.{pick-true, pick-false}
 use Rattle.rings.specs.Field.{crossMark, wrapMark}
 use Rattle.hoop.specs.declared.Hoop.{Hoop}
 use Rattle.hoop.specs.declared.Place.the-variants.{First, After}
-use Rattle.hoop.specs.Hoops.{after, makes, linkEnd, putEnd}
+use Rattle.hoop.specs.Hoops.{after, makes, putEnd}
 
 module _ (nxt prv : List ℕ) (hoop : Hoop) (q : ℕ) where
   pub puts-alone : hoop .count ≡ 0 → after (makes q q 1) (set nxt q (wrapMark + q)) (set prv q q) ≡ putEnd nxt prv hoop First q

@@ -19,6 +19,8 @@ ghost use Rattle.hoop.specs.declared.Taken.the-variants.{Makes};
 ghost use Rattle.hoop.specs.Hoops.{farPoint, wayOf, Stands, Backed, Sought, Placed, Fits, after, putEnd, Laying, Entered};
 use graph::end_at;
 use graph::point_at;
+use rings::CROSS;
+use rings::WRAP;
 use rings::end_of;
 use turn::Point;
 use turn::Vector;
@@ -26,12 +28,6 @@ use turn::between;
 use turn::cross_product;
 use turn::differ;
 use turn::wide;
-
-// The mark on top of the next end, of an end that is not the ring's last.
-const CROSS: u32 = 16777216;
-
-// The mark of the ring's last end.
-const WRAP: u32 = 33554432;
 
 // The ring so far: its first and its last end, and how many it has.
 struct Hoop {

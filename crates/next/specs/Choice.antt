@@ -11,7 +11,6 @@ use borrow.Author.Tests.{eq-eqb, ne-eqb}
 use Rattle.laws.specs.Test.{pick, pick-ind, Is, is-true, true-is, true≢false}
 use Rattle.turn.specs.Angular.{irreflexive, transitive}
 use Rattle.graph.specs.Graph.{Graph}
-use Rattle.next.specs.declared.Next.{Next}
 use Rattle.next.specs.declared.Next.the-variants.{Link, Nothing}
 use Rattle.next.specs.Next.{isUnvisited, unvisitedIn, onlyUnvisited, Node, bridge, crossing, nodeOf, metFirst, best, firstMet, acrossFrom}
 use Rattle.next.specs.Next.{nextAt, nextLink}

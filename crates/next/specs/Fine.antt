@@ -1,20 +1,17 @@
 -- What a graph that the checks call fine gives the functions here: what they require, and that the first link of the
 -- scan is the topmost of the unvisited links at its node.
-use Prim.Native.Nat.{ℕ, _+_, _-_, _≤_, _<_}
-use native.Mathlib.Omega.{arith}
-use mathlib.Core.Path.{_≡_, sym, ap, _∙_, subst}
+use Prim.Native.Nat.{ℕ, _-_, _≤_, _<_}
+use mathlib.Core.Path.{_≡_, sym, _∙_, subst}
 use mathlib.Core.Logic.{_⊎_, ⊎-elim}
 use mathlib.Core.Bool.{true, false}
 use mathlib.Core.List.{List}
-use lib.ListN.{length, getD}
-use lib.Seq.{getD-take, getD-drop}
+use lib.ListN.{length}
 use Rattle.laws.specs.Test.{true≢false}
 use Rattle.turn.specs.declared.Point.{Point}
 use Rattle.turn.specs.Points.{before}
-use Rattle.graph.specs.Graph.{Lent, Graph, graphOf, linkCount, nodeCount}
+use Rattle.graph.specs.Graph.{Lent, Graph, graphOf, linkCount}
 use Rattle.graph.specs.Checks.{Room}
 use Rattle.graph.specs.Fine.{FineGraph}
-use Rattle.graph.specs.Total.{part-length}
 use Rattle.next.specs.Next.{isUnvisited, topmost}
 use Rattle.next.specs.Known.{Links}
 use Rattle.next.specs.Choice.{Mem}

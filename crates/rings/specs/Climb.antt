@@ -117,13 +117,6 @@ module _ (g : Graph) (v : ℕ) (step : ℕ → ℕ) (wraps : ℕ → Bool) where
               is = ap (λ (y : ℕ). Link (lastOr st (pick (isUnvisited st y) y s) rest)) l ∙ i;
             }
 
-    -- as the code has it: an unvisited one is taken, a visited one leaves s
-    pub climbed-unvisited : isUnvisited st (linkOf to) ≡ true → Above n st answer to (linkOf to)
-    climbed-unvisited o = subst (Above n st answer to) (pick-true (linkOf to) s o) climbed
-
-    pub climbed-visited : isUnvisited st (linkOf to) ≡ false → Above n st answer to s
-    climbed-visited o = subst (Above n st answer to) (pick-false (linkOf to) s o) climbed
-
     pub higher : toTop step wraps n to < toTop step wraps n at
     higher = by (k .rest) (k .climbs) (k .short)
       where

@@ -102,10 +102,6 @@ module _ (g : Graph) (v k : ℕ) where
   pub end-link : linkOf (endOf g v k) ≡ k
   end-link = pick-ind (startsAt g v k) (aEnd k) (bEnd k) (λ h. linkOf h ≡ k) (λ _. a-link k) (λ _. b-link k)
 
-  -- so an end at node v is told by its link
-  pub end-again : endOf g v (linkOf (endOf g v k)) ≡ endOf g v k
-  end-again = ap (endOf g v) end-link
-
   pub end-sort : isA (endOf g v k) ≡ startsAt g v k
   end-sort =
       pick-ind (startsAt g v k) (aEnd k) (bEnd k) (λ h. isA h ≡ startsAt g v k) (λ e. a-is-a k ∙ sym e)

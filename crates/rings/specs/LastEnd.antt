@@ -1,12 +1,10 @@
 -- The mark of a ring's last end, while the ring is made: from a list
 -- that has it in order, and where one more end is put into it.
-use Prim.Native.Nat.{ℕ, suc, _+_, _-_, _<_, zero-le, suc-le-suc}
-use native.Mathlib.Omega.{arith}
+use Prim.Native.Nat.{ℕ, _+_, _-_}
 use mathlib.Core.Path.{_≡_, refl, sym, _∙_, subst}
 use mathlib.Core.Logic.{⊎-elim}
-use mathlib.Core.Bool.{Bool, true, false}
+use mathlib.Core.Bool.{Bool, false}
 use mathlib.Core.List.{List, [], _∷_, _++_, List·Memᴰ·head, List·Memᴰ·tail, List·Memᴰ·cases-cons, List·Memᴰ·not-nil, Memᴰ·append-left, Memᴰ·append-right}
-use lib.ListN.{length, getD}
 use Rattle.next.specs.Choice.{Mem}
 use Rattle.rings.specs.Climb.{LastAlone, AtLast}
 
@@ -31,22 +29,6 @@ module _ (test : ℕ → Bool) where
     a .1,
   )
   alone-part p (y ∷ s) x t a = let r = alone-part y s x t (a .1) in (none-more p (y ∷ s) (a .0) (r .0), r .1)
-
-  -- ---- from a list
-  alone-places : (p : ℕ) (l : List ℕ) → ((i : ℕ) → i < length l → test (getD (p ∷ l) i 0) ≡ false)
-      → test (getD (p ∷ l) (length l) 0) ≡ true → LastAlone test p l
-  alone-places p [] f e = e
-  alone-places p (x ∷ l) f e = (f 0 (suc-le-suc zero-le), alone-places x l (λ i k. f (suc i) (suc-le-suc k)) e)
-
-  pub last-places : (l : List ℕ) → ((i : ℕ) → i + 1 < length l → test (getD l i 0) ≡ false)
-      → (0 < length l → test (getD l (length l - 1) 0) ≡ true) → AtLast test l
-  last-places [] f e = tt
-  last-places (x ∷ l) f e =
-      alone-places x l (λ i k. f i (omega arith))
-      (subst (λ j. test (getD (x ∷ l) j 0) ≡ true) (less-one (length l)) (e (suc-le-suc zero-le)))
-    where
-      less-one : (n : ℕ) → suc n - 1 ≡ n
-      less-one n = omega arith
 
 -- ---- where q is put into the ring, and the other links are marked as before
 abbrev Kept : (ℕ → Bool) → (ℕ → Bool) → List ℕ → Type 0
@@ -75,10 +57,3 @@ module _ (test test′ : ℕ → Bool) where
       alone-join test′ p s r (q ∷ (a ∷ t)) (none-kept (p ∷ s)
       (λ x m. k x (Memᴰ·append-left {s = p ∷ s} (r ∷ (a ∷ t)) m)) (u .0))
       (v .0, (n, v .1))
-
-  -- after the last, which is the last no more
-  pub last-after : (q : ℕ) (s : List ℕ) (r : ℕ) → AtLast test (s ++ (r ∷ [])) → test′ r ≡ false → test′ q ≡ true
-      → Kept test test′ s → AtLast test′ (s ++ (r ∷ (q ∷ [])))
-  last-after q [] r w n o k = (n, o)
-  last-after q (p ∷ s) r w n o k =
-      alone-join test′ p s r (q ∷ []) (none-kept (p ∷ s) k (alone-part test p s r [] w .0)) (n, o)

@@ -10,19 +10,18 @@ use lib.IntN.{ℤ, pos, _-ℤ_, _*ℤ_}
 use lib.ListN.{getD}
 use lib.Signed.{ltZ}
 use native.Mathlib.Omega.{arith}
-use Rattle.laws.specs.Test.{true-is, true≢false, not-true}
+use Rattle.laws.specs.Test.{true≢false}
 use Rattle.laws.specs.Ring.{ring, var, _:-_, _:*_}
 use Rattle.laws.specs.Order.{sub-parts, ltZ-true, ltZ-false, true-ltZ, false-ltZ}
 use Rattle.turn.specs.declared.Vector.{Vector}
 use Rattle.turn.specs.Angle.{sameDirection}
-use Rattle.turn.specs.Directions.{same-sym}
 use Rattle.graph.specs.Graph.{Graph}
 use Rattle.graph.specs.Checks.{awayFrom}
 use Rattle.next.specs.Choice.{Mem}
 use Rattle.rings.specs.Ends.{startsAt}
-use Rattle.rings.specs.RingOrder.{inTurn, ringBefore, Forward, Spoke, Spread, ring-transitive, ring-total, ring-apart}
-use Rattle.rings.specs.Sorted.{Sorted, BeforeAll, sorted-insert, sorted-parts, sorted-two}
-use Rattle.rings.specs.Rings.{InOrder, Ring}
+use Rattle.rings.specs.RingOrder.{inTurn, ringBefore, Forward, ring-transitive, ring-total}
+use Rattle.rings.specs.Sorted.{Sorted, BeforeAll, sorted-insert, sorted-parts}
+use Rattle.rings.specs.Rings.{InOrder}
 
 -- ---- what the comparison of two entries tells: the sorts of their ends, and two products
 less : (a b : ℤ) → ltZ b a ≡ ltZ (pos 0) (a -ℤ b)
@@ -44,10 +43,6 @@ module _ (g : Graph) (v e f : ℕ) where
 
   abbrev w : Vector
   w = awayFrom g v f
-
-  -- of unlike sorts: the one that ends there stands before the one that starts there
-  pub unlike-before : startsAt g v e ≡ false → startsAt g v f ≡ true → InOrder g v e f
-  unlike-before p q = rw (p, q)
 
   -- of one sort: by the turn from e's way to f's
   pub like-before : startsAt g v e ≡ startsAt g v f → ringBefore g v e f ≡ ltZ (u .y *ℤ w .x) (u .x *ℤ w .y)
@@ -88,14 +83,6 @@ none-taken g state v = record {
   sorted = tt;
   only = λ k m. absurd (List·Memᴰ·not-nil m);
   every = λ k m. absurd (List·Memᴰ·not-nil m);
-}
-
--- all entries are taken
-pub all-taken : {g : Graph} {state : List ℕ} {v : ℕ} {l : List ℕ} → RingOf g state v (g .entries v) l → Ring g state v l
-all-taken r = record {
-  sorted = r .sorted;
-  only = λ k m. let t = r .only k m in record { listed = t .0; unskipped = t .1 };
-  every = λ k s. r .every k (s .listed) (s .unskipped);
 }
 
 module _ {g : Graph} {state : List ℕ} {v : ℕ} {taken : List ℕ} (q : ℕ) where
@@ -161,12 +148,3 @@ module _ {g : Graph} {state : List ℕ} {v : ℕ} {taken : List ℕ} (q : ℕ) w
           (List·Memᴰ·append-cases s m)
 
 -- ---- where a ring was made no two unskipped entries run in one direction
-pub ring-spread : {g : Graph} {state : List ℕ} {v : ℕ} {l : List ℕ} → ((k : ℕ) → Spoke g state v k → Forward g k)
-    → Ring g state v l → Spread g state v
-ring-spread {g} {state} {v} {l} fw r = record {
-  strict = fw;
-  apart = λ j k sj sk d. not-true (sameDirection (awayFrom g v j) (awayFrom g v k)) (λ e. ⊎-elim
-      (λ h. ring-apart g v j k (fw j sj) (fw k sk) h (true-is e))
-      (λ h. ring-apart g v k j (fw k sk) (fw j sj) h (same-sym (awayFrom g v j) (awayFrom g v k) (true-is e)))
-      (sorted-two (InOrder g v) l (r .sorted) j k (r .every j sj) (r .every k sk) d));
-}

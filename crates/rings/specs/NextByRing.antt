@@ -84,10 +84,6 @@ marked-entry g state v st h k m o e = zero-one (sym (unvisited-read state k (h k
     zero-one : _≡_ {A = ℕ} 0 1 → ⊥
     zero-one e = omega arith
 
-pub marked-fewer : (g : Graph) (state : List ℕ) (v : ℕ) (st fewer : List ℕ)
-    → ((k : ℕ) → isUnvisited fewer k ≡ true → isUnvisited st k ≡ true) → Marked g state v st → Marked g state v fewer
-marked-fewer g state v st fewer h s k m o = s k m (h k o)
-
 pub next-by-ring : {g : Graph} {state : List ℕ} {v : ℕ} → Spread g state v → {l : List ℕ} → Ring g state v l
     → (length (g .entries v) ≡ 2 → ⊥)
     → (st : List ℕ) → Marked g state v st → (e : ℕ) → Mem e l → isUnvisited st e ≡ false

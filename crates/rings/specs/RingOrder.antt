@@ -165,9 +165,3 @@ spread-fine links lists band v = record {
   strict = λ k s. links .strict k (lists .below v k (s .listed));
   apart = λ j k s t d. band .spread v j k (s .listed) (t .listed) d (s .unskipped) (t .unskipped);
 }
-
--- of two different unskipped entries one stands before the other
-pub spokes-total : {g : Graph} {state : List ℕ} {v : ℕ} → Spread g state v → (e f : ℕ) → Spoke g state v e
-    → Spoke g state v f → (e ≡ f → ⊥)
-    → (ringBefore g v e f ≡ true) ⊎ (ringBefore g v f e ≡ true)
-spokes-total {g} {v = v} sp e f se sf d = ring-total g v e f (sp .strict e se) (sp .strict f sf) (sp .apart e f se sf d)

@@ -1,28 +1,24 @@
 -- Where every node of a fine graph is laid, the lists steer a walk and name the first links.
-use Prim.Native.Nat.{ℕ, zero, suc, _*_, _≤_, _<_}
+use Prim.Native.Nat.{ℕ, suc, _*_, _≤_, _<_}
 use native.Mathlib.Omega.{arith}
 use native.Mathlib.Decide.{ℕ-discrete}
 use mathlib.Core.Path.{_≡_, refl, sym, ap, _∙_, subst}
 use mathlib.Core.Logic.{_⊎_, inl, inr, ⊎-elim}
-use mathlib.Core.Bool.{Bool, true, false}
+use mathlib.Core.Bool.{Bool}
 use mathlib.Core.List.{List, [], _∷_, List·Memᴰ·head, List·Memᴰ·tail, List·Memᴰ·cases-cons, List·Memᴰ·not-nil}
 use lib.ListN.{length, getD}
-use borrow.Author.Tests.{eq-eqb}
-use Rattle.laws.specs.Test.{pick, pick-true, pick-ind}
+use Rattle.laws.specs.Test.{pick-ind}
 use Rattle.turn.specs.Limits.{maxLinks}
-use Rattle.turn.specs.Points.{clockwise}
 use Rattle.graph.specs.Graph.{Graph}
 use Rattle.graph.specs.Fine.{FineLinks, FineLists, OnePoint, FineBand}
-use Rattle.next.specs.Next.{isUnvisited, onlyUnvisited, nextLink, firstAt, firstLink, nodeOf}
+use Rattle.next.specs.Next.{onlyUnvisited, nextLink, firstAt, firstLink, nodeOf}
 use Rattle.next.specs.Choice.{Mem, next-of-first, next-of-second}
-use Rattle.rings.specs.Ends.{aEnd, bEnd, linkOf, isA, far, nodeOfEnd, endOf, a-link, a-node, is-a, is-b}
+use Rattle.rings.specs.Ends.{aEnd, linkOf, isA, far, nodeOfEnd, endOf, a-link, a-node}
 use Rattle.rings.specs.Ends.{far-far, far-link, end-link, end-below, entry-end, end-of-node, far-below}
 use Rattle.rings.specs.RingOrder.{Spoke, Spread, spread-fine}
 use Rattle.rings.specs.NextByRing.{Marked, marked-entry}
-use Rattle.rings.specs.Linked.{Ringed, stepOf}
-use Rattle.rings.specs.Follow.{Left}
+use Rattle.rings.specs.Linked.{Ringed}
 use Rattle.rings.specs.RingLoop.{loop-start}
-use Rattle.rings.specs.Climb.{Above}
 use Rattle.rings.specs.FirstLoop.{first-start}
 use Rattle.rings.specs.Field.{crossMark, nextOf, prevOf, wrapsAt, named, LaidBridge, LaidCross, Laid, Later, Across, Steers, Firsts}
 

@@ -8,6 +8,11 @@ ghost use Rattle.rings.specs.Ends.{aEnd, bEnd, far};
 ghost use Rattle.rings.specs.Field.{crossMark};
 use turn::wide;
 
+// The marks that stand on top of an end of a `Cross`: on any, and on the ring's last.
+pub const CROSS: u32 = 16777216;
+
+pub const WRAP: u32 = 33554432;
+
 // The other end of a link.
 pub fn far(h: usize) -> usize
     requires { ⌜ h < crossMark ⌝ }

@@ -17,7 +17,6 @@ use Rattle.rings.specs.Ends.{aEnd, bEnd, a-is-a, b-is-b, a-link, b-link, a-node
 use Rattle.rings.specs.Field.{Reads}
 use Rattle.walk.specs.declared.Walker.{Walker}
 use Rattle.walk.specs.declared.Onward.the-variants as onward
-use Rattle.walk.specs.declared.Stepped.the-variants.{Nowhere}
 use Rattle.walk.specs.declared.Ended.{Ended}
 use Rattle.walk.specs.declared.Ended.the-variants as ended
 use Rattle.walk.specs.Walk.{Step, Walked, stuck, done, consStep, walkOn, walkFrom, left}

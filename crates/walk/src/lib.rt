@@ -14,6 +14,7 @@ ghost use Rattle.rings.specs.Field.{crossMark, nextOf, prevOf, Steers, Steered,
 ghost use Rattle.walk.specs.Walk.{walkOn, walkFrom};
 ghost use Rattle.walk.specs.Code.{put, Kept, Marks, Arrived, GoesTo, EndsUnvisited, Summed, stepOut, stepBy, Goes};
 ghost use Rattle.walk.specs.Code.{RestLeaves, WalkLeaves, Counted, Sized, SizedFrom};
+use rings::CROSS;
 use rings::far;
 use turn::Point;
 use turn::wedge;
@@ -57,9 +58,6 @@ enum Onward {
     To(usize),
     Nowhere,
 }
-
-// What `nxt` holds at an end of a `Cross` is the ring's next end and a mark, a multiple of this.
-const CROSS: u32 = 16777216;
 
 // The next end of the ring, clockwise or counterclockwise.
 fn step_from(nxt: &[u32], prv: &[u32], sense: bool, h: usize) -> usize

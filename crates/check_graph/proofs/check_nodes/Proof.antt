@@ -5,13 +5,12 @@ use Prim.Native.Nat.{_*_}
 use native.Mathlib.Omega.{arith}
 use mathlib.Core.Path.{_≡_, sym, ap, _∙_}
 use mathlib.Core.Bool.{Bool, false, not, _||_}
-use mathlib.Core.List.{List}
 use lib.Dec.{eqb}
 use lib.ListN.{length}
 use borrow.Author.Needs.{needs}
 use Rattle.laws.specs.Test.{or-false}
 use Rattle.laws.specs.Fails.{ne-fails}
-use Rattle.graph.specs.Graph.{Lent, lent, linkCount}
+use Rattle.graph.specs.Graph.{Lent, lent}
 use Rattle.graph.specs.Checks.{badStarts, nodesChecked}
 use Rattle.graph.specs.Told.{LinksTold}
 use Rattle.graph.specs.Total.{other-total}

@@ -1,5 +1,5 @@
 -- `extract::extract_many` meets its contract: a refusal of the checks leaves everything as it was, else the scan follows over the field that they laid.
-use Prim.Native.Nat.{ℕ, _≤_}
+use Prim.Native.Nat.{_≤_}
 use native.Mathlib.Omega.{arith}
 use mathlib.Core.Path.{_≡_, sym, _∙_}
 use lib.ListN.{length}

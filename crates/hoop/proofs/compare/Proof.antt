@@ -1,6 +1,5 @@
 -- `hoop::compare` meets its contract: by the ends' sorts, and where they are of one sort by the cross product.
 use mathlib.Core.Path.{_≡_, ap, ap₂, _∙_}
-use borrow.Author.Needs.{needs}
 use Rattle.turn.specs.Points.{fromTo, cross}
 use Rattle.turn.specs.declared.Point.{Point}
 use Rattle.graph.specs.Graph.{pointAt}

@@ -1,8 +1,8 @@
 -- `hoop::misses` meets its contract: one thing after the other, as `Missed` says.
-use Prim.Native.Nat.{ℕ, _<_}
+use Prim.Native.Nat.{ℕ}
 use native.Mathlib.Omega.{arith}
 use mathlib.Core.Path.{_≡_, sym, ap, _∙_}
-use lib.ListN.{length, getD}
+use lib.ListN.{getD}
 use borrow.Author.Needs.{needs}
 use Rattle.turn.specs.declared.Point.{Point}
 use Rattle.turn.specs.Points.{differ}

@@ -6,7 +6,6 @@ use native.Mathlib.Omega.{arith}
 use mathlib.Core.Path.{_≡_, sym, ap, ap₂, _∙_}
 use mathlib.Core.Bool.{_||_}
 use lib.Dec.{eqb}
-use borrow.Author.Needs.{needs}
 use borrow.Author.Count.{below-none}
 use Rattle.laws.specs.Lowest.{some-no, some-more}
 use Rattle.graph.specs.Quick.{standsBefore}

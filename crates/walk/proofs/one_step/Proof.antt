@@ -7,7 +7,6 @@ use lib.ListN.{length, getD, set}
 use lib.IntN.{_+ℤ_}
 use Rattle.laws.specs.Bounds.{abs-add}
 use Rattle.turn.specs.Points.{OnGrid}
-use Rattle.turn.specs.Area.{wedge}
 use Rattle.next.specs.Next.{unvisited}
 use Rattle.rings.specs.Ends.{linkOf}
 use Rattle.walk.proofs.Steps.{sum-fits, sum-is, start-on, mark-arrived, step-went, step-nowhere}
