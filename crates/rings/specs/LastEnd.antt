@@ -1,5 +1,4 @@
--- The mark of a ring's last end, while the ring is made: from a list
--- that has it in order, and where one more end is put into it.
+-- The mark of a ring's last end, while the ring is made: where one more end is put into it.
 use Prim.Native.Nat.{ℕ, _+_, _-_}
 use mathlib.Core.Path.{_≡_, refl, sym, _∙_, subst}
 use mathlib.Core.Logic.{⊎-elim}

@@ -1,4 +1,4 @@
--- How a ring is linked from a list that has it in order, and what leaves the links of a node as they are.
+-- What leaves the links of a node's ring as they are, and what is read off them.
 use Prim.Native.Nat.{ℕ, _+_, _-_}
 use mathlib.Core.Path.{_≡_, refl, _∙_}
 use mathlib.Core.Logic.{_⊎_, ⊎-elim}
