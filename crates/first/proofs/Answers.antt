@@ -10,6 +10,7 @@ use lib.ListN.{length, getD}
 use borrow.Author.Tests.{eq-eqb, ne-eqb}
 use Rattle.laws.specs.Test.{pick, pick-ind}
 use Rattle.turn.specs.Points.{clockwise}
+use Rattle.turn.specs.Limits.{maxLinks}
 use Rattle.graph.specs.Graph.{Graph, pointAt}
 use Rattle.next.specs.declared.Next.{Next}
 use Rattle.next.specs.declared.Next.the-variants.{Link}
@@ -18,7 +19,8 @@ use Rattle.next.specs.Known.{NamesUnvisited}
 use Rattle.next.specs.States.{unvisited-below, unvisited-read, only-unvisited, names-unvisited}
 use Rattle.rings.specs.Ends.{aEnd, linkOf}
 use Rattle.rings.specs.Climb.{Above}
-use Rattle.rings.specs.Field.{crossMark, nextOf, wrapsAt, named, Later, Firsts, Reads, Begun}
+use Rattle.rings.specs.Field.{crossMark, nextOf, wrapsAt, named, Firsts, Reads, Begun}
+use Rattle.rings.specs.Steering.{later-same}
 use Rattle.first.specs.Leading.{leading, Rises}
 
 -- ---- the one of a `Bridge`'s links that is named
@@ -41,10 +43,6 @@ module _ (held : ℕ) (cw : Bool) (k e : ℕ) where
   leading-below n l m = pick-ind (eqb held 1) k (pick (eqb held 2) e (pick cw e k)) (λ x. x < n) (λ _. l)
       (λ _. pick-ind (eqb held 2) e (pick cw e k) (λ x. x < n) (λ _. m)
       (λ _. pick-ind cw e k (λ x. x < n) (λ _. m) (λ _. l)))
-
--- ---- states are later than themselves
-pub later-self : (st : List ℕ) → Later st st
-later-self st = record { len = refl; stays = λ k e. e; skips = λ k e. e; opens = λ k e. e }
 
 -- ---- the answers, where the scan stands at link k, the lowest that is unvisited
 module _ (ax ay bx by : List ℤ) (nxt lead st : List ℕ) (k : ℕ) (o : isUnvisited st k ≡ true)
@@ -76,11 +74,11 @@ module _ (ax ay bx by : List ℤ) (nxt lead st : List ℕ) (k : ℕ) (o : isUnvi
         → Above g (g .aNode k) (nextOf nxt) (wrapsAt nxt) (length st) st (firstLink g st k) (aEnd k) k
     above g f =
         subst (λ n. Above g (g .aNode k) (nextOf nxt) (wrapsAt nxt) n st (firstLink g st k) (aEnd k) k) (f .size)
-        (f .cross k (inside g f) not-bridge st (later-self st) o low)
+        (f .cross k (inside g f) not-bridge st (later-same st) o low)
 
     pub rises : Begun ax ay bx by nxt lead st → Rises nxt st k
     rises b = record {
-      few = subst (λ n. n ≤ 4096) (b .firsts .size) (b .firsts .few);
+      few = subst (λ n. n ≤ maxLinks) (b .firsts .size) (b .firsts .few);
       nxt-long = subst (λ n. 2 * n ≤ length nxt) (b .firsts .size) (b .firsts .nxt-long);
       graph = b .graph;
       node = b .graph .aNode k;

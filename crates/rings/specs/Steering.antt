@@ -22,6 +22,10 @@ use Rattle.rings.specs.RingLoop.{loop-start}
 use Rattle.rings.specs.FirstLoop.{first-start}
 use Rattle.rings.specs.Field.{crossMark, nextOf, prevOf, wrapsAt, named, LaidBridge, LaidCross, Laid, Later, Across, Steers, Firsts}
 
+-- states are later than themselves
+pub later-same : (st : List ℕ) → Later st st
+later-same st = record { len = refl; stays = λ k e. e; skips = λ k e. e; opens = λ k o. o }
+
 -- a list of two
 pub record Pair (l : List ℕ) : Type 0 where
   pub one : ℕ

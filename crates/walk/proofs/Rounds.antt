@@ -22,7 +22,7 @@ use Rattle.rings.specs.RingLoop.{none-next, some-next}
 use Rattle.rings.specs.Field.{crossMark, nextOf, prevOf, Across, Steers, Steered}
 use Rattle.walk.specs.declared.Onward.the-variants.{To, Nowhere}
 use Rattle.walk.specs.Code.{Arrived, GoesTo, EndsUnvisited}
-use Rattle.walk.specs.Later.{later-same}
+use Rattle.rings.specs.Steering.{later-same}
 use Rattle.walk.specs.Named.{Among, next-among}
 
 -- ---- the link of an end where a walk stands is visited and unskipped

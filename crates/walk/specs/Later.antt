@@ -14,9 +14,6 @@ use Rattle.rings.specs.Field.{Later, Steers, Steered}
 use Rattle.walk.specs.Code.{unmark, Kept}
 
 -- ---- later states
-pub later-same : (st : List ℕ) → Later st st
-later-same st = record { len = refl; stays = λ k e. e; skips = λ k e. e; opens = λ k o. o }
-
 pub later-then : {st s t : List ℕ} → Later st s → Later s t → Later st t
 later-then h k = record {
   len = k .len ∙ h .len;
