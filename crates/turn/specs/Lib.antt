@@ -11,3 +11,4 @@ pub mod First
 pub mod PointOrder
 pub mod Refusals
 pub mod Areas
+pub mod Promises

@@ -8,7 +8,8 @@ ghost use Rattle.turn.specs.Points.{before, differ, outside, offGrid, Co
 ghost use Rattle.turn.specs.Points.{span, Grid};
 ghost use Rattle.turn.specs.Angle.{sameDirection};
 ghost use Rattle.turn.specs.Area.{wedge, area, pointsOf, wedgeBound};
-ghost use Rattle.turn.specs.Size.{half, isKept};
+ghost use Rattle.turn.specs.Promises.{before-says, differ-says, outside-says, off-grid-says, wide-says, between-says, cross-product-says, turn-of-says};
+ghost use Rattle.turn.specs.Promises.{clockwise-says, same-direction-says, wedge-says, doubled-area-says, absolute-says, half-says, is-kept-says};
 
 // The most links of a graph, and the most points of a contour table.
 pub const MAX_LINKS: usize = 4096;
@@ -35,35 +36,35 @@ pub struct Vector {
 
 // Whether p is strictly before q: by x, then by y.
 pub fn before(p: Point, q: Point) -> bool
-    ensures { λ r. ⌜ r ≡ before p q ⌝ }
+    ensures { λ r. ⌜ before-says p q r ⌝ }
 {
     (p.x < q.x) | (!(q.x < p.x) & (p.y < q.y))
 }
 
 // Whether p and q are different points.
 pub fn differ(p: Point, q: Point) -> bool
-    ensures { λ r. ⌜ r ≡ differ p q ⌝ }
+    ensures { λ r. ⌜ differ-says p q r ⌝ }
 {
     (p.x != q.x) | (p.y != q.y)
 }
 
 // Whether a coordinate is out of bounds.
 pub fn outside(z: i32) -> bool
-    ensures { λ r. ⌜ r ≡ outside z ⌝ }
+    ensures { λ r. ⌜ outside-says z r ⌝ }
 {
     (z < -MAX_COORDINATE) | (MAX_COORDINATE < z)
 }
 
 // Whether a point is out of bounds.
 pub fn off_grid(p: Point) -> bool
-    ensures { λ r. ⌜ r ≡ offGrid p ⌝ }
+    ensures { λ r. ⌜ off-grid-says p r ⌝ }
 {
     outside(p.x) | outside(p.y)
 }
 
 // A 32-bit number as an index.
 pub fn wide(x: u32) -> usize
-    ensures { λ r. ⌜ r ≡ x ⌝ }
+    ensures { λ r. ⌜ wide-says x r ⌝ }
 {
     x as usize
 }
@@ -79,7 +80,7 @@ fn difference(a: i32, b: i32) -> i64
 // The vector from p to q.
 pub fn between(p: Point, q: Point) -> Vector
     requires { ⌜ (OnGrid p) × (OnGrid q) ⌝ }
-    ensures { λ r. ⌜ (r ≡ fromTo p q) × (Short r) ⌝ }
+    ensures { λ r. ⌜ between-says p q r ⌝ }
 {
     let x = difference(q.x, p.x);
     let y = difference(q.y, p.y);
@@ -89,7 +90,7 @@ pub fn between(p: Point, q: Point) -> Vector
 // The cross product of two vectors between points.
 pub fn cross_product(u: Vector, v: Vector) -> i64
     requires { ⌜ (Short u) × (Short v) ⌝ }
-    ensures { λ r. ⌜ (r ≡ cross u v) × (natAbs r ≤ productBound) ⌝ }
+    ensures { λ r. ⌜ cross-product-says u v r ⌝ }
 {
     u.x * v.y - u.y * v.x
 }
@@ -104,7 +105,7 @@ fn dot_product(u: Vector, v: Vector) -> i64
 // Above 0 where a, b, c turn counterclockwise, below 0 where they turn clockwise.
 pub fn turn_of(a: Point, b: Point, c: Point) -> i64
     requires { ⌜ (OnGrid a) × (OnGrid b) × (OnGrid c) ⌝ }
-    ensures { λ r. ⌜ (r ≡ turn a b c) × (natAbs r ≤ productBound) ⌝ }
+    ensures { λ r. ⌜ turn-of-says a b c r ⌝ }
 {
     cross_product(between(a, b), between(a, c))
 }
@@ -112,7 +113,7 @@ pub fn turn_of(a: Point, b: Point, c: Point) -> i64
 // Whether a, b, c turn strictly clockwise.
 pub fn clockwise(a: Point, b: Point, c: Point) -> bool
     requires { ⌜ (OnGrid a) × (OnGrid b) × (OnGrid c) ⌝ }
-    ensures { λ r. ⌜ r ≡ clockwise a b c ⌝ }
+    ensures { λ r. ⌜ clockwise-says a b c r ⌝ }
 {
     turn_of(a, b, c) < 0
 }
@@ -120,7 +121,7 @@ pub fn clockwise(a: Point, b: Point, c: Point) -> bool
 // Whether u and v have one direction.
 pub fn same_direction(u: Vector, v: Vector) -> bool
     requires { ⌜ (Short u) × (Short v) ⌝ }
-    ensures { λ r. ⌜ r ≡ sameDirection u v ⌝ }
+    ensures { λ r. ⌜ same-direction-says u v r ⌝ }
 {
     (cross_product(u, v) == 0) & (0 < dot_product(u, v))
 }
@@ -128,7 +129,7 @@ pub fn same_direction(u: Vector, v: Vector) -> bool
 // x y' - y x' of two points.
 pub fn wedge(p: Point, q: Point) -> i64
     requires { ⌜ (OnGrid p) × (OnGrid q) ⌝ }
-    ensures { λ r. ⌜ (r ≡ wedge p q) × (natAbs r ≤ wedgeBound) ⌝ }
+    ensures { λ r. ⌜ wedge-says p q r ⌝ }
 {
     p.x as i64 * q.y as i64 - p.y as i64 * q.x as i64
 }
@@ -136,7 +137,7 @@ pub fn wedge(p: Point, q: Point) -> i64
 // The signed doubled area of a closed run of points, x and y in turn.
 pub fn doubled_area(points: &[i32]) -> i64
     requires { ⌜ (length (now points) ≤ 2 * maxLinks) × (Grid (now points)) ⌝ }
-    ensures { λ r. ⌜ (r ≡ area (pointsOf (now (points .entry)))) × (natAbs r ≤ length (now (points .entry)) * wedgeBound) ⌝ }
+    ensures { λ r. ⌜ doubled-area-says (now (points .entry)) r ⌝ }
 {
     if points.len() < 2 {
         return 0;
@@ -162,7 +163,7 @@ pub fn doubled_area(points: &[i32]) -> i64
 
 // The absolute value, at every i64.
 pub fn absolute(x: i64) -> u64
-    ensures { λ r. ⌜ r ≡ natAbs x ⌝ }
+    ensures { λ r. ⌜ absolute-says x r ⌝ }
 {
     if x < 0 {
         (-(x + 1)) as u64 + 1
@@ -173,14 +174,14 @@ pub fn absolute(x: i64) -> u64
 
 // Half the absolute value, rounded down.
 pub fn half(x: i64) -> u64
-    ensures { λ r. ⌜ r ≡ half x ⌝ }
+    ensures { λ r. ⌜ half-says x r ⌝ }
 {
     absolute(x) / 2
 }
 
 // Rule 6: whether a walk of so many points and such a signed doubled area is kept.
 pub fn is_kept(points: usize, area: i64, minimum: u64) -> bool
-    ensures { λ r. ⌜ r ≡ isKept points area minimum ⌝ }
+    ensures { λ r. ⌜ is-kept-says points area minimum r ⌝ }
 {
     (3 <= points) & ((minimum == 0) | (minimum <= half(area)))
 }
