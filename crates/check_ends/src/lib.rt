@@ -9,6 +9,7 @@ ghost use Rattle.graph.specs.Graph.{pointAt, part};
 ghost use Rattle.graph.specs.Checks.{nodeAt, apartIn, apartAt, alike, alikeAt};
 ghost use Rattle.graph.specs.Passes.{Rising};
 ghost use Rattle.graph.specs.Known.{Points, Grids, Below, Entries};
+ghost use Rattle.check_ends.specs.Promises.{apart-node-says, alike-node-says};
 use graph::away;
 use graph::end_at;
 use graph::entries;
@@ -65,7 +66,7 @@ pub fn apart_node(
     requires { ⌜ Entries (now start) (now list) (length (now aid)) ⌝ }
     ensures { λ r. ⌜ (let a : ℕ → Point = pointAt (now (ax .entry)) (now (ay .entry)) in
         let b : ℕ → Point = pointAt (now (bx .entry)) (now (by .entry)) in
-        r ≡ lowest (apartAt a b (nodeAt (now (aid .entry))) (part (now (start .entry)) (now (list .entry)))) (length (now (start .entry)) - 1)) ⌝ }
+        apart-node-says a b (now (aid .entry)) (now (start .entry)) (now (list .entry)) r) ⌝ }
 {
     let m = start.len() - 1;
     let mut v = 0;
@@ -139,8 +140,7 @@ pub fn alike_node(
     requires { ⌜ Entries (now start) (now list) (length (now aid)) ⌝ }
     ensures { λ r. ⌜ (let a : ℕ → Point = pointAt (now (ax .entry)) (now (ay .entry)) in
         let b : ℕ → Point = pointAt (now (bx .entry)) (now (by .entry)) in
-        r ≡ lowest (alikeAt a b (nodeAt (now (aid .entry))) (now (state .entry)) (part (now (start .entry)) (now (list .entry))))
-        (length (now (start .entry)) - 1)) ⌝ }
+        alike-node-says a b (now (aid .entry)) (now (start .entry)) (now (list .entry)) (now (state .entry)) r) ⌝ }
 {
     let m = start.len() - 1;
     let mut v = 0;

@@ -1,2 +1,3 @@
 -- The definitions that the contracts cite, then the laws of them.
 pub mod Quick
+pub mod Promises

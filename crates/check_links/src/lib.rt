@@ -9,6 +9,7 @@ ghost use Rattle.graph.specs.Checks.{room, unlike, fewPoints, unlikeBand, fewCo
 ghost use Rattle.graph.specs.Checks.{flagFault, eachChecked, linksChecked};
 ghost use Rattle.graph.specs.Passes.{Even};
 ghost use Rattle.check_links.specs.Quick.{misplacedAfter, misplacedAt, lastId, misnamedPast, misnamedAt};
+ghost use Rattle.check_links.specs.Promises.{check-links-says};
 use graph::point_at;
 use turn::Checked;
 use turn::MAX_COORDINATE;
@@ -298,7 +299,7 @@ pub fn check_links(
 ) -> Checked
     ensures { λ r. ⌜ (let g : Lent = lent (now (ax .entry)) (now (ay .entry)) (now (bx .entry)) (now (by .entry)) (now (aid .entry))
         (now (bid .entry)) (now (start .entry)) (now (list .entry)) in
-        r ≡ linksChecked g (now (top .entry)) (now (state .entry)) (room points firsts lens kinds)) ⌝ }
+        check-links-says g (now (top .entry)) (now (state .entry)) (room points firsts lens kinds) r) ⌝ }
 {
     let n = aid.len();
     if MAX_LINKS < n {

@@ -8,6 +8,7 @@ ghost use Rattle.laws.specs.Count.{count};
 ghost use Rattle.graph.specs.Checks.{short, badStarts, stray, strayIn, strayAt, notOnce, missed, badNodes};
 ghost use Rattle.graph.specs.Passes.{Rising};
 ghost use Rattle.graph.specs.Known.{Ids};
+ghost use Rattle.check_lists.specs.Promises.{bad-starts-says, bad-nodes-says};
 use graph::entries;
 use turn::wide;
 
@@ -44,7 +45,7 @@ fn any_short(start: &[u32]) -> bool
 // Whether the starts are wrong for this list.
 pub fn bad_starts(start: &[u32], list: &[u32]) -> bool
     requires { ⌜ 1 ≤ length (now start) ⌝ }
-    ensures { λ r. ⌜ r ≡ badStarts (now (start .entry)) (now (list .entry)) ⌝ }
+    ensures { λ r. ⌜ bad-starts-says (now (start .entry)) (now (list .entry)) r ⌝ }
 {
     let m = start.len() - 1;
     (wide(start[0]) != 0) | (wide(start[m]) != list.len()) | any_short(start)
@@ -138,7 +139,7 @@ fn any_missed(aid: &[u32], bid: &[u32], start: &[u32], list: &[u32]) -> bool
 pub fn bad_nodes(aid: &[u32], bid: &[u32], start: &[u32], list: &[u32]) -> bool
     requires { ⌜ Ids (now aid) (now bid) (length (now start) - 1) ⌝ }
     requires { ⌜ 1 ≤ length (now start) ⌝ }
-    ensures { λ r. ⌜ r ≡ badNodes (now (aid .entry)) (now (bid .entry)) (now (start .entry)) (now (list .entry)) ⌝ }
+    ensures { λ r. ⌜ bad-nodes-says (now (aid .entry)) (now (bid .entry)) (now (start .entry)) (now (list .entry)) r ⌝ }
 {
     if bad_starts(start, list) {
         return true;

@@ -15,3 +15,4 @@ pub mod Complete
 pub mod EndLaws
 pub mod BridgeLaws
 pub mod Told
+pub mod Promises

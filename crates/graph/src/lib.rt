@@ -8,6 +8,7 @@ ghost use Rattle.graph.specs.Graph.{pointAt, part};
 ghost use Rattle.graph.specs.Checks.{nodeAt, endAt, away};
 ghost use Rattle.graph.specs.Passes.{Rising};
 ghost use Rattle.graph.specs.Known.{Points, Grids};
+ghost use Rattle.graph.specs.Promises.{point-at-says, entries-says, end-at-says, away-says};
 use turn::Point;
 use turn::Vector;
 use turn::between;
@@ -16,7 +17,7 @@ use turn::wide;
 // The point at k of two lists of coordinates.
 pub fn point_at(xs: &[i32], ys: &[i32], k: usize) -> Point
     requires { ⌜ (k < length (now xs)) × (k < length (now ys)) ⌝ }
-    ensures { λ r. ⌜ r ≡ pointAt (now (xs .entry)) (now (ys .entry)) k ⌝ }
+    ensures { λ r. ⌜ point-at-says (now (xs .entry)) (now (ys .entry)) k r ⌝ }
 {
     Point { x: xs[k], y: ys[k] }
 }
@@ -25,7 +26,7 @@ pub fn point_at(xs: &[i32], ys: &[i32], k: usize) -> Point
 pub fn entries<'a, 'b>(start: &'a [u32], list: &'b [u32], v: usize) -> &'b [u32]
     requires { ⌜ Rising (now start) (now list) ⌝ }
     requires { ⌜ v < length (now start) - 1 ⌝ }
-    ensures { λ r. ⌜ now r ≡ part (now (start .entry)) (now (list .entry)) v ⌝ }
+    ensures { λ r. ⌜ entries-says (now (start .entry)) (now (list .entry)) v (now r) ⌝ }
 {
     let from = wide(start[v]);
     let to = wide(start[v + 1]);
@@ -44,8 +45,7 @@ pub fn end_at(
 ) -> Point
     requires { ⌜ Points (now ax) (now ay) (now bx) (now by) (length (now aid)) ⌝ }
     requires { ⌜ k < length (now aid) ⌝ }
-    ensures { λ r. ⌜ (let a : ℕ → Point = pointAt (now (ax .entry)) (now (ay .entry)) in
-        r ≡ endAt a (pointAt (now (bx .entry)) (now (by .entry))) (nodeAt (now (aid .entry))) v k) ⌝ }
+    ensures { λ r. ⌜ end-at-says (pointAt (now (ax .entry)) (now (ay .entry))) (pointAt (now (bx .entry)) (now (by .entry))) (now (aid .entry)) v k r ⌝ }
 {
     let a = point_at(ax, ay, k);
     let b = point_at(bx, by, k);
@@ -68,9 +68,7 @@ pub fn away(
     requires { ⌜ Points (now ax) (now ay) (now bx) (now by) (length (now aid)) ⌝ }
     requires { ⌜ Grids (now ax) (now ay) (now bx) (now by) (length (now aid)) ⌝ }
     requires { ⌜ k < length (now aid) ⌝ }
-    ensures { λ r. ⌜ (let a : ℕ → Point = pointAt (now (ax .entry)) (now (ay .entry)) in
-        let b : ℕ → Point = pointAt (now (bx .entry)) (now (by .entry)) in
-        (r ≡ away a b (nodeAt (now (aid .entry))) v k) × (Short r)) ⌝ }
+    ensures { λ r. ⌜ away-says (pointAt (now (ax .entry)) (now (ay .entry))) (pointAt (now (bx .entry)) (now (by .entry))) (now (aid .entry)) v k r ⌝ }
 {
     between(
         end_at(ax, ay, bx, by, aid, v, k),

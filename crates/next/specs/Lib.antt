@@ -5,3 +5,4 @@ pub mod States
 pub mod Choice
 pub mod Topmost
 pub mod Fine
+pub mod Promises

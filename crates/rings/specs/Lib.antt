@@ -25,3 +25,4 @@ pub mod Steering
 -- worked examples
 pub mod RingTest
 pub mod Examples
+pub mod Promises

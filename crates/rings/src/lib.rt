@@ -1,11 +1,8 @@
 // Ends of links by number: 2 k is link k's a, 2 k + 1 its b.
-ghost use mathlib.Core.Path.{_≡_};
 ghost use Prim.Native.Nat.{_<_};
-ghost use lib.ListN.{length, getD};
-ghost use lib.Dec.{eqb};
-ghost use Rattle.laws.specs.Test.{pick};
-ghost use Rattle.rings.specs.Ends.{aEnd, bEnd, far};
+ghost use lib.ListN.{length};
 ghost use Rattle.rings.specs.Field.{crossMark};
+ghost use Rattle.rings.specs.Promises.{far-says, end-of-says};
 use turn::wide;
 
 // The marks that stand on top of an end of a `Cross`: on any, and on the ring's last.
@@ -16,7 +13,7 @@ pub const WRAP: u32 = 33554432;
 // The other end of a link.
 pub fn far(h: usize) -> usize
     requires { ⌜ h < crossMark ⌝ }
-    ensures { λ r. ⌜ r ≡ far h ⌝ }
+    ensures { λ r. ⌜ far-says h r ⌝ }
 {
     if h % 2 == 0 { h + 1 } else { h - 1 }
 }
@@ -24,7 +21,7 @@ pub fn far(h: usize) -> usize
 // Link k's end at node v, by the a's nodes.
 pub fn end_of(aid: &[u32], v: usize, k: usize) -> usize
     requires { ⌜ (k < length (now aid)) × (k < crossMark) ⌝ }
-    ensures { λ r. ⌜ r ≡ pick (eqb (getD (now (aid .entry)) k 0) v) (aEnd k) (bEnd k) ⌝ }
+    ensures { λ r. ⌜ end-of-says (now (aid .entry)) v k r ⌝ }
 {
     if wide(aid[k]) == v { 2 * k } else { 2 * k + 1 }
 }

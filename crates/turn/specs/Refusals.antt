@@ -1,11 +1,12 @@
 -- What a check answers: each check refuses by document 01's number and place, or lets the next one say. Every layer's checks are put together so.
 use Prim.Native.Nat.{ℕ}
 use native.Mathlib.Omega.{arith}
-use mathlib.Core.Path.{_≡_, refl}
+use mathlib.Core.Path.{_≡_, refl, sym, ap, _∙_}
 use mathlib.Core.Bool.{Bool, true, false}
 use Rattle.laws.specs.Test.{pick, true≢false}
 use Rattle.laws.specs.Fails.{Iff}
 use Rattle.laws.specs.Lowest.{lowest, some}
+use Rattle.laws.specs.Unique.{Determines}
 use Rattle.turn.specs.declared.Checked.{Checked}
 use Rattle.turn.specs.declared.Checked.the-variants.{Fine, Refused}
 
@@ -30,6 +31,16 @@ numberOf (Refused number place) = number
 abbrev pub placeOf : Checked → ℕ
 placeOf Fine = 0
 placeOf (Refused number place) = place
+
+-- an answer is the one that is defined: the number and the place that document 01 gives it, and the case itself
+abbrev pub Tells : Checked → Checked → Type 0
+Tells r defined = (numberOf r ≡ numberOf defined) × (placeOf r ≡ placeOf defined) × (r ≡ defined)
+
+pub tells : {r defined : Checked} → r ≡ defined → Tells r defined
+tells e = (ap numberOf e, ap placeOf e, e)
+
+pub tells-once : (defined : Checked) → Determines (λ r. Tells r defined)
+tells-once defined r s p q = p .2 ∙ sym (q .2)
 
 abbrev pub isFine : Checked → Bool
 isFine Fine = true

@@ -35,14 +35,14 @@ enum-told c = search needs
 check-nodes-requires : tie.Need-check-nodes-requires
 check-nodes-requires c κs =
     let s = c .before .before .before .before .before .before .before .before .before .before .before .before .before .before .before in
-    let t = told s (sym (c .before .before .before .before .before .check-links .ensures) ∙ c .before .before .before .enum-told .given .1) in
+    let t = told s (sym (c .before .before .before .before .before .check-links .ensures .2) ∙ c .before .before .before .enum-told .given .1) in
     (t, (s .pre .0 (t .few), s .pre .1))
 
 returns : tie.Need-returns
 unfolding checked
 returns c =
     let s = c .before .before .before .before .before .before .before .before .before .before .before .before .before in (
-      sym (ap (λ (k : Checked). followedBy k (nodesChecked (g s) (s .args .state .now))) (sym (c .before .before .before .check-links .ensures)
+      sym (ap (λ (k : Checked). followedBy k (nodesChecked (g s) (s .args .state .now))) (sym (c .before .before .before .check-links .ensures .2)
           ∙ c .before .number .given .1)),
       λ e. absurd (not-fine _ _ e),
     )
@@ -64,7 +64,7 @@ returns-2 c =
     let o = c .before .before .before .before .before .before in (
       o .check-nodes .ensures .0 ∙ sym
           (ap (λ (k : Checked). followedBy k (nodesChecked (g s) (s .args .state .now))) (sym (o .before .before .before .before .before
-          .before .check-links .ensures)
+          .before .check-links .ensures .2)
           ∙ o .before .before .before .before .enum-told .given .1)),
       o .check-nodes .ensures .1,
     )

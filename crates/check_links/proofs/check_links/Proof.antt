@@ -8,12 +8,13 @@ use borrow.Author.Tests.{lt-ltb, le-ltb}
 use mathlib.Core.Bool.{false, _||_}
 use Rattle.graph.specs.Graph.{lent}
 use Rattle.laws.specs.Test.{or-false}
+use Rattle.turn.specs.Refusals.{tells}
 use Rattle.graph.specs.Checks.{unlike, fewPoints, unlikeBand, fewContours, linksChecked}
 use Rattle.graph.specs.Tests.{even, band-even}
 
 returns : tie.Need-returns
 unfolding linksChecked
-returns c = simp (lt-ltb _ _ (c .if1 .taken))
+returns c = tells (simp (lt-ltb _ _ (c .if1 .taken)))
 
 unlike-requires : tie.Need-unlike-requires
 unlike-requires c κs = search needs
@@ -30,7 +31,7 @@ few-contours-requires c κs = search needs
 returns-2 : tie.Need-returns-2
 unfolding linksChecked
 returns-2 c =
-    simp (
+    tells (simp (
       le-ltb _ _ (c .before .before .before .before .before .if1 .left),
       rw (
         c .before .before .before .before .unlike .ensures,
@@ -38,7 +39,7 @@ returns-2 c =
         c .before .before .unlike-band .ensures,
         c .before .few-contours .ensures,
       ) at (c .if2 .taken),
-    )
+    ))
 
 -- check 2 finds nothing
 right :
@@ -69,7 +70,7 @@ check-each-requires c κs =
 
 returns-3 : tie.Need-returns-3
 unfolding linksChecked
-returns-3 c = simp (le-ltb _ _ (c .before .before .before .before .before .before .if1 .left), right (c .before), c .check-each .ensures)
+returns-3 c = tells (simp (le-ltb _ _ (c .before .before .before .before .before .before .if1 .left), right (c .before), c .check-each .ensures))
 
 pub check-links-spec : {M : Type 1} → statement M
 check-links-spec = tie.close (tie.spec returns unlike-requires few-points-requires unlike-band-requires

@@ -1,0 +1,2 @@
+-- What the public functions promise.
+pub mod Promises
