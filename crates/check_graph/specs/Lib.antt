@@ -1,2 +1,3 @@
 -- The room that is lent, as the checks read it.
 pub mod Rooms
+pub mod Promises

@@ -5,11 +5,11 @@ ghost use lib.ListN.{length};
 ghost use Rattle.turn.specs.Limits.{maxLinks};
 ghost use Rattle.turn.specs.declared.Checked.the-variants.{Fine};
 ghost use Rattle.graph.specs.Graph.{Lent, lent};
-ghost use Rattle.graph.specs.Checks.{nodesChecked, checked};
+ghost use Rattle.graph.specs.Checks.{nodesChecked};
 ghost use Rattle.graph.specs.Known.{Points, Grids, Ids};
 ghost use Rattle.graph.specs.Told.{LinksTold};
 ghost use Rattle.rings.specs.Field.{Spacious, Unled, AllLaid};
-ghost use Rattle.check_graph.specs.Rooms.{roomOf};
+ghost use Rattle.check_graph.specs.Promises.{check-graph-says};
 use check_ends::alike_node;
 use check_ends::apart_node;
 use check_links::check_links;
@@ -132,7 +132,7 @@ pub fn check_graph(
         × (Unled (now lead)) ⌝ }
     ensures { λ r. ⌜ (let g : Lent = lent (now (ax .entry)) (now (ay .entry)) (now (bx .entry)) (now (by .entry)) (now (aid .entry))
         (now (bid .entry)) (now (start .entry)) (now (list .entry)) in
-        r ≡ checked g (now (top .entry)) (now (state .entry)) (roomOf room)) ⌝ }
+        check-graph-says g (now (top .entry)) (now (state .entry)) room r) ⌝ }
     ensures { λ r. ⌜ (let g : Lent = lent (now (ax .entry)) (now (ay .entry)) (now (bx .entry)) (now (by .entry)) (now (aid .entry))
         (now (bid .entry)) (now (start .entry)) (now (list .entry)) in
         r ≡ Fine → AllLaid g (now (state .entry)) (now (nxt .exit)) (now (prv .exit)) (now (lead .exit))) ⌝ }

@@ -1,2 +1,3 @@
 -- The definition that the contract cites.
 pub mod Finish
+pub mod Promises

@@ -6,7 +6,8 @@ ghost use lib.ListN.{length};
 ghost use lib.IntN.{pos};
 ghost use Rattle.laws.specs.Lists.{mapFrom};
 ghost use Rattle.walk.specs.Code.{unmark};
-ghost use Rattle.finish.specs.Finish.{Buffers, buffers, finishedBy, Holds};
+ghost use Rattle.finish.specs.Finish.{buffers, Holds};
+ghost use Rattle.finish.specs.Promises.{finish-says};
 use scan::Extraction;
 
 fn unmarked(x: u8) -> u8
@@ -105,8 +106,8 @@ pub fn finish(
     kind: &mut [u8],
 )
     requires { ⌜ Holds answer (buffers (now state) (now points) (now first) (now len) (now kind)) ⌝ }
-    ensures { λ _. ⌜ (let before : Buffers = buffers (now (state .entry)) (now (points .entry)) (now (first .entry)) (now (len .entry)) (now (kind .entry)) in
-        buffers (now (state .exit)) (now (points .exit)) (now (first .exit)) (now (len .exit)) (now (kind .exit)) ≡ finishedBy answer before) ⌝ }
+    ensures { λ _. ⌜ finish-says answer (buffers (now (state .entry)) (now (points .entry)) (now (first .entry)) (now (len .entry)) (now (kind .entry)))
+        (buffers (now (state .exit)) (now (points .exit)) (now (first .exit)) (now (len .exit)) (now (kind .exit))) ⌝ }
 {
     match answer {
         Extraction::Refused {

@@ -13,12 +13,13 @@ ghost use Rattle.turn.specs.Points.{clockwise};
 ghost use Rattle.graph.specs.Graph.{Graph, pointAt};
 ghost use Rattle.next.specs.declared.Next.{Next};
 ghost use Rattle.next.specs.declared.Next.the-variants.{Link};
-ghost use Rattle.next.specs.Next.{isUnvisited, firstLink};
+ghost use Rattle.next.specs.Next.{isUnvisited};
 ghost use Rattle.next.specs.Known.{Links, NamesUnvisited};
 ghost use Rattle.rings.specs.Ends.{aEnd};
 ghost use Rattle.rings.specs.Climb.{Above};
-ghost use Rattle.rings.specs.Field.{nextOf, wrapsAt, Firsts, Reads, Begun};
+ghost use Rattle.rings.specs.Field.{nextOf, wrapsAt, Begun};
 ghost use Rattle.first.specs.Leading.{leading, Rises};
+ghost use Rattle.first.specs.Promises.{find-left-top-link-says};
 
 // Link x if it is unvisited, else s.
 fn unvisited_or(state: &[u8], x: usize, s: usize) -> usize
@@ -82,9 +83,8 @@ pub fn find_left_top_link(
     requires { ⌜ Begun (now ax) (now ay) (now bx) (now by) (now nxt) (now lead) (now state) ⌝ }
     requires { ⌜ Links (now ax) (now ay) (now bx) (now by) (length (now state)) ⌝ }
     requires { ⌜ (isUnvisited (now state) k ≡ true) × ((x : ℕ) → isUnvisited (now state) x ≡ true → k ≤ x) ⌝ }
-    ensures { λ r. ⌜ ((g : Graph) → Firsts g (now (nxt .entry)) (now (lead .entry)) (now (state .entry))
-        → Reads g (now (ax .entry)) (now (ay .entry)) (now (bx .entry)) (now (by .entry))
-        → r ≡ firstLink g (now (state .entry)) k) ⌝ }
+    ensures { λ r. ⌜ find-left-top-link-says (now (ax .entry)) (now (ay .entry)) (now (bx .entry)) (now (by .entry)) (now (nxt .entry)) (now (lead .entry))
+        (now (state .entry)) k r ⌝ }
     ensures { λ r. ⌜ NamesUnvisited (now (state .entry)) r ⌝ }
 {
     let f = nxt[2 * k];

@@ -2,3 +2,4 @@
 pub mod Outcome
 pub mod Tables
 pub mod Ledger
+pub mod Promises

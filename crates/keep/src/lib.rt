@@ -1,14 +1,15 @@
 // Rule 6: a walk is kept, and entered in the contour table, or it is rejected, and counted.
 ghost use mathlib.Core.Path.{_≡_};
 ghost use mathlib.Core.Bool.{true};
-ghost use mathlib.Core.List.{List, []};
+ghost use mathlib.Core.List.{[]};
 ghost use Prim.Native.Nat.{_+_, _-_, _*_, _<_, _≤_};
 ghost use lib.ListN.{length, set};
-ghost use lib.IntN.{ℤ, natAbs};
+ghost use lib.IntN.{natAbs};
 ghost use Rattle.laws.specs.Test.{pick};
 ghost use Rattle.turn.specs.Limits.{maxLinks};
 ghost use Rattle.turn.specs.Area.{wedgeBound};
-ghost use Rattle.keep.specs.Tables.{Tables, tables, enterKept, enterRejected, enter, Within, noCounts};
+ghost use Rattle.keep.specs.Tables.{tables, enterKept, enterRejected, Within};
+ghost use Rattle.keep.specs.Promises.{no-counts-says, note-walk-says};
 
 // What extraction returns on success. `kept_area` and `rejected_area` are the signed doubled totals of kept and of rejected walks.
 pub struct Counts {
@@ -22,7 +23,7 @@ pub struct Counts {
 
 // The counts before the first walk.
 pub fn no_counts() -> Counts
-    ensures { λ r. ⌜ r ≡ noCounts ⌝ }
+    ensures { λ r. ⌜ no-counts-says r ⌝ }
 {
     Counts {
         contours: 0,
@@ -108,9 +109,8 @@ pub fn note_walk(
 ) -> Counts
     requires { ⌜ (c .points ≤ to) × (Within maxLinks (to - c .points) c) × (natAbs area ≤ (to - c .points) * (2 * wedgeBound)) ⌝ }
     requires { ⌜ (to ≤ length (now first) * 3 + 2) × (length (now len) ≡ length (now first)) × (length (now kind) ≡ length (now first)) ⌝ }
-    ensures { λ r. ⌜ ((points : List ℤ) →
-        let before : Tables = tables points (now (first .entry)) (now (len .entry)) (now (kind .entry)) c in
-        tables points (now (first .exit)) (now (len .exit)) (now (kind .exit)) r ≡ enter minimum hole (to - c .points) area before) ⌝ }
+    ensures { λ r. ⌜ note-walk-says (now (first .entry)) (now (len .entry)) (now (kind .entry)) hole minimum to area c r (now (first .exit)) (now (len .exit))
+        (now (kind .exit)) ⌝ }
 {
     let at = c.points;
     let size = to - at;

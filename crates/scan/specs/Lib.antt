@@ -4,3 +4,5 @@ pub mod Notes
 pub mod Visits
 pub mod Enough
 pub mod Fields
+pub mod Values
+pub mod Promises

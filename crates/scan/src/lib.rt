@@ -9,9 +9,9 @@ ghost use Rattle.next.specs.Known.{Links};
 ghost use Rattle.rings.specs.Field.{Steers, Steered, Reads, Field, Fielded};
 ghost use Rattle.walk.specs.Walk.{walkFrom, markOf};
 ghost use Rattle.walk.specs.Code.{Kept};
-ghost use Rattle.scan.specs.Scan.{scan};
-ghost use Rattle.keep.specs.Tables.{Tables, tables, Within, noCounts};
-ghost use Rattle.scan.specs.Notes.{WalkNoted, FirstNoted, Fewer, Ends, Roomy, ScanLeaves};
+ghost use Rattle.keep.specs.Tables.{Tables, tables, Within};
+ghost use Rattle.scan.specs.Notes.{WalkNoted, FirstNoted, Fewer, Ends, Roomy};
+ghost use Rattle.scan.specs.Promises.{scan-links-says};
 use keep::Counts;
 use next::Next;
 use walk::Course;
@@ -177,11 +177,9 @@ pub fn scan_links(
     requires { ⌜ Fielded (now ax) (now ay) (now bx) (now by) (now top) (now nxt) (now prv) (now lead) (now state) ⌝ }
     requires { ⌜ (Links (now ax) (now ay) (now bx) (now by) (length (now state))) × (length (now top) ≡ length (now state)) ⌝ }
     requires { ⌜ Roomy (length (now state)) (length (now points)) (length (now first)) (length (now len)) (length (now kind)) ⌝ }
-    ensures { λ r. ⌜ ((g : Graph) → Field g (now (ax .entry)) (now (ay .entry)) (now (bx .entry)) (now (by .entry)) (now (top .entry))
-        (now (nxt .entry)) (now (prv .entry)) (now (lead .entry)) (now (state .entry)) →
-        let before : Tables = tables (now (points .entry)) (now (first .entry)) (now (len .entry)) (now (kind .entry)) noCounts in
-        ScanLeaves g (settings .minimum) before (scan g (settings .clockwise) (now (state .entry))) r (now (state .exit)) (now (points .exit))
-        (now (first .exit)) (now (len .exit)) (now (kind .exit))) ⌝ }
+    ensures { λ r. ⌜ scan-links-says (now (ax .entry)) (now (ay .entry)) (now (bx .entry)) (now (by .entry)) (now (nxt .entry)) (now (prv .entry))
+        (now (lead .entry)) (now (top .entry)) settings (now (state .entry)) (now (points .entry)) (now (first .entry)) (now (len .entry))
+        (now (kind .entry)) r (now (state .exit)) (now (points .exit)) (now (first .exit)) (now (len .exit)) (now (kind .exit)) ⌝ }
     ensures { λ r. ⌜ Ends (length (now (state .entry))) r ⌝ }
     ensures { λ _. ⌜ Kept (now (state .entry)) (now (state .exit)) ⌝ }
 {

@@ -11,9 +11,10 @@ ghost use Rattle.next.specs.Known.{Links};
 ghost use Rattle.rings.specs.Ends.{aEnd, bEnd, linkOf, isA, far, nodeOfEnd};
 ghost use Rattle.rings.specs.Linked.{stepOf};
 ghost use Rattle.rings.specs.Field.{crossMark, nextOf, prevOf, Steers, Steered, Reads};
-ghost use Rattle.walk.specs.Walk.{walkOn, walkFrom};
+ghost use Rattle.walk.specs.Walk.{walkOn};
 ghost use Rattle.walk.specs.Code.{put, Kept, Marks, Arrived, GoesTo, EndsUnvisited, Summed, stepOut, stepBy, Goes};
-ghost use Rattle.walk.specs.Code.{RestLeaves, WalkLeaves, Counted, Sized, SizedFrom};
+ghost use Rattle.walk.specs.Code.{RestLeaves, Counted, Sized, SizedFrom};
+ghost use Rattle.walk.specs.Promises.{find-contour-says};
 use rings::CROSS;
 use rings::far;
 use turn::Point;
@@ -242,10 +243,8 @@ pub fn find_contour(
     requires { ⌜ (Steered (now nxt) (now prv) (now state)) × (Links (now ax) (now ay) (now bx) (now by) (length (now state))) ⌝ }
     requires { ⌜ (s < length (now state)) × (getD (now state) s 1 ≡ 0) × (Marks (course .mark)) ⌝ }
     requires { ⌜ (at + unvisited (now state)) * 2 ≤ length (now points) ⌝ }
-    ensures { λ r. ⌜ ((g : Graph) → Steers g (now (nxt .entry)) (now (prv .entry)) (now (state .entry))
-        → Reads g (now (ax .entry)) (now (ay .entry)) (now (bx .entry)) (now (by .entry))
-        → WalkLeaves g (now (points .entry)) at (walkFrom g (course .forward) (course .sense) (course .mark) (now (state .entry)) s) r
-        (now (state .exit)) (now (points .exit))) ⌝ }
+    ensures { λ r. ⌜ find-contour-says (now (ax .entry)) (now (ay .entry)) (now (bx .entry)) (now (by .entry)) (now (nxt .entry)) (now (prv .entry)) course
+        (now (state .entry)) (now (points .entry)) at s r (now (state .exit)) (now (points .exit)) ⌝ }
     ensures { λ r. ⌜ (Counted (at + 1) at (now (state .entry)) (now (state .exit)) r) × (Sized at r) ⌝ }
     ensures { λ _. ⌜ Kept (now (state .entry)) (now (state .exit)) ⌝ }
 {

@@ -5,7 +5,7 @@ use Rattle.check_graph.proofs.check_graph.Tie as tie
 use mathlib.Core.Path.{_≡_, sym, ap, _∙_}
 use Rattle.turn.specs.declared.Checked.{Checked}
 use Rattle.turn.specs.declared.Checked.the-variants.{Fine}
-use Rattle.turn.specs.Refusals.{followedBy}
+use Rattle.turn.specs.Refusals.{followedBy, tells}
 use Rattle.graph.specs.Graph.{Lent, lent}
 use Rattle.graph.specs.Checks.{linksChecked, nodesChecked, checked}
 use Rattle.graph.specs.Told.{LinksTold, links-told}
@@ -42,8 +42,8 @@ returns : tie.Need-returns
 unfolding checked
 returns c =
     let s = c .before .before .before .before .before .before .before .before .before .before .before .before .before in (
-      sym (ap (λ (k : Checked). followedBy k (nodesChecked (g s) (s .args .state .now))) (sym (c .before .before .before .check-links .ensures .2)
-          ∙ c .before .number .given .1)),
+      tells (sym (ap (λ (k : Checked). followedBy k (nodesChecked (g s) (s .args .state .now))) (sym (c .before .before .before .check-links .ensures .2)
+          ∙ c .before .number .given .1))),
       λ e. absurd (not-fine _ _ e),
     )
 
@@ -62,10 +62,10 @@ returns-2 c =
     let s = c .before .before .before .before .before .before .before .before .before .before .before .before .before .before .before .before
     .before .before .before .before .before .before in
     let o = c .before .before .before .before .before .before in (
-      o .check-nodes .ensures .0 ∙ sym
+      tells (o .check-nodes .ensures .0 ∙ sym
           (ap (λ (k : Checked). followedBy k (nodesChecked (g s) (s .args .state .now))) (sym (o .before .before .before .before .before
           .before .check-links .ensures .2)
-          ∙ o .before .before .before .before .enum-told .given .1)),
+          ∙ o .before .before .before .before .enum-told .given .1))),
       o .check-nodes .ensures .1,
     )
 
