@@ -20,7 +20,7 @@ ghost use Rattle.lay.specs.Stores.{paired, led};
 ghost use Rattle.lay.specs.Kinds.{BridgesLaid, CrossesLaid, BridgesKept};
 use graph::entries;
 use graph::point_at;
-use hoop::lay_cross;
+use spokes::lay_cross;
 use turn::between;
 use turn::cross_product;
 use turn::differ;

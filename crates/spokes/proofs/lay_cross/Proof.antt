@@ -1,4 +1,4 @@
--- `hoop::lay_cross` meets its contract: entry after entry, as `Crossings` says.
+-- `spokes::lay_cross` meets its contract: entry after entry, as `Crossings` says.
 use native.Mathlib.Omega.{arith}
 use Prim.Native.Nat.{ℕ, _-_, _≤_, _<_}
 use mathlib.Core.Path.{_≡_, refl, _∙_, subst}
@@ -8,9 +8,9 @@ use borrow.Author.Needs.{needs}
 use Rattle.laws.specs.Test.{true≢false}
 use Rattle.graph.specs.Graph.{pointAt}
 use Rattle.graph.specs.Checks.{nodeAt, endAt}
-use Rattle.hoop.proofs.Crossings.{answer-no-link, kept-twice, Crossing, cross-start, cross-more, cross-wrong, cross-right, cross-laid}
-use Rattle.hoop.proofs.lay_cross.Statement.{statement}
-use Rattle.hoop.proofs.lay_cross.Tie as tie
+use Rattle.spokes.proofs.Crossings.{answer-no-link, kept-twice, Crossing, cross-start, cross-more, cross-wrong, cross-right, cross-laid}
+use Rattle.spokes.proofs.lay_cross.Statement.{statement}
+use Rattle.spokes.proofs.lay_cross.Tie as tie
 
 abbrev Inv-loop : tie.InvT-loop
 Inv-loop ax ay bx by aid bid state here v nxt₀ prv₀ first home hoop₀ j₀ nxt prv hoop j =

@@ -1,6 +1,6 @@
--- `hoop::stands_before` meets its contract; the invariant: so far the answer tells whether x stands below i.
-use Rattle.hoop.proofs.stands_before.Statement.{statement}
-use Rattle.hoop.proofs.stands_before.Tie as tie
+-- `spokes::stands_before` meets its contract; the invariant: so far the answer tells whether x stands below i.
+use Rattle.spokes.proofs.stands_before.Statement.{statement}
+use Rattle.spokes.proofs.stands_before.Tie as tie
 use Prim.Native.Nat.{ℕ, _≤_, _-_}
 use native.Mathlib.Omega.{arith}
 use mathlib.Core.Path.{_≡_, sym, ap, ap₂, _∙_}

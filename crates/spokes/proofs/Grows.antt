@@ -1,5 +1,5 @@
 -- One more end is put into a ring that stands in the lists: alone, before the first, after the last, or between two.
-use Prim.Native.Nat.{ℕ, _+_, _*_, _-_, _%_, _≤_, _<_}
+use Prim.Native.Nat.{ℕ, _+_, _*_, _%_, _≤_, _<_}
 use native.Mathlib.Omega.{arith}
 use native.Mathlib.Decide.{ℕ-discrete}
 use mathlib.Core.Path.{_≡_, refl, sym, ap, _∙_, subst}
@@ -24,9 +24,9 @@ use Rattle.rings.specs.LinkOne.{linked-one, put-between}
 use Rattle.rings.specs.LastEnd.{last-before, last-between}
 use Rattle.rings.specs.Making.{RingOf}
 use Rattle.rings.specs.Field.{crossMark, wrapMark, nextOf, wrapsAt}
-use Rattle.hoop.specs.Hoops.{lastOf, Stood}
-use Rattle.hoop.proofs.Lasts.{last-member, put-behind, put-ahead, last-marked, inner-unmarked, mark-behind}
-use Rattle.hoop.proofs.Stores.{cross-end, wrap-end, cross-no-wrap, wrap-wraps, cross-is, Stored, stored, put-of}
+use Rattle.spokes.specs.Entries.{lastOf, Stood}
+use Rattle.spokes.proofs.Lasts.{last-member, put-behind, put-ahead, last-marked, inner-unmarked, mark-behind}
+use Rattle.spokes.proofs.Stores.{cross-end, wrap-end, cross-no-wrap, wrap-wraps, cross-is, Stored, stored, put-of}
 
 -- what stands in a sorted list with f stands before f or after it
 pub both-sides : (R : ℕ → ℕ → Type 0) (s t : List ℕ) (f : ℕ) → Sorted R (s ++ (f ∷ t)) → (x : ℕ) → Mem x (s ++ t) → R x f ⊎ R f x

@@ -1,4 +1,4 @@
--- `hoop::lay_entry` meets its contract: an entry that misses, a skipped one, or an end put at its place, as `Steps` says.
+-- `spokes::lay_entry` meets its contract: an entry that misses, a skipped one, or an end put at its place, as `Steps` says.
 use native.Mathlib.Omega.{arith}
 use Prim.Native.Nat.{ℕ, _<_}
 use mathlib.Core.Path.{_≡_, refl, sym, ap, _∙_, subst}
@@ -11,13 +11,13 @@ use Rattle.turn.specs.Points.{differ}
 use Rattle.graph.specs.Graph.{pointAt}
 use Rattle.graph.specs.Checks.{nodeAt, endAt, stray}
 use Rattle.graph.specs.Quick.{standsBefore}
-use Rattle.hoop.specs.Links.{linksOf}
+use Rattle.spokes.specs.Links.{linksOf}
 use Rattle.rings.specs.Ends.{endOf}
 use Rattle.hoop.specs.Hoops.{Placed}
-use Rattle.hoop.proofs.Among.{wrong-missed, below-f, home-grid, wrong-stands}
-use Rattle.hoop.proofs.Steps.{own-points, own-grids, sought, backed, skip-entry, end-link-below, fits-at, step-at}
-use Rattle.hoop.proofs.lay_entry.Statement.{statement}
-use Rattle.hoop.proofs.lay_entry.Tie as tie
+use Rattle.spokes.proofs.Among.{wrong-missed, below-f, home-grid, wrong-stands}
+use Rattle.spokes.proofs.Steps.{own-points, own-grids, sought, backed, skip-entry, end-link-below, fits-at, step-at}
+use Rattle.spokes.proofs.lay_entry.Statement.{statement}
+use Rattle.spokes.proofs.lay_entry.Tie as tie
 
 -- the entry, the point of a link's end, and that end
 abbrev f : tie.Start → ℕ

@@ -17,12 +17,13 @@ use Rattle.rings.specs.Rings.{InOrder}
 use Rattle.rings.specs.Sorted.{sorted-parts}
 use Rattle.rings.specs.Making.{RingOf}
 use Rattle.rings.specs.Field.{crossMark, wrapMark}
 use Rattle.hoop.specs.declared.Hoop.{Hoop}
 use Rattle.hoop.specs.declared.Place.the-variants.{First, After}
 use Rattle.hoop.specs.declared.Taken.the-variants.{Makes}
-use Rattle.hoop.specs.Hoops.{Outcome, after, makes, linkEnd, putEnd, lastOf, Stood, Told, Held}
-use Rattle.hoop.proofs.Lasts.{last-member, last-behind, head-before}
-use Rattle.hoop.proofs.Grows.{Ready, stood-alone, stood-first, stood-last, stood-between, next-is}
+use Rattle.hoop.specs.Hoops.{Outcome, makes, linkEnd, putEnd}
+use Rattle.spokes.specs.Entries.{lastOf, Stood, Told, Held}
+use Rattle.spokes.proofs.Lasts.{last-member, last-behind, head-before}
+use Rattle.spokes.proofs.Grows.{Ready, stood-alone, stood-first, stood-last, stood-between, next-is}
 
 -- a list by ends is as it was but for the ends at node v of f and of l
 abbrev pub KeptOff : Graph → ℕ → List ℕ → List ℕ → List ℕ → Type 0

@@ -20,14 +20,14 @@ use Rattle.graph.specs.Graph.{lent, graphOf, pointAt, part}
 use Rattle.graph.specs.Checks.{nodeAt, endAt, stray, strayIn}
 use Rattle.graph.specs.Quick.{clashAt}
 use Rattle.graph.specs.Known.{Points, Grids, Runs}
-use Rattle.hoop.specs.Links.{linksOf}
+use Rattle.spokes.specs.Links.{linksOf}
 use Rattle.next.specs.Choice.{Mem}
 use Rattle.rings.specs.Making.{none-taken}
 use Rattle.rings.specs.Field.{LaidCross, ElseKept}
 use Rattle.hoop.specs.declared.Hoop.{Hoop}
 use Rattle.hoop.specs.declared.Taken.{Taken}
 use Rattle.hoop.specs.declared.Taken.the-variants.{Wrong, Makes}
-use Rattle.hoop.specs.Hoops.{wrongAt, Laying, Entered}
+use Rattle.spokes.specs.Entries.{wrongAt, Laying, Entered}
 
 -- ---- the answer, by the entries
 module _ (ax ay bx by : List ℤ) (aid bid state here : List ℕ) (v : ℕ) where

@@ -16,7 +16,7 @@ use Rattle.rings.specs.Linked.{AllRound, Linked}
 use Rattle.rings.specs.Linking.{round-between}
 use Rattle.rings.specs.LinkOne.{Put, put-second, put-last, linked-turned}
 use Rattle.rings.specs.Climb.{LastAlone, AtLast}
-use Rattle.hoop.specs.Hoops.{lastOf}
+use Rattle.spokes.specs.Entries.{lastOf}
 
 -- ---- where it stands
 pub last-member : (x : ℕ) (l : List ℕ) → Mem (lastOf x l) (x ∷ l)

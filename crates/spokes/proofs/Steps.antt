@@ -17,7 +17,7 @@ use Rattle.graph.specs.Graph.{Graph, lent, graphOf, pointAt}
 use Rattle.graph.specs.Checks.{nodeAt, endAt, stray}
 use Rattle.graph.specs.Quick.{standsBefore}
 use Rattle.graph.specs.Known.{Points, Grids}
-use Rattle.hoop.specs.Links.{linksOf}
+use Rattle.spokes.specs.Links.{linksOf}
 use Rattle.next.specs.Choice.{Mem}
 use Rattle.rings.specs.Ends.{endOf, end-node, end-link, end-below}
 use Rattle.rings.specs.RingOrder.{Forward, ring-irreflexive}
@@ -26,17 +26,17 @@ use Rattle.rings.specs.Sorted.{BeforeAll, Sorted, sorted-short}
 use Rattle.rings.specs.Linked.{Leads}
 use Rattle.rings.specs.Making.{RingOf, take-skipped, take-front, take-after}
 use Rattle.rings.specs.Field.{crossMark, prevOf, endNode, ElseKept}
 use Rattle.hoop.specs.declared.Hoop.{Hoop}
 use Rattle.hoop.specs.declared.Place.{Place}
 use Rattle.hoop.specs.declared.Place.the-variants.{First, After, Alike}
 use Rattle.hoop.specs.Hoops.{Before, Backed, Sought, GoesAfter, Placed, Outcome, putEnd, PlaceFits, Fits}
-use Rattle.hoop.specs.Hoops.{Stood, Told, Held, wrongAt, Laying, Entered}
-use Rattle.hoop.proofs.Ways.{in-order, run-alike}
-use Rattle.hoop.proofs.Lasts.{last-at, split-two, neighbours}
-use Rattle.hoop.proofs.Grows.{both-sides, not-among, Ready, next-is}
-use Rattle.hoop.proofs.Holds.{KeptOff, Grown, grown-first, grown-after}
-use Rattle.hoop.proofs.Among.{link-there, take-more, own-x, below-f, below-x, forward-f, forward-x, home-x, home-f}
-use Rattle.hoop.proofs.Among.{wrong-alike, right-ordered, right-skipped}
+use Rattle.spokes.specs.Entries.{Stood, Told, Held, wrongAt, Laying, Entered}
+use Rattle.spokes.proofs.Orders.{in-order, run-alike}
+use Rattle.spokes.proofs.Lasts.{last-at, split-two, neighbours}
+use Rattle.spokes.proofs.Grows.{both-sides, not-among, Ready, next-is}
+use Rattle.spokes.proofs.Holds.{KeptOff, Grown, grown-first, grown-after}
+use Rattle.spokes.proofs.Among.{link-there, take-more, own-x, below-f, below-x, forward-f, forward-x, home-x, home-f}
+use Rattle.spokes.proofs.Among.{wrong-alike, right-ordered, right-skipped}
 
 module _ {ax ay bx by : List ℤ} {aid bid state here : List ℕ} {v : ℕ} {home : Point} {nxt prv : List ℕ} {j : ℕ} {hoop : Hoop}
     (y : Laying ax ay bx by aid bid state here v home nxt prv j hoop) (jn : j < length here) (own : stray aid bid v (getD here j 0) ≡ false) where

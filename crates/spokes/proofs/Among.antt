@@ -23,12 +23,12 @@ use Rattle.graph.specs.Checks.{nodeAt, endAt, awayFrom, stray, apart, skipped, 
 use Rattle.graph.specs.Quick.{standsBefore, alikeBefore, clashAt}
 use Rattle.graph.specs.PointLaws.{same-point}
 use Rattle.graph.specs.EndLaws.{end-on-grid}
-use Rattle.hoop.specs.Links.{linksOf}
+use Rattle.spokes.specs.Links.{linksOf}
 use Rattle.next.specs.Choice.{Mem}
 use Rattle.rings.specs.RingOrder.{Forward, ring-apart}
 use Rattle.rings.specs.Rings.{InOrder}
 use Rattle.hoop.specs.declared.Hoop.{Hoop}
-use Rattle.hoop.specs.Hoops.{wrongAt, Laying}
+use Rattle.spokes.specs.Entries.{wrongAt, Laying}
 
 -- ---- tests of three
 or-first : (x y z : Bool) → x ≡ true → x || y || z ≡ true

@@ -1,4 +1,4 @@
--- `hoop::misses` meets its contract: one thing after the other, as `Missed` says.
+-- `spokes::misses` meets its contract: one thing after the other, as `Missed` says.
 use Prim.Native.Nat.{ℕ}
 use native.Mathlib.Omega.{arith}
 use mathlib.Core.Path.{_≡_, sym, ap, _∙_}
@@ -7,9 +7,9 @@ use borrow.Author.Needs.{needs}
 use Rattle.turn.specs.declared.Point.{Point}
 use Rattle.turn.specs.Points.{differ}
 use Rattle.graph.specs.Graph.{pointAt}
-use Rattle.hoop.proofs.Missed.{miss-no-link, miss-a, miss-b, miss-else}
-use Rattle.hoop.proofs.misses.Statement.{statement}
-use Rattle.hoop.proofs.misses.Tie as tie
+use Rattle.spokes.proofs.Missed.{miss-no-link, miss-a, miss-b, miss-else}
+use Rattle.spokes.proofs.misses.Statement.{statement}
+use Rattle.spokes.proofs.misses.Tie as tie
 
 -- the links' points
 abbrev a : tie.Start → ℕ → Point
