@@ -1,5 +1,5 @@
 -- A `Bridge` after its stores, by the sorts of its two ends: each leads to the far end of the other, and rule 1 names its entry.
-use Prim.Native.Nat.{ℕ, _*_, _<_}
+use Prim.Native.Nat.{ℕ, _<_}
 use native.Mathlib.Omega.{arith}
 use mathlib.Core.Path.{_≡_, refl, sym, ap, _∙_}
 use mathlib.Core.Logic.{_⊎_, inl, inr}
@@ -18,8 +18,8 @@ use Rattle.graph.specs.Graph.{Graph}
 use Rattle.graph.specs.PointLaws.{same-point}
 use Rattle.rings.specs.Ends.{aEnd, bEnd, linkOf, far, endOf, a-link, b-link, far-a, far-b}
 use Rattle.rings.specs.Field.{named, LaidBridge}
-use Rattle.lay.specs.Stores.{paired, led}
-use Rattle.lay.proofs.Stored.{at-first, at-second}
+use Rattle.bridge.specs.Stores.{paired, led}
+use Rattle.bridge.proofs.Stored.{at-first, at-second}
 
 -- ---- two points are one whichever is asked first, and one that is the start of a turn makes none
 pub differ-either : (p q : Point) → differ p q ≡ differ q p

@@ -1,10 +1,10 @@
--- `lay::lay_unlike` meets its contract: the points are one, and two ends are stored.
+-- `bridge::lay_unlike` meets its contract: the points are one, and two ends are stored.
 use mathlib.Core.Path.{_≡_, refl, sym, ap₂, _∙_}
 use Rattle.turn.specs.Points.{differ}
 use Rattle.graph.specs.Graph.{pointAt}
 use borrow.Author.Needs.{needs}
-use Rattle.lay.proofs.lay_unlike.Statement.{statement}
-use Rattle.lay.proofs.lay_unlike.Tie as tie
+use Rattle.bridge.proofs.lay_unlike.Statement.{statement}
+use Rattle.bridge.proofs.lay_unlike.Tie as tie
 
 point-at-requires : tie.Need-point-at-requires
 point-at-requires c κs = search needs

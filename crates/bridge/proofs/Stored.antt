@@ -2,13 +2,14 @@
 use Prim.Native.Nat.{ℕ, _<_}
 use mathlib.Core.Path.{_≡_, refl, sym, ap, _∙_, subst}
 use mathlib.Core.Bool.{Bool, false}
-use mathlib.Core.List.{List}
+use mathlib.Core.List.{List, []}
 use lib.ListN.{length, getD, set, length-set}
 use lib.Seq.{getD-set-same, getD-set-other}
-use Rattle.laws.specs.Test.{pick, pick-true, pick-false, pick-ind}
-use Rattle.rings.specs.Ends.{aEnd, bEnd, linkOf, a-is-a, b-is-b, a-link, b-link}
+use Rattle.laws.specs.Test.{pick, pick-ind}
+use Rattle.graph.specs.Graph.{Graph, graphOf, lent}
+use Rattle.rings.specs.Ends.{aEnd, bEnd, a-node, b-node}
 use Rattle.rings.specs.Field.{endNode, ElseKept, OthersKept}
-use Rattle.lay.specs.Stores.{paired, led}
+use Rattle.bridge.specs.Stores.{paired, led}
 
 module _ (l : List ℕ) (p i q j : ℕ) where
   -- at the first place, at the second, and at any other
@@ -23,11 +24,15 @@ module _ (l : List ℕ) (p i q j : ℕ) where
 
 -- ---- the ends' nodes
 module _ (aId bId : List ℕ) (k : ℕ) where
+  -- as a graph's nodes, whatever else it is
+  abbrev g : Graph
+  g = graphOf (lent [] [] [] [] aId bId [] []) []
+
   pub a-end-node : endNode aId bId (aEnd k) ≡ getD aId k 0
-  a-end-node = pick-true (getD aId (linkOf (aEnd k)) 0) (getD bId (linkOf (aEnd k)) 0) (a-is-a k) ∙ ap (λ (x : ℕ). getD aId x 0) (a-link k)
+  a-end-node = a-node g k
 
   pub b-end-node : endNode aId bId (bEnd k) ≡ getD bId k 0
-  b-end-node = pick-false (getD aId (linkOf (bEnd k)) 0) (getD bId (linkOf (bEnd k)) 0) (b-is-b k) ∙ ap (λ (x : ℕ). getD bId x 0) (b-link k)
+  b-end-node = b-node g k
 
 -- ---- stores at ends of node v leave the other ends, and stores at links whose a is there the other links
 module _ (aId bId : List ℕ) (v : ℕ) where

@@ -1,4 +1,4 @@
--- `lay::lay_bridge` meets its contract: by the sorts of the two ends at the node, a law of `Outcomes` for each way out.
+-- `bridge::lay_bridge` meets its contract: by the sorts of the two ends at the node, a law of `Outcomes` for each way out.
 use Prim.Native.Nat.{_<_}
 use native.Mathlib.Omega.{arith}
 use mathlib.Core.Path.{sym, _∙_}
@@ -7,10 +7,10 @@ use Rattle.laws.specs.Fails.{or-fails, le-fails}
 use Rattle.turn.specs.Limits.{maxLinks}
 use Rattle.graph.specs.Known.{points-swapped, grids-swapped}
 use Rattle.rings.specs.Ends.{bEnd}
-use Rattle.lay.proofs.Outcomes.{outcome-no-link, outcome-no-end, outcome-b-a, outcome-a-b, outcome-a-a, outcome-b-b}
+use Rattle.bridge.proofs.Outcomes.{outcome-no-link, outcome-no-end, outcome-b-a, outcome-a-b, outcome-a-a, outcome-b-b}
 use borrow.Author.Needs.{needs}
-use Rattle.lay.proofs.lay_bridge.Statement.{statement}
-use Rattle.lay.proofs.lay_bridge.Tie as tie
+use Rattle.bridge.proofs.lay_bridge.Statement.{statement}
+use Rattle.bridge.proofs.lay_bridge.Tie as tie
 
 returns : tie.Need-returns
 returns c =
