@@ -1,12 +1,4 @@
--- Laws of the ring's making; leaves first.
-pub mod Ways
-pub mod Search
-pub mod Puts
-pub mod Lasts
-pub mod Stores
-pub mod Grows
-pub mod Holds
-pub mod Missed
-pub mod Among
-pub mod Steps
-pub mod Crossings
+-- Laws of one end put into a ring; leaves first.
+mod Ways
+mod Search
+mod Puts

@@ -55,6 +55,7 @@ module _ {a b : ℕ → Point} {home : Point} {prv : List ℕ} {q tail count : �
         place = i - 1;
         within = place e l h;
         parallel = subst (λ x. Parallel a b home x q) (s e l h .at-is more) t;
+        rest = λ j k m. s e l h .rest j (omega arith) m;
       }
 
       pub search-on : Before a b home q at → (to : ℕ) → to ≡ getD prv at 0 → Searching a b home prv q tail count to (i - 1)

@@ -1,4 +1,4 @@
--- What the comparison of two ends tells; and that the order of the ends of a node is the ring order of their links.
+-- What the comparison of two ends tells, and that a link's far point lies within the bounds.
 use Prim.Native.Nat.{ℕ, _%_, _≤_, _<_}
 use native.Mathlib.Omega.{arith}
 use mathlib.Core.Path.{_≡_, refl, sym, ap, ap₂, _∙_}
@@ -6,23 +6,17 @@ use mathlib.Core.Bool.{Bool, true, false}
 use mir.Syntax.{w64}
 use mir.Val.{ofZ}
 use lib.Dec.{eqb}
-use lib.IntN.{ℤ, pos, natAbs, _-ℤ_, _*ℤ_}
+use lib.IntN.{ℤ, pos, natAbs}
 use lib.Signed.{ltZ}
 use borrow.Author.Tests.{eq-eqb, ne-eqb}
-use Rattle.laws.specs.Test.{pick, pick-ind, true≢false, true-is}
+use Rattle.laws.specs.Test.{pick-ind, true≢false, true-is}
 use Rattle.laws.specs.Bounds.{Z, fits64, same64}
 use Rattle.laws.specs.Sign.{Sgn, mns, zer, pls, sgn, flip, eqS, eqS-eq, sgn-zer, sgn-neg, gtZ-sgn, eq0-sgn}
-use Rattle.laws.specs.Order.{sub-parts, ≡out}
 use Rattle.turn.specs.declared.Point.{Point}
-use Rattle.turn.specs.Points.{OnGrid, fromTo, cross, productBound}
-use Rattle.turn.specs.Angle.{sameDirection}
+use Rattle.turn.specs.Points.{OnGrid, cross, productBound}
 use Rattle.turn.specs.Directions.{cross-anti}
-use Rattle.graph.specs.Graph.{Graph}
-use Rattle.graph.specs.Checks.{endAt, awayFrom}
-use Rattle.rings.specs.Ends.{linkOf, isA, endOf, startsAt, end-link, end-sort}
-use Rattle.rings.specs.RingOrder.{inTurn, Forward}
-use Rattle.rings.specs.Rings.{InOrder}
-use Rattle.rings.specs.Making.{like-alike}
+use Rattle.rings.specs.Ends.{linkOf, isA}
+use Rattle.rings.specs.RingOrder.{inTurn}
 use Rattle.hoop.specs.Hoops.{farPoint, wayOf, Before, Parallel}
 
 -- ---- what the code's tests tell of ends h and q
@@ -90,37 +84,3 @@ module _ (a b : ℕ → Point) (home : Point) (h q : ℕ) where
 pub far-grid : (a b : ℕ → Point) (h n : ℕ) → ((k : ℕ) → k < n → OnGrid (a k)) → ((k : ℕ) → k < n → OnGrid (b k)) → linkOf h < n
     → OnGrid (farPoint a b h)
 far-grid a b h n p r l = pick-ind (isA h) (b (linkOf h)) (a (linkOf h)) OnGrid (λ _. r (linkOf h) l) (λ _. p (linkOf h) l)
-
--- ---- the ends of a node's links, all at the point `home`
-module _ (g : Graph) (v : ℕ) (home : Point) where
-  -- link k's end at node v has that point
-  abbrev pub AtHome : ℕ → Type 0
-  AtHome k = home ≡ endAt (g .a) (g .b) (g .aNode) v k
-
-  pub way-is : (k : ℕ) → AtHome k → wayOf (g .a) (g .b) home (endOf g v k) ≡ awayFrom g v k
-  way-is k p =
-      ap₂ fromTo p (ap₂ (λ s i. pick s (g .b i) (g .a i)) (end-sort g v k) (end-link g v k)) ∙ by (startsAt g v k)
-    where
-      by : (s : Bool) → fromTo (pick s (g .a k) (g .b k)) (pick s (g .b k) (g .a k))
-          ≡ pick s (fromTo (g .a k) (g .b k)) (fromTo (g .b k) (g .a k))
-      by true = refl
-      by false = refl
-
-  module _ (e f : ℕ) (p : AtHome e) (q : AtHome f) where
-    turn-is : cross (wayOf (g .a) (g .b) home (endOf g v e)) (wayOf (g .a) (g .b) home (endOf g v f)) ≡ cross (awayFrom g v e) (awayFrom g v f)
-    turn-is = ap₂ cross (way-is e p) (way-is f q)
-
-    pub in-order : Before (g .a) (g .b) home (endOf g v e) (endOf g v f) → InOrder g v e f
-    in-order t =
-        sym (ap₂ (λ i j. inTurn i j (ltZ (pos 0) (cross (wayOf (g .a) (g .b) home (endOf g v e)) (wayOf (g .a) (g .b) home (endOf g v f)))))
-        (end-sort g v e) (end-sort g v f) ∙ ap (λ z. inTurn (startsAt g v e) (startsAt g v f) (ltZ (pos 0) z)) turn-is)
-        ∙ t .turns
-
-    pub run-alike : Forward g e → Forward g f → Parallel (g .a) (g .b) home (endOf g v e) (endOf g v f)
-        → sameDirection (awayFrom g v e) (awayFrom g v f) ≡ true
-    run-alike se sf t =
-        like-alike g v e f (sym (end-sort g v e) ∙ t .sort ∙ end-sort g v f) se sf
-        (equal (awayFrom g v e .x *ℤ awayFrom g v f .y) (awayFrom g v e .y *ℤ awayFrom g v f .x) (sym turn-is ∙ t .flat))
-      where
-        equal : (x y : ℤ) → x -ℤ y ≡ pos 0 → x ≡ y
-        equal x y z = ≡out (omega (arith, sub-parts x y, rw z at (sub-parts x y)))

@@ -1,3 +1,3 @@
--- The ring of a `Cross` while it is made, as the functions' contracts say it.
-pub mod Links
+-- The ring of a `Cross` while an end is put into it, as the contracts say it; then that the place is one alone.
 pub mod Hoops
+pub mod Once

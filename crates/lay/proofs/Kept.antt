@@ -12,11 +12,10 @@ use Rattle.graph.specs.Graph.{Lent, Graph, graphOf}
 use Rattle.graph.specs.Checks.{entriesOf}
 use Rattle.graph.specs.Passes.{EndAt}
 use Rattle.next.specs.Choice.{Mem}
-use Rattle.rings.specs.Ends.{aEnd, linkOf, endOf, end-node}
+use Rattle.rings.specs.Ends.{aEnd, linkOf, endOf, a-node, end-node}
 use Rattle.rings.specs.Climb.{LastAlone, AtLast}
 use Rattle.rings.specs.Linking.{linked-kept}
 use Rattle.rings.specs.Field.{crossMark, wrapMark, wrapsAt, named, LaidBridge, LaidCross, Laid, endNode, ElseKept, OthersKept}
-use Rattle.lay.proofs.Stored.{a-end-node}
 
 -- a test that tells the members of a list alike tells the last alike
 last-kept : (s t : ℕ → Bool) (p : ℕ) (l : List ℕ) → ((x : ℕ) → Mem x (p ∷ l) → t x ≡ s x) → LastAlone s p l → LastAlone t p l
@@ -52,7 +51,7 @@ module _ (lists : Lent) (top state : List ℕ) (u : ℕ)
   named-same : (k : ℕ) → g .aNode k ≡ u → named g lead′ nxt′ k ≡ named g lead nxt k
   named-same k i =
       ap₂ (λ (l h : ℕ). pick (eqb l 1) k (pick (eqb l 2) (linkOf h) (pick (clockwise (g .a (linkOf h)) (g .b (linkOf h)) (g .b k)) (linkOf h) k)))
-      (kl k i) (kn (aEnd k) (a-end-node (lists .aId) (lists .bId) k ∙ i))
+      (kl k i) (kn (aEnd k) (a-node g k ∙ i))
 
   bridge-kept : (x y : ℕ) → g .entries u ≡ x ∷ (y ∷ []) → LaidBridge g u x y nxt lead → LaidBridge g u x y nxt′ lead′
   bridge-kept x y q b = record {

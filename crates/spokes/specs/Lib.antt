@@ -1,0 +1,3 @@
+-- The entries of a `Cross` that have been taken, as the contracts say it.
+pub mod Links
+pub mod Entries
