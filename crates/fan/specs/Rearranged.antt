@@ -3,14 +3,14 @@ use Prim.Native.Nat.{ℕ, zero, suc, _+_, _≤_, _<_}
 use native.Mathlib.Nat.{not-suc-le-zero, le-of-suc-le-suc}
 use native.Mathlib.Omega.{arith}
 use native.Mathlib.Decide.{ℕ-discrete}
-use mathlib.Core.Path.{_≡_, refl, sym, ap, _∙_, subst}
+use mathlib.Core.Path.{_≡_, refl, sym, _∙_, subst}
 use mathlib.Core.List.{List, [], _∷_, List·Memᴰ}
 use lib.Dec.{eqb}
-use lib.ListN.{length, getD, set, length-set}
+use lib.ListN.{length, getD, set, take, length-set}
 use lib.Seq.{getD-set-same, getD-set-other}
 use borrow.Author.Tests.{eq-eqb}
 use Rattle.laws.specs.Test.{pick}
-use Rattle.laws.specs.Count.{count, counted-in}
+use Rattle.laws.specs.Count.{count, count-more, count-most, counted-in}
 use Rattle.laws.specs.Lists.{Place, place-of, member}
 
 -- m is l in some order
@@ -58,10 +58,9 @@ module _ (l : List ℕ) (i j : ℕ) (h : i < length l) (k : j < length l) where
 -- ---- each number of the one stands in the other
 -- one that stands in a list is counted
 counts-there : (x : ℕ) (l : List ℕ) (i : ℕ) → i < length l → getD l i 0 ≡ x → 1 ≤ count x l
-unfolding count
-counts-there x [] i h e = absurd (not-suc-le-zero h)
-counts-there x (y ∷ l) zero h e = rw (eq-eqb y x e) (omega arith)
-counts-there x (y ∷ l) (suc i) h e = omega (arith, counts-there x l i (le-of-suc-le-suc h) e)
+counts-there x l i h e =
+    let m : count x (take (i + 1) l) ≡ count x (take i l) + 1 = count-more x l i h ∙ rw (eq-eqb (getD l i 0) x e) in
+    omega (arith, m, count-most x (i + 1) l)
 
 module _ {l m : List ℕ} (r : Rearranged l m) where
   pub member-before : {x : ℕ} → List·Memᴰ x m → List·Memᴰ x l

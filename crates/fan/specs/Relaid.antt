@@ -1,26 +1,24 @@
 -- What is laid from a node's entries is what is laid from them in any other order: checks 5 to 7 answer the same, and a ring of the one is
 -- a ring of the other.
-use Prim.Native.Nat.{ℕ, zero, suc, _+_, _-_, _*_, _≤_, _<_}
+use Prim.Native.Nat.{ℕ, zero, suc, _≤_, _<_}
 use native.Mathlib.Nat.{sub-zero}
 use native.Mathlib.Numerals.{add-one}
 use native.Mathlib.Omega.{arith}
 use native.Mathlib.Decide.{ℕ-discrete, decLe}
-use mathlib.Core.Path.{_≡_, refl, sym, ap, ap₂, _∙_, subst}
+use mathlib.Core.Path.{_≡_, refl, sym, ap, _∙_, subst}
 use mathlib.Core.Bool.{Bool, true, false, not, _&&_}
 use mathlib.Core.List.{List, [], _∷_, _++_}
-use lib.Dec.{eqb, leb}
+use lib.Dec.{leb}
 use lib.IntN.{ℤ}
-use lib.ListN.{length, getD, take, drop, replicate, length-replicate}
-use lib.Seq.{take-length, getD-at, getD-append-add}
+use lib.ListN.{length, getD, replicate}
+use lib.Seq.{take-length}
 use borrow.Author.Tests.{ne-eqb, leb-true}
 use Rattle.laws.specs.Test.{pick, pick-false, true≢false}
 use Rattle.laws.specs.Lowest.{lowest, some, some-of}
 use Rattle.laws.specs.Count.{count, count-two, count-single, counted, sum-less, sum-const}
-use Rattle.laws.specs.Lists.{Place}
 use Rattle.turn.specs.declared.Point.{Point}
-use Rattle.turn.specs.declared.Vector.{Vector}
 use Rattle.turn.specs.Angle.{sameDirection}
-use Rattle.graph.specs.Graph.{Graph, lent, graphOf, part}
+use Rattle.graph.specs.Graph.{lent, graphOf, part}
 use Rattle.graph.specs.Checks.{strayIn, endAt, away, skipped, alike}
 use Rattle.graph.specs.Quick.{clashAt, nodeWrong, bridgeWrong}
 use Rattle.graph.specs.Passes.{EndAt}
@@ -28,7 +26,6 @@ use Rattle.graph.specs.PointLaws.{same-direction-sym}
 use Rattle.graph.specs.Sound.{FineNode, fine-node}
 use Rattle.graph.specs.Complete.{node-fine}
 use Rattle.next.specs.Choice.{Mem}
-use Rattle.rings.specs.RingOrder.{Spoke}
 use Rattle.rings.specs.Field.{LaidCross}
 use Rattle.fan.specs.Rearranged.{Rearranged, moved-back, member-before, place-before, each-before}
 
@@ -95,8 +92,9 @@ module _ (aId bId : List ℕ) (a b : ℕ → Point) (aNode : ℕ → ℕ) (state
     two-before P h i j k n =
         let p = place-before r i (omega arith) in
         let q = place-before r j n in
+        let d : p .place ≡ q .place → ⊥ = λ e. no-two i j k n (sym (p .here) ∙ ap (λ (z : ℕ). getD l z 0) e ∙ q .here) in
         subst (λ (x : ℕ). P x (getD m j 0)) (p .here) (subst (P (getD l (p .place) 0)) (q .here)
-        (h (p .place) (q .place) (p .within) (q .within) (λ (e : p .place ≡ q .place). no-two i j k n (sym (p .here) ∙ ap (λ (z : ℕ). getD l z 0) e ∙ q .here))))
+        (h (p .place) (q .place) (p .within) (q .within) d))
 
     fine-again : FineNode aId bId a b aNode state m v
     fine-again = record {
@@ -108,7 +106,9 @@ module _ (aId bId : List ℕ) (a b : ℕ → Point) (aNode : ℕ → ℕ) (state
 
   -- of more than two entries `nodeWrong` says what is wrong with a `Cross`
   as-node : (l : List ℕ) → 2 < length l → nodeWrong aId bId a b aNode state l v ≡ crossWrong l
-  as-node l h = pick-false (bridgeWrong aId bId a b aNode state v (getD l 0 0) (getD l 1 0)) (crossWrong l) (ne-eqb (length l) 2 (λ (e : length l ≡ 2). omega arith))
+  as-node l h =
+      pick-false (bridgeWrong aId bId a b aNode state v (getD l 0 0) (getD l 1 0)) (crossWrong l)
+      (ne-eqb (length l) 2 (λ (e : length l ≡ 2). omega arith))
 
   fine-of : (l : List ℕ) → 2 < length l → crossWrong l ≡ false → FineNode aId bId a b aNode state l v
   fine-of l h e = fine-node aId bId a b aNode state l v (as-node l h ∙ e)
@@ -136,8 +136,9 @@ module _ (aId bId : List ℕ) (a b : ℕ → Point) (aNode : ℕ → ℕ) (state
     where
       none : FineNode aId bId a b aNode state l v → ⊥
       none f =
+          let at : ℕ = lowest (λ i. leb (length aId) (getD l i 0)) (length l) in
           let o = some-of (λ i. leb (length aId) (getD l i 0)) (length l) e in
-          omega (arith, leb-true (length aId) (getD l (lowest (λ i. leb (length aId) (getD l i 0)) (length l)) 0) (o .passes), f .ends _ (o .within) .below)
+          omega (arith, leb-true (length aId) (getD l at 0) (o .passes), f .ends at (o .within) .below)
 
   -- there are more than links: one of them stands there twice, or is no link
   pub too-many : (l : List ℕ) → 2 < length l → length aId < length l → crossWrong l ≡ true

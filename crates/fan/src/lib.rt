@@ -210,14 +210,14 @@ fn copy_links(here: &[u32], n: usize, copy: &mut [u32]) -> bool
     ensures { λ r. ⌜ r ≡ some (λ i. leb n (getD (now (here .entry)) i 0)) (length (now (here .entry))) ⌝ }
     ensures { λ r. ⌜ (r ≡ false → now (copy .exit) ≡ now (here .entry)) ⌝ }
 {
-    let mut i = 0;
-    while i < here.len() {
-        let e = here[i];
+    let mut j = 0;
+    while j < here.len() {
+        let e = here[j];
         if n <= wide(e) {
             return true;
         }
-        copy[i] = e;
-        i += 1;
+        copy[j] = e;
+        j += 1;
     }
     false
 }

@@ -32,13 +32,16 @@ moved c = moved-twice (c .before .before .before .loop .inv .1) (c .swap .ensure
 sift-down-requires : tie.Need-sift-down-requires Inv-loop μ-loop
 sift-down-requires c κs =
     let m = moved (c .before .before .before) in
-    (still-sortable (c .before .before .before .before .before .before .before .before .before .pre) m, (omega arith, omega (arith, c .before .before .before .before .before .before .loop .inv .0, m .len)))
+    let l = c .before .before .before .before .before .before in
+    (still-sortable (l .before .before .before .pre) m, (omega arith, omega (arith, l .loop .inv .0, m .len)))
 
 loop-less : tie.Need-loop-less Inv-loop μ-loop
 loop-less c = omega (arith, c .before .before .before .before .before .before .before .before .loop-test .taken)
 
 loop-again : tie.Need-loop-again Inv-loop μ-loop
-loop-again c = (omega (arith, c .before .before .before .before .before .before .before .before .before .loop .inv .0), moved-twice (moved (c .before .before .before .before .before .before)) (c .before .before .sift-down .ensures))
+loop-again c =
+    let d = c .before .before .before .before .before .before in
+    (omega (arith, d .before .before .before .loop .inv .0), moved-twice (moved d) (c .before .before .sift-down .ensures))
 
 same-length : tie.Need-same-length Inv-loop μ-loop
 same-length c = c .before .loop .inv .1 .len

@@ -1,9 +1,5 @@
 -- `fan::later_child` meets its contract.
 use native.Mathlib.Omega.{arith}
-use Prim.Native.Nat.{ℕ, _<_}
-use mathlib.Core.Path.{sym, subst}
-use lib.ListN.{length}
-use borrow.Author.Needs.{needs}
 use Rattle.fan.proofs.later_child.Statement.{statement}
 use Rattle.fan.proofs.later_child.Tie as tie
 
@@ -41,7 +37,16 @@ stands-later-requires : tie.Need-stands-later-requires
 stands-later-requires c κs =
     let s = c .before .before .before .before .before .before .before in
     let p = s .pre .0 in
-    (p .points, (p .grids, (rw (c .before .before .wide .ensures) (p .links _ (omega (arith, s .pre .1, c .before .before .before .before .if1 .taken))), rw (c .wide2 .ensures) (p .links _ (omega (arith, s .pre .1))))))
+    let t = c .before .before .before .before .if1 .taken in (
+      p .points,
+      (
+        p .grids,
+        (
+          rw (c .before .before .wide .ensures) (p .links _ (omega (arith, s .pre .1, t))),
+          rw (c .wide2 .ensures) (p .links _ (omega (arith, s .pre .1))),
+        ),
+      ),
+    )
 
 add-result : tie.Need-add-result
 add-result c = let s = c .before .before .before .before .before .before .before .before .before in omega (arith, s .pre .0 .few, s .pre .1)
@@ -56,21 +61,5 @@ returns-3 : tie.Need-returns-3
 returns-3 c = omega (arith, c .before .before .before .pre .1)
 
 pub later-child-spec : {M : Type 1} → statement M
-later-child-spec =
-    tie.close
-    (tie.spec
-    mul-c
-    add-c
-    add-if1
-    add-wide
-    mul-wide
-    shared-slice-read-wide
-    wide-requires
-    mul-wide-2
-    shared-slice-read-wide-2
-    wide-requires-2
-    stands-later-requires
-    add-result
-    returns
-    returns-2
-    returns-3)
+later-child-spec = tie.close (tie.spec mul-c add-c add-if1 add-wide mul-wide shared-slice-read-wide wide-requires
+    mul-wide-2 shared-slice-read-wide-2 wide-requires-2 stands-later-requires add-result returns returns-2 returns-3)

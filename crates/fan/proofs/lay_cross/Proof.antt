@@ -1,8 +1,6 @@
 -- `fan::lay_cross` meets its contract: few entries are laid as they are, too many are wrong at first sight, and many are laid in order.
 use native.Mathlib.Omega.{arith}
-use Prim.Native.Nat.{ℕ}
 use mathlib.Core.Path.{refl, sym}
-use borrow.Author.Needs.{needs}
 use Rattle.laws.specs.Test.{true≢false}
 use Rattle.graph.specs.Graph.{pointAt}
 use Rattle.graph.specs.Checks.{nodeAt}
@@ -14,10 +12,10 @@ lay-cross-requires : tie.Need-lay-cross-requires
 lay-cross-requires c κs = c .before .before .before .before .before .before .before .before .before .pre
 
 same-length : tie.Need-same-length
-same-length c = search needs
+same-length c = c .before .before .before .before .lay-cross .kept .1 .1 .1 .1 .1 .1 .1 .1 .1 .0
 
 same-length-2 : tie.Need-same-length-2
-same-length-2 c = search needs
+same-length-2 c = c .before .before .before .before .lay-cross .kept .1 .1 .1 .1 .1 .1 .1 .1 .1 .1 .0
 
 returns : tie.Need-returns
 returns c = c .before .before .before .before .lay-cross .ensures
@@ -34,13 +32,14 @@ lay-many-requires : tie.Need-lay-many-requires
 lay-many-requires c κs =
     let p = c .before .before .before .before .before .before .before .before .before .before .pre in
     let q = p .1 .1 .1 .1 in
-    (p .0, (p .1 .0, (p .1 .1 .0, (p .1 .1 .1 .0, (q .0, (omega (arith, c .before .before .before .if1 .left), omega (arith, c .before .before .if2 .left, q .0 .0)))))))
+    let few = c .before .before .before .if1 .left in
+    (p .0, (p .1 .0, (p .1 .1 .0, (p .1 .1 .1 .0, (q .0, (omega (arith, few), omega (arith, c .before .before .if2 .left, q .0 .0)))))))
 
 same-length-3 : tie.Need-same-length-3
-same-length-3 c = search needs
+same-length-3 c = c .before .before .before .before .lay-many .kept .1 .1 .1 .1 .1 .1 .1 .1 .1 .0
 
 same-length-4 : tie.Need-same-length-4
-same-length-4 c = search needs
+same-length-4 c = c .before .before .before .before .lay-many .kept .1 .1 .1 .1 .1 .1 .1 .1 .1 .1 .0
 
 returns-3 : tie.Need-returns-3
 returns-3 c = c .before .before .before .before .lay-many .ensures

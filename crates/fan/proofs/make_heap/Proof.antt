@@ -29,7 +29,9 @@ loop-less : tie.Need-loop-less Inv-loop μ-loop
 loop-less c = omega (arith, c .before .before .before .before .loop-test .taken)
 
 loop-again : tie.Need-loop-again Inv-loop μ-loop
-loop-again c = let i = c .before .before .before .before .before .loop .inv in (omega (arith, i .0), i .1, moved-twice (i .2) (c .before .before .sift-down .ensures))
+loop-again c =
+    let i = c .before .before .before .before .before .loop .inv in
+    (omega (arith, i .0), i .1, moved-twice (i .2) (c .before .before .sift-down .ensures))
 
 same-length : tie.Need-same-length Inv-loop μ-loop
 same-length c = c .before .loop .inv .2 .len

@@ -18,7 +18,9 @@ make-heap-requires : tie.Need-make-heap-requires
 make-heap-requires c κs = c .before .before .before .before .before .before .pre
 
 empty-heap-requires : tie.Need-empty-heap-requires
-empty-heap-requires c κs = still-sortable (c .before .before .before .before .before .before .before .before .before .before .pre) (c .before .before .before .make-heap .ensures)
+empty-heap-requires c κs =
+    let d = c .before .before .before in
+    still-sortable (d .before .before .before .before .before .before .before .pre) (d .make-heap .ensures)
 
 same-length-2 : tie.Need-same-length-2
 same-length-2 c = moved-twice (c .before .before .before .before .before .before .make-heap .ensures) (c .before .before .empty-heap .ensures) .len

@@ -1,8 +1,6 @@
 -- `fan::sift_down` meets its contract; the invariant: the entries are the same, and place i is none past the heap.
 use native.Mathlib.Omega.{arith}
-use Prim.Native.Nat.{ℕ, _-_, _≤_, _<_}
-use mathlib.Core.Path.{_≡_, _∙_}
-use mathlib.Core.List.{List}
+use Prim.Native.Nat.{_-_, _≤_}
 use lib.ListN.{length}
 use Rattle.fan.specs.Rearranged.{Rearranged, unmoved, moved-twice}
 use Rattle.fan.specs.Orders.{Sortable, still-sortable}
@@ -90,10 +88,14 @@ swap-requires c κs =
     (omega (arith, d .before .before .loop-test .taken, within l), omega (arith, d .later-child .ensures .1, within l))
 
 loop-less : tie.Need-loop-less Inv-loop μ-loop
-loop-less c = let d = c .before .before .before .before .before .before .before .before .before .before in omega (arith, d .later-child .ensures, d .before .before .loop-test .taken)
+loop-less c =
+    let d = c .before .before .before .before .before .before .before .before .before .before in
+    omega (arith, d .later-child .ensures, d .before .before .loop-test .taken)
 
 loop-again : tie.Need-loop-again Inv-loop μ-loop
-loop-again c = let d = c .before .before .before .before .before .before .before .before .before .before in (omega (arith, d .later-child .ensures .1), moved-twice (at-loop d .loop .inv .1) (c .before .before .swap .ensures))
+loop-again c =
+    let d = c .before .before .before .before .before .before .before .before .before .before in
+    (omega (arith, d .later-child .ensures .1), moved-twice (at-loop d .loop .inv .1) (c .before .before .swap .ensures))
 
 same-length-2 : tie.Need-same-length-2 Inv-loop μ-loop
 same-length-2 c = c .before .loop .inv .1 .len
@@ -102,26 +104,6 @@ returns-2 : tie.Need-returns-2 Inv-loop μ-loop
 returns-2 c = c .before .loop .inv .1
 
 pub sift-down-spec : {M : Type 1} → statement M
-sift-down-spec =
-    tie.close
-    (tie.spec
-    Inv-loop
-    μ-loop
-    loop-holds
-    mul-loop
-    add-loop
-    later-child-requires
-    mul-wide
-    slice-read-wide
-    wide-requires
-    mul-wide-2
-    slice-read-wide-2
-    wide-requires-2
-    stands-later-requires
-    same-length
-    returns
-    swap-requires
-    loop-less
-    loop-again
-    same-length-2
-    returns-2)
+sift-down-spec = tie.close (tie.spec Inv-loop μ-loop loop-holds mul-loop add-loop later-child-requires mul-wide
+    slice-read-wide wide-requires mul-wide-2 slice-read-wide-2 wide-requires-2 stands-later-requires same-length
+    returns swap-requires loop-less loop-again same-length-2 returns-2)

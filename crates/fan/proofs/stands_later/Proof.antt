@@ -26,12 +26,14 @@ wide-requires-2 c κs = tt
 
 returns : tie.Need-returns
 returns c = let x = c .before .before .before .before .before .before .args in
-    starts-later (x .ax .now) (x .ay .now) (x .bx .now) (x .by .now) (x .aid .now) (x .v) (x .e) (x .f) _ _ (c .before .before .before .wide .ensures) (c .before .wide2 .ensures)
+    starts-later (x .ax .now) (x .ay .now) (x .bx .now) (x .by .now) (x .aid .now) (x .v) (x .e) (x .f) _ _
+    (c .before .before .before .wide .ensures) (c .before .wide2 .ensures)
     (c .if1 .taken)
 
 returns-2 : tie.Need-returns-2
 returns-2 c = let x = c .before .before .before .before .before .before .before .args in
-    starts-earlier (x .ax .now) (x .ay .now) (x .bx .now) (x .by .now) (x .aid .now) (x .v) (x .e) (x .f) _ _ (c .before .before .before .before .wide .ensures) (c .before .before .wide2 .ensures)
+    starts-earlier (x .ax .now) (x .ay .now) (x .bx .now) (x .by .now) (x .aid .now) (x .v) (x .e) (x .f) _ _
+    (c .before .before .before .before .wide .ensures) (c .before .before .wide2 .ensures)
     (c .if2 .taken)
 
 away-requires : tie.Need-away-requires
@@ -45,23 +47,12 @@ cross-product-requires c κs = (c .before .away .ensures .1, c .away2 .ensures .
 
 returns-3 : tie.Need-returns-3
 returns-3 c = let x = c .before .before .before .before .before .before .before .before .before .before .args in
-    turns-later (x .ax .now) (x .ay .now) (x .bx .now) (x .by .now) (x .aid .now) (x .v) (x .e) (x .f) _ _ (c .before .before .before .before .before .before .before .wide .ensures) (c .before .before .before .before .before .wide2 .ensures)
+    turns-later (x .ax .now) (x .ay .now) (x .bx .now) (x .by .now) (x .aid .now) (x .v) (x .e) (x .f) _ _
+    (c .before .before .before .before .before .before .before .wide .ensures) (c .before .before .before .before .before .wide2 .ensures)
     (c .cross-product .result) (c .cross-product .ensures .0 ∙ ap₂ cross (c .before .before .away .ensures .0) (c .before .away2 .ensures .0))
     (c .cross-product .ensures .1) (c .before .before .before .before .if1 .left) (c .before .before .before .if2 .left)
 
 pub stands-later-spec : {M : Type 1} → statement M
-stands-later-spec =
-    tie.close
-    (tie.spec
-    mul-wide
-    shared-slice-read-wide
-    wide-requires
-    mul-wide-2
-    shared-slice-read-wide-2
-    wide-requires-2
-    returns
-    returns-2
-    away-requires
-    away-requires-2
-    cross-product-requires
+stands-later-spec = tie.close (tie.spec mul-wide shared-slice-read-wide wide-requires mul-wide-2
+    shared-slice-read-wide-2 wide-requires-2 returns returns-2 away-requires away-requires-2 cross-product-requires
     returns-3)

@@ -1,5 +1,4 @@
 -- `fan::swap` meets its contract.
-use native.Mathlib.Omega.{arith}
 use borrow.Author.Needs.{needs}
 use Rattle.fan.specs.Rearranged.{swapped}
 use Rattle.fan.proofs.swap.Statement.{statement}
@@ -36,16 +35,5 @@ returns : tie.Need-returns
 returns c = let s = c .before .before in swapped (s .args .list .now) (s .args .i) (s .args .j) (s .pre .0) (s .pre .1)
 
 pub swap-spec : {M : Type 1} → statement M
-swap-spec =
-    tie.close
-    (tie.spec
-    mul-x
-    slice-read-x
-    mul-y
-    slice-read-y
-    mul-list
-    slice-write-list
-    mul-list-2
-    slice-write-list-2
-    same-length
-    returns)
+swap-spec = tie.close (tie.spec mul-x slice-read-x mul-y slice-read-y mul-list slice-write-list mul-list-2
+    slice-write-list-2 same-length returns)
