@@ -15,8 +15,8 @@ ghost use Rattle.graph.specs.Known.{Points, Grids, Runs};
 ghost use Rattle.rings.specs.Field.{Laid};
 ghost use Rattle.lay.specs.Kinds.{BridgesLaid, CrossesLaid, BridgesKept};
 use bridge::lay_bridge;
+use fan::lay_cross;
 use graph::entries;
-use spokes::lay_cross;
 use turn::wide;
 
 // What the pass over the `Bridge`s finds: something wrong; or nothing, and all nodes are `Bridge`s, or some are `Cross`es.

@@ -37,7 +37,8 @@ pub fn large() -> Vec<Group> {
         Group::of_one("board with 930 holes", holes(63, 61)),
         Group::of_one("random mesh, 200 holes, 400 hulls", blocks(BLOCKS, 1)),
         Group::of_one("another such mesh", blocks(BLOCKS, 2)),
-        Group::of_one("star of 2,730 links at one node", star(2730)),
+        Group::of_one("star of 2,730 links at one node", star(2730, Numbering::Sorted)),
+        Group::of_one("such a star, its entries shuffled", star(2730, Numbering::Shuffled)),
         Group {
             name: "48 different such meshes in turn, each",
             samples: (1..=MANY).map(|seed| blocks(BLOCKS, seed)).collect(),
@@ -65,7 +66,8 @@ pub fn small() -> Vec<Group> {
         Group::of_one("small checkerboard", checkerboard(4, 3)),
         Group::of_one("short contour", one_contour(6)),
         Group::of_one("small board with holes", holes(7, 5)),
-        Group::of_one("small star", star(10)),
+        Group::of_one("small star", star(10, Numbering::Sorted)),
+        Group::of_one("star of 40, its entries shuffled", star(40, Numbering::Shuffled)),
         Group { name: "small meshes", samples: (1..=3).map(|seed| blocks(3, seed)).collect(), repeats: 2 },
     ]);
     groups
@@ -92,17 +94,17 @@ fn triangle() -> Sample {
     of_links(vec![([0, 0], [0, 4], 0), ([0, 0], [4, 0], 1), ([0, 4], [4, 0], 0)])
 }
 
-fn sample(mesh: &Mesh, filled: &[bool]) -> Sample {
+fn sample(mesh: &Mesh, filled: &[bool], numbering: Numbering) -> Sample {
     let mut rng = Rng::new(1);
     let links = planar::links(mesh, filled, 0, &mut rng);
-    Sample::from_links(links, Numbering::Sorted, &mut rng)
+    Sample::from_links(links, numbering, &mut rng)
 }
 
 /// Which cells of a board are filled, by column and row.
 fn board(columns: usize, rows: usize, is_filled: impl Fn(usize, usize) -> bool) -> Sample {
     let mesh = Mesh::unit_board(columns, rows);
     let filled: Vec<bool> = (0..mesh.faces.len()).map(|face| is_filled(face % columns, face / columns)).collect();
-    sample(&mesh, &filled)
+    sample(&mesh, &filled, Numbering::Sorted)
 }
 
 fn checkerboard(columns: usize, rows: usize) -> Sample {
@@ -143,11 +145,11 @@ fn blocks(side: usize, seed: u64) -> Sample {
         if is_ring[row / PITCH * side + column / PITCH] { !is_gap && !is_middle } else { is_middle }
     };
     let filled: Vec<bool> = (0..mesh.faces.len()).map(is_filled).collect();
-    sample(&mesh, &filled)
+    sample(&mesh, &filled, Numbering::Sorted)
 }
 
 /// Triangles round one node, their tips on the rim of a square.
-fn star(spokes: i32) -> Sample {
+fn star(spokes: i32, numbering: Numbering) -> Sample {
     const REACH: i32 = 1000;
     let rim = |step: i32| match (step / (2 * REACH), step % (2 * REACH) - REACH) {
         (0, along) => Point::new(along, -REACH),
@@ -159,5 +161,5 @@ fn star(spokes: i32) -> Sample {
     let points: Vec<Point> = std::iter::once(Point::new(0, 0)).chain(tips).collect();
     let faces: Vec<Vec<usize>> = (0..spokes as usize / 2).map(|pair| vec![0, 2 * pair + 1, 2 * pair + 2]).collect();
     let filled = vec![true; faces.len()];
-    sample(&Mesh { points, faces, columns: 1 }, &filled)
+    sample(&Mesh { points, faces, columns: 1 }, &filled, numbering)
 }

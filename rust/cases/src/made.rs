@@ -2,7 +2,8 @@
 
 use crate::input::Link;
 use reading::bind::Table;
-use reading::geometry::Point;
+use reading::geometry::{Point, Vector};
+use reading::graph::Graph;
 
 /// One hull of so many links, an even number: a strip of height 1 from (0, 0), walked over two lines of nodes.
 pub fn strip(links: usize) -> Vec<Link> {
@@ -20,6 +21,52 @@ pub fn squares(count: usize) -> Vec<Link> {
         [([left, 0], [right, 0], 1), ([left, 0], [left, 4], 0), ([left, 4], [right, 4], 0), ([right, 0], [right, 4], 1)]
     };
     (0..count as i32).flat_map(square).collect()
+}
+
+/// So many triangles round (0, 0), a `Cross` of twice as many, their other corners on the rim of a square.
+pub fn star(triangles: usize) -> Vec<Link> {
+    const REACH: i32 = 1000;
+    let corners = 2 * triangles as i32;
+    let corner = |at: i32| {
+        let step = 8 * REACH * at / corners;
+        match (step / (2 * REACH), step % (2 * REACH) - REACH) {
+            (0, along) => [along, -REACH],
+            (1, along) => [REACH, along],
+            (2, along) => [-along, REACH],
+            (_, along) => [-REACH, -along],
+        }
+    };
+    let filled_left = |from: [i32; 2], to: [i32; 2]| if from < to { (from, to, 1) } else { (to, from, 0) };
+    let triangle = |at: i32| {
+        let (first, second) = (corner(at), corner(at + 1));
+        [filled_left([0, 0], first), filled_left(first, second), filled_left(second, [0, 0])]
+    };
+    let mut links: Vec<Link> = (0..corners).step_by(2).flat_map(triangle).collect();
+    links.sort_by_key(|link| link.0);
+    links
+}
+
+/// The links of every node in falling angular order: as they are met turning clockwise from straight up.
+pub fn falling(graph: &mut Graph) {
+    let up = Vector { x: 0, y: 1 };
+    rearrange(graph, |graph, node, links| {
+        let way = |&link: &u32| graph.leaving(link as usize, node);
+        links.sort_by(|e, f| up.met_first(way(e), way(f), true));
+    });
+}
+
+/// The links of every node in no order.
+pub fn mixed(graph: &mut Graph) {
+    rearrange(graph, |_, _, links| links.sort_by_key(|link| link.wrapping_mul(2654435761)));
+}
+
+fn rearrange(graph: &mut Graph, arrange: impl Fn(&Graph, usize, &mut Vec<u32>)) {
+    for node in 0..graph.nodes() {
+        let part = graph.start[node] as usize..graph.start[node + 1] as usize;
+        let mut links = graph.list[part.clone()].to_vec();
+        arrange(graph, node, &mut links);
+        graph.list[part].copy_from_slice(&links);
+    }
 }
 
 /// One hull of so many points, (0, 0) and (1, 0) in turn.

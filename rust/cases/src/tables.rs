@@ -105,6 +105,12 @@ impl Block {
             }
             "strip" => self.links = made::strip(line.number(1)),
             "squares" => self.links = made::squares(line.number(1)),
+            "star" => self.links = made::star(line.number(1)),
+            "lists" => match line.word(1) {
+                "falling" => made::falling(&mut input.graph),
+                "mixed" => made::mixed(&mut input.graph),
+                _ => line.fault("no such order"),
+            },
             "node" => {
                 if !std::mem::replace(&mut self.has_nodes, true) {
                     (input.graph.start, input.graph.list) = (vec![0], Vec::new());
