@@ -15,6 +15,7 @@ ghost use Rattle.graph.specs.Known.{Points, Grids, Runs};
 ghost use Rattle.rings.specs.Ends.{aEnd, bEnd};
 ghost use Rattle.rings.specs.Field.{LaidBridge, ElseKept, OthersKept};
 ghost use Rattle.bridge.specs.Stores.{paired, led};
+ghost use Rattle.bridge.specs.Promises.{lay-bridge-says};
 use graph::point_at;
 use turn::between;
 use turn::cross_product;
@@ -210,7 +211,7 @@ pub fn lay_bridge(
     requires { ⌜ ((k : ℕ) → getD (now aid) k 0 ≡ v → getD (now lead) k 0 ≡ 0) ⌝ }
     ensures { λ r. ⌜ (let a : ℕ → Point = pointAt (now (ax .entry)) (now (ay .entry)) in
         let b : ℕ → Point = pointAt (now (bx .entry)) (now (by .entry)) in
-        r ≡ bridgeWrong (now (aid .entry)) (now (bid .entry)) a b (nodeAt (now (aid .entry))) (now (state .entry)) v e f) ⌝ }
+        lay-bridge-says a b (now (aid .entry)) (now (bid .entry)) (now (state .entry)) v e f r) ⌝ }
     ensures { λ r. ⌜ (r ≡ false → (start list top : List ℕ) → LaidBridge (graphOf (lent (now (ax .entry)) (now (ay .entry)) (now (bx .entry))
         (now (by .entry)) (now (aid .entry)) (now (bid .entry)) start list) top) v e f (now (nxt .exit)) (now (lead .exit))) ⌝ }
     ensures { λ _. ⌜ (ElseKept (now (aid .entry)) (now (bid .entry)) v (now (nxt .entry)) (now (nxt .exit)))

@@ -2,3 +2,4 @@
 pub mod Rearranged
 pub mod Orders
 pub mod Relaid
+pub mod Promises

@@ -10,7 +10,8 @@ ghost use Rattle.graph.specs.Graph.{pointAt};
 ghost use Rattle.graph.specs.Known.{Points, Grids};
 ghost use Rattle.hoop.specs.declared.Place.the-variants.{First, After};
 ghost use Rattle.hoop.specs.declared.Taken.the-variants.{Makes};
-ghost use Rattle.hoop.specs.Hoops.{farPoint, wayOf, Stands, Backed, Sought, Placed, Fits, after, putEnd};
+ghost use Rattle.hoop.specs.Hoops.{farPoint, wayOf, Stands, Sought, Fits, after, putEnd};
+ghost use Rattle.hoop.specs.Promises.{find-place-says, put-end-says};
 use graph::point_at;
 use rings::CROSS;
 use rings::WRAP;
@@ -108,8 +109,7 @@ pub fn find_place(
     requires { ⌜ Grids (now ax) (now ay) (now bx) (now by) (length (now ax)) ⌝ }
     requires { ⌜ (q / 2 < length (now ax)) × (OnGrid home) ⌝ }
     requires { ⌜ Sought (length (now ax)) (now prv) hoop ⌝ }
-    ensures { λ r. ⌜ ((e : ℕ → ℕ) (l : List ℕ) → Backed e l (now (prv .entry)) (hoop .tail) (hoop .count)
-        → Placed (pointAt (now (ax .entry)) (now (ay .entry))) (pointAt (now (bx .entry)) (now (by .entry))) home e l q r) ⌝ }
+    ensures { λ r. ⌜ find-place-says (pointAt (now (ax .entry)) (now (ay .entry))) (pointAt (now (bx .entry)) (now (by .entry))) (now (prv .entry)) hoop home q r ⌝ }
 {
     let way = between(home, far_point(ax, ay, bx, by, q));
     let mut at = hoop.tail;
@@ -199,7 +199,7 @@ fn put_after(nxt: &mut [u32], prv: &mut [u32], hoop: Hoop, p: usize, q: usize) -
 // End q is linked at its place.
 pub fn put_end(nxt: &mut [u32], prv: &mut [u32], hoop: Hoop, place: Place, q: usize) -> Taken
     requires { ⌜ Fits (now nxt) (now prv) hoop place q ⌝ }
-    ensures { λ r. ⌜ after r (now (nxt .exit)) (now (prv .exit)) ≡ putEnd (now (nxt .entry)) (now (prv .entry)) hoop place q ⌝ }
+    ensures { λ r. ⌜ put-end-says (now (nxt .entry)) (now (prv .entry)) hoop place q r (now (nxt .exit)) (now (prv .exit)) ⌝ }
 {
     match place {
         Place::Alike => Taken::Wrong,

@@ -14,6 +14,7 @@ ghost use Rattle.graph.specs.Passes.{Rising};
 ghost use Rattle.graph.specs.Known.{Points, Grids, Runs};
 ghost use Rattle.rings.specs.Field.{Laid};
 ghost use Rattle.lay.specs.Kinds.{BridgesLaid, CrossesLaid, BridgesKept};
+ghost use Rattle.lay.specs.Promises.{lay-nodes-says};
 use bridge::lay_bridge;
 use fan::lay_cross;
 use graph::entries;
@@ -144,8 +145,7 @@ pub fn lay_nodes(
     requires { ⌜ ((k : ℕ) → getD (now lead) k 0 ≡ 0) ⌝ }
     ensures { λ r. ⌜ (let a : ℕ → Point = pointAt (now (ax .entry)) (now (ay .entry)) in
         let b : ℕ → Point = pointAt (now (bx .entry)) (now (by .entry)) in
-        r ≡ some (λ v. nodeWrong (now (aid .entry)) (now (bid .entry)) a b (nodeAt (now (aid .entry))) (now (state .entry))
-        (part (now (start .entry)) (now (list .entry)) v) v) (length (now (start .entry)) - 1)) ⌝ }
+        lay-nodes-says a b (now (aid .entry)) (now (bid .entry)) (now (start .entry)) (now (list .entry)) (now (state .entry)) r) ⌝ }
     ensures { λ r. ⌜ (r ≡ false → (top : List ℕ) (v : ℕ) → v < length (now (start .entry)) - 1 → Laid (graphOf (lent (now (ax .entry))
         (now (ay .entry)) (now (bx .entry)) (now (by .entry)) (now (aid .entry)) (now (bid .entry)) (now (start .entry)) (now (list .entry))) top)
         (now (state .entry)) v (now (nxt .exit)) (now (prv .exit)) (now (lead .exit))) ⌝ }

@@ -15,6 +15,7 @@ ghost use Rattle.graph.specs.Quick.{standsBefore, clashAt};
 ghost use Rattle.graph.specs.Known.{Points, Grids, Runs};
 ghost use Rattle.rings.specs.Field.{LaidCross, ElseKept};
 ghost use Rattle.spokes.specs.Entries.{Laying, Entered};
+ghost use Rattle.spokes.specs.Promises.{lay-cross-says};
 use graph::end_at;
 use graph::point_at;
 use hoop::Hoop;
@@ -131,8 +132,7 @@ pub fn lay_cross(
     requires { ⌜ 0 < length (now here) ⌝ }
     ensures { λ r. ⌜ (let a : ℕ → Point = pointAt (now (ax .entry)) (now (ay .entry)) in
         let b : ℕ → Point = pointAt (now (bx .entry)) (now (by .entry)) in
-        r ≡ pick (strayIn (now (aid .entry)) (now (bid .entry)) (now (here .entry)) v) true
-        (some (clashAt a b (nodeAt (now (aid .entry))) (now (state .entry)) (now (here .entry)) v) (length (now (here .entry))))) ⌝ }
+        lay-cross-says a b (now (aid .entry)) (now (bid .entry)) (now (state .entry)) (now (here .entry)) v r) ⌝ }
     ensures { λ r. ⌜ (r ≡ false → (start list top : List ℕ) → part start list v ≡ now (here .entry)
         → LaidCross (graphOf (lent (now (ax .entry)) (now (ay .entry)) (now (bx .entry)) (now (by .entry)) (now (aid .entry)) (now (bid .entry))
         start list) top) (now (state .entry)) v (now (nxt .exit)) (now (prv .exit))) ⌝ }
