@@ -8,9 +8,9 @@ use lib.IntN.{ℤ, pos, negℤ}
 use Rattle.graph.specs.Graph.{Lent, lent}
 use Rattle.graph.specs.Examples.{square, tops, unvisited}
 use Rattle.scan.specs.declared.Extraction.the-variants.{Done, Refused}
-use Rattle.extract.specs.Extract.{Extracted, extractedAs, extracted}
+use Rattle.extraction.specs.Extract.{Extracted, extractedAs, extracted}
 use Rattle.finish.specs.Finish.{Buffers, buffers}
-use Rattle.extract.specs.Examples.{nines, fan, fanTops, e1, e2, e3, e4, e5, e6, e6-rejected, e7, e8}
+use Rattle.extraction.specs.Examples.{nines, fan, fanTops, e1, e2, e3, e4, e5, e6, e6-rejected, e7, e8}
 use Rattle.table.specs.Table.{Table}
 use Rattle.table.specs.Examples.{e9, e10, e10One}
 use Rattle.bind.specs.declared.Binding.the-variants as binding
