@@ -19,7 +19,7 @@ use Rattle.answer_table.specs.ExtractionText.{ExtractionFits, extractionText}
 use Rattle.scan.specs.Scan.{Scanned, stopped, walks, scan}
 use Rattle.keep.specs.Outcome.{lens, firsts, kinds, allPoints, coordinates, kept}
 use Rattle.finish.specs.Finish.{Buffers}
-use Rattle.extract.specs.Extract.{Extracted, extractedAs, afterScan, afterChecks, extracted}
+use Rattle.extraction.specs.Extract.{Extracted, extractedAs, afterScan, afterChecks, extracted}
 use Rattle.laws.specs.Lists.{padded}
 use Rattle.keep.specs.Ledger.{coordinates-length, all-points-length}
 

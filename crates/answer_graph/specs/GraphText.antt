@@ -10,7 +10,7 @@ use Rattle.table.specs.Table.{Table, table}
 use Rattle.print.specs.Room.{maxContours}
 use Rattle.answer_table.specs.ExtractionText.{extractionText}
 use Rattle.finish.specs.Finish.{Buffers, buffers}
-use Rattle.extract.specs.Extract.{extracted}
+use Rattle.extraction.specs.Extract.{extracted}
 
 abbrev pub lentTable : Buffers → Table
 lentTable b = table (b .points) (b .first) (b .len) (b .kind)

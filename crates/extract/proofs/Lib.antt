@@ -1,2 +1,2 @@
--- The laws that the proofs of the functions cite.
-mod Answers
+-- The laws that the proof of the function cites.
+mod Arrays

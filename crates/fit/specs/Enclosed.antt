@@ -14,7 +14,7 @@ use Rattle.scan.specs.declared.Extraction.the-variants.{Done}
 use Rattle.walk.specs.Walk.{Walk, left, points}
 use Rattle.keep.specs.Outcome.{areaOf, areas, total, kept, lens, firsts, allPoints}
 use Rattle.keep.specs.Ledger.{points-back}
-use Rattle.extract.specs.Extract.{extractedAs, extracted}
+use Rattle.extraction.specs.Extract.{extractedAs, extracted}
 use Rattle.finish.specs.Finish.{Buffers}
 use Rattle.table.specs.Table.{Table, contour, contourCount}
 use Rattle.fit.specs.Places.{tableOf, walkAt, firsts-length, firsts-from, lens-length}

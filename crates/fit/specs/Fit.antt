@@ -21,7 +21,7 @@ use Rattle.scan.specs.Scan.{Scanned, stopped, walks, scan}
 use Rattle.keep.specs.Outcome.{kept, lens, firsts, kinds, allPoints, coordinates, sum, countsOf}
 use Rattle.keep.specs.Ledger.{coordinates-length, all-points-length}
 use Rattle.scan.specs.Visits.{scanned}
-use Rattle.extract.specs.Extract.{Extracted, extractedAs, afterScan, afterChecks, extracted}
+use Rattle.extraction.specs.Extract.{Extracted, extractedAs, afterScan, afterChecks, extracted}
 use Rattle.finish.specs.Finish.{Buffers}
 use Rattle.tour.specs.ThreePoints.{finished}
 use Rattle.table.specs.Table.{Table, table, firstOf, rangeEnd, contourCount, point, isHole}

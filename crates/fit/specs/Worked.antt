@@ -14,9 +14,9 @@ use Rattle.walk.specs.Walk.{Walk, walkOn, walkFrom}
 use Rattle.keep.specs.Outcome.{areas, rejected}
 use Rattle.scan.specs.declared.Extraction.the-variants.{Done, Refused}
 use Rattle.scan.specs.Scan.{Scanned, stopped, walks, scanOn, scan}
-use Rattle.extract.specs.Extract.{Extracted, extractedAs, extracted}
+use Rattle.extraction.specs.Extract.{Extracted, extractedAs, extracted}
 use Rattle.finish.specs.Finish.{Buffers, buffers}
-use Rattle.extract.specs.Examples.{nines, fan, fanTops, e1, e2, e3, e4, e5, e6, e6-rejected, e7, e8}
+use Rattle.extraction.specs.Examples.{nines, fan, fanTops, e1, e2, e3, e4, e5, e6, e6-rejected, e7, e8}
 use Rattle.table.specs.Table.{Table}
 use Rattle.table.specs.Examples.{e9, e10, e10One}
 use Rattle.anchor.specs.AnchorChecks.{holeBefore}

@@ -3,7 +3,7 @@ use Prim.Native.Nat.{ℕ}
 use mathlib.Core.Path.{_≡_, ap, _∙_}
 use mathlib.Core.List.{List}
 use Rattle.scan.specs.declared.Extraction.{Extraction}
-use Rattle.extract.specs.Extract.{Extracted, extractedAs}
+use Rattle.extraction.specs.Extract.{Extracted, extractedAs}
 use Rattle.finish.specs.Finish.{Buffers}
 use Rattle.bind.specs.declared.Binding.{Binding}
 use Rattle.bind.specs.Outcome.{Outcome, outcome}

@@ -4,7 +4,7 @@ use mathlib.Core.List.{List}
 use lib.IntN.{pos}
 use Rattle.scan.specs.declared.Extraction.{Extraction}
 use Rattle.scan.specs.declared.Extraction.the-variants.{Done, Refused}
-use Rattle.extract.specs.Extract.{Extracted}
+use Rattle.extraction.specs.Extract.{Extracted}
 use Rattle.finish.specs.Finish.{Buffers}
 use Rattle.lookup.specs.Lookups.{roleOwner}
 use Rattle.lookup.specs.declared.records.Role.{Role}

@@ -7,7 +7,7 @@ use scan::Extraction;
 ghost use mathlib.Core.Path.{_≡_};
 ghost use Rattle.graph.specs.Graph.{Lent, lent};
 ghost use Rattle.finish.specs.Finish.{Buffers, buffers};
-ghost use Rattle.extract.specs.Extract.{extracted};
+ghost use Rattle.extraction.specs.Extract.{extracted};
 ghost use Rattle.table.specs.Table.{Table, table};
 ghost use Rattle.lookup.specs.Lookups.{roleOwner, lookedUp};
 ghost use Rattle.bind.specs.Outcome.{bound};

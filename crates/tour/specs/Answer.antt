@@ -14,7 +14,7 @@ use Rattle.keep.specs.declared.Counts.{Counts}
 use Rattle.scan.specs.declared.Extraction.the-variants.{Done}
 use Rattle.keep.specs.Outcome.{countsOf, statesAfter}
 use Rattle.scan.specs.Visits.{scanned}
-use Rattle.extract.specs.Extract.{afterScan, afterChecks, extracted}
+use Rattle.extraction.specs.Extract.{afterScan, afterChecks, extracted}
 use Rattle.finish.specs.Finish.{Buffers}
 use Rattle.tour.specs.Statement.{ComesByTurns, linkTotal}
 use Rattle.tour.specs.Demand.{third-demand, kept-total}

@@ -5,7 +5,7 @@ use mathlib.Core.Bool.{Bool}
 use mathlib.Core.List.{List}
 use lib.IntN.{_+ℤ_}
 use Rattle.graph.specs.Graph.{Graph}
-use Rattle.extract.specs.Theorems.{kept-and-rejected}
+use Rattle.extraction.specs.Theorems.{kept-and-rejected}
 use Rattle.scan.specs.Scan.{Scanned, stopped, walks, scan}
 use Rattle.keep.specs.Outcome.{kept, rejected, areas, total}
 use Rattle.tour.specs.Statement.{Toured, ThirdDemand, linkTotal}

@@ -16,7 +16,7 @@ use Rattle.scan.specs.declared.Extraction.the-variants.{Done, Refused}
 use Rattle.walk.specs.Walk.{Step, Walk, walkOn, walkFrom}
 use Rattle.scan.specs.Scan.{walks, scanOn, scan}
 use Rattle.keep.specs.Outcome.{areas}
-use Rattle.extract.specs.Extract.{Extracted, extractedAs, extracted}
+use Rattle.extraction.specs.Extract.{Extracted, extractedAs, extracted}
 use Rattle.finish.specs.Finish.{Buffers, buffers}
 
 abbrev p : ℕ → ℤ

@@ -30,7 +30,7 @@ use Rattle.walk.specs.States.{Unvisited, NoneUnvisited}
 use Rattle.walk.specs.Visits.{Fresh}
 use Rattle.scan.specs.Visits.{AllFresh, times, scanned}
 use Rattle.keep.specs.Ledger.{all-points-length}
-use Rattle.extract.specs.Extract.{Extracted, afterWalks, afterScan, afterChecks, extracted}
+use Rattle.extraction.specs.Extract.{Extracted, afterWalks, afterScan, afterChecks, extracted}
 use Rattle.finish.specs.Finish.{Buffers}
 
 -- ---- a state at entry and at exit: as it was, or 0 and then 2 or 3

@@ -1,28 +1,22 @@
 -- What extraction leaves: after a walk that is refused, and after all walks.
-use Prim.Native.Nat.{ℕ, zero, suc, _*_, _-_, _≤_}
-use mathlib.Core.Path.{_≡_, refl, sym, ap, _∙_, subst}
-use mathlib.Core.Bool.{Bool, true, true≢false}
+use Prim.Native.Nat.{ℕ, _*_, _≤_}
+use mathlib.Core.Path.{_≡_, refl, sym, ap, _∙_}
+use mathlib.Core.Bool.{Bool, true≢false}
 use mathlib.Core.List.{List, map}
 use native.Mathlib.Omega.{arith}
-use lib.ListN.{length, getD, replicate}
+use lib.ListN.{length, replicate}
 use lib.IntN.{ℤ, pos}
-use Rattle.laws.specs.Lists.{mapFrom, map-same, map-const}
-use Rattle.graph.specs.Graph.{Graph, Lent, graphOf, linkCount}
-use Rattle.turn.specs.Limits.{maxLinks}
+use Rattle.laws.specs.Lists.{mapFrom, map-const}
+use Rattle.graph.specs.Graph.{Graph}
 use Rattle.turn.specs.declared.Checked.{Checked}
 use Rattle.turn.specs.declared.Checked.the-variants as check
-use Rattle.graph.specs.Checks.{room, checked}
-use Rattle.graph.specs.Fine.{FineGraph, fine}
-use Rattle.next.specs.Known.{Links}
-use Rattle.next.specs.Fine.{links-known}
-use Rattle.rings.specs.Field.{Spacious, Unled, AllLaid, Field}
+use Rattle.graph.specs.Checks.{room}
 use Rattle.rings.specs.Steering as steering
 use Rattle.keep.specs.declared.Counts.{Counts}
 use Rattle.scan.specs.declared.Extraction.{Extraction}
 use Rattle.scan.specs.declared.Extraction.the-variants.{Done, Refused}
 use Rattle.walk.specs.Walk.{Walk}
 use Rattle.scan.specs.Scan.{Scanned, stopped, walks, scan}
-use Rattle.keep.specs.Outcome.{lens}
 use Rattle.scan.specs.Visits.{scanned}
 use Rattle.keep.specs.Ledger.{Fits, finished}
 use Rattle.keep.specs.Tables.{Tables, tables, noCounts, allNoted}
@@ -30,49 +24,7 @@ use Rattle.finish.specs.Finish.{finishedBy, Holds, Buffers, buffers}
 use Rattle.scan.specs.Notes.{Ends, ScanLeaves, Roomy}
 use Rattle.walk.specs.Code.{Kept, unmark}
 use Rattle.walk.specs.States.{unvisited-some}
-use Rattle.extract.specs.Extract.{extractedAs, afterScan, afterChecks, extracted}
-
--- ---- what the checks give the walks
-module _ (g : Lent) (top st : List ℕ) (points firsts lens kinds : ℕ) (f : FineGraph g top st (room points firsts lens kinds)) where
-  long : linkCount g ≡ length st
-  long = sym (f .band .state-long)
-
-  pub links-of : Links (g .ax) (g .ay) (g .bx) (g .by) (length st)
-  links-of = links-known f long
-
-  -- the field of ends that the pass over the nodes has laid
-  pub field-of : {nxt prv lead : List ℕ} → AllLaid g st nxt prv lead → Spacious (linkCount g) (length nxt) (length prv) (length lead)
-      → Field (graphOf g top) (g .ax) (g .ay) (g .bx) (g .by) top nxt prv lead st
-  field-of laid wide = record {
-    steers = steering.steers (f .links) (f .lists) (f .one-point) (f .band) (f .few) (laid top) long (wide .nxt-room) (wide .prv-room);
-    firsts = steering.firsts (f .links) (f .lists) (f .one-point) (f .band) (f .few) (laid top) long (wide .nxt-room) (wide .lead-room);
-    reads = record { a-is = λ k. refl; b-is = λ k. refl };
-    tops = λ k. refl;
-  }
-
-  pub roomy-of : Roomy (length st) points firsts lens kinds
-  roomy-of = subst (λ k. Roomy k points firsts lens kinds) long (record {
-    few = f .few;
-    points-room = omega (arith, f .room .points);
-    first-room = omega (arith, f .room .contours);
-    len-room = f .room .lens-long;
-    kind-room = f .room .kinds-long;
-  })
-
-  pub tops-long : length top ≡ length st
-  tops-long = f .band .top-long ∙ long
-
-  -- states 0 and 1 are as they were, once what came from 0 is unmarked
-  pub unmarked : map unmark st ≡ st
-  unmarked = map-same unmark st 0 (λ i h. flag (getD st i 0) (f .band .state-flag i (rw long h)))
-    where
-      flag : (x : ℕ) → x ≤ 1 → unmark x ≡ x
-      flag zero h = refl
-      flag (suc zero) h = refl
-      flag (suc (suc x)) h = absurd (large h)
-        where
-          large : suc (suc x) ≤ 1 → ⊥
-          large h = omega arith
+use Rattle.extraction.specs.Extract.{extractedAs, afterScan}
 
 zeros : {A : Type 0} (z : A) (l l′ l″ : List A) → length l′ ≡ length l → l″ ≡ mapFrom (λ _. z) 0 l′ → l″ ≡ replicate (length l) z
 zeros z l l′ l″ e q = q ∙ map-const z l′ ∙ ap (λ k. replicate k z) e
@@ -172,45 +124,3 @@ module _ (b b′ : Buffers) (room : Roomy (length (b .state)) (length (b .points
     finished-as (Done c) h q =
         ap (extractedAs (Done c)) q
         ∙ all-done g cw minimum b room c (Done c) (b′ .state) (b′ .points) (b′ .first) (b′ .len) (b′ .kind) h refl _ _ _ _ refl refl refl refl
-
-abbrev pub Lends : Lent → List ℕ → Buffers → List ℕ → List ℕ → List ℕ → Type 0
-Lends g top b nxt prv lead =
-    (Field (graphOf g top) (g .ax) (g .ay) (g .bx) (g .by) top nxt prv lead (b .state))
-    × (Links (g .ax) (g .ay) (g .bx) (g .by) (length (b .state))) × (length top ≡ length (b .state))
-    × (Roomy (length (b .state)) (length (b .points)) (length (b .first)) (length (b .len)) (length (b .kind))) × (map unmark (b .state) ≡ b .state)
-
--- arrays of the same lengths
-pub as-wide : (n nxts prvs leads : ℕ) {x y z : ℕ} → Spacious n nxts prvs leads → x ≡ nxts → y ≡ prvs → z ≡ leads → Spacious n x y z
-as-wide n nxts prvs leads w p q r =
-    record { nxt-room = omega (arith, w .nxt-room, p); prv-room = omega (arith, w .prv-room, q); lead-room = omega (arith, w .lead-room, r) }
-
--- nothing is written yet
-pub unled : (n : ℕ) → Unled (replicate n 0)
-unled zero k = refl
-unled (suc n) zero = refl
-unled (suc n) (suc k) = unled n k
-
--- ---- the checks come first
-module _ (g : Lent) (top : List ℕ) (cw : Bool) (minimum : ℕ) (b : Buffers) where
-  abbrev checks : Checked
-  checks = checked g top (b .state) (room (length (b .points)) (length (b .first)) (length (b .len)) (length (b .kind)))
-
-  pub after-refusal : (number place : ℕ) → checks ≡ check.Refused number place → extractedAs (Refused number place) b ≡ extracted g top cw minimum b
-  unfolding extracted
-  after-refusal number place e = ap (afterChecks (graphOf g top) cw minimum b) (sym e)
-
-  pub after-fine : checks ≡ check.Fine → afterScan (graphOf g top) minimum b (scan (graphOf g top) cw (b .state)) ≡ extracted g top cw minimum b
-  unfolding extracted
-  after-fine e = ap (afterChecks (graphOf g top) cw minimum b) (sym e)
-
-  -- what a graph that passes them lends to the scan
-  pub lent-on : checks ≡ check.Fine → {nxt prv lead : List ℕ} → AllLaid g (b .state) nxt prv lead
-      → (linkCount g ≤ maxLinks → Spacious (linkCount g) (length nxt) (length prv) (length lead)) → Lends g top b nxt prv lead
-  lent-on e laid wide =
-      let f = fine g top (b .state) (room (length (b .points)) (length (b .first)) (length (b .len)) (length (b .kind))) e in (
-        field-of g top (b .state) _ _ _ _ f laid (wide (f .few)),
-        links-of g top (b .state) _ _ _ _ f,
-        tops-long g top (b .state) _ _ _ _ f,
-        roomy-of g top (b .state) _ _ _ _ f,
-        unmarked g top (b .state) _ _ _ _ f,
-      )

@@ -1,11 +1,11 @@
--- `extract::extract_fine` meets its contract: what the scan leaves is finished.
+-- `extraction::extract_fine` meets its contract: what the scan leaves is finished.
 use borrow.Author.Needs.{needs}
 use lib.ListN.{length}
 use Rattle.scan.specs.Notes.{Roomy}
 use Rattle.finish.specs.Finish.{Buffers, buffers}
-use Rattle.extract.proofs.Answers.{holds, finished-as}
-use Rattle.extract.proofs.extract_fine.Statement.{statement}
-use Rattle.extract.proofs.extract_fine.Tie as tie
+use Rattle.extraction.proofs.Answers.{holds, finished-as}
+use Rattle.extraction.proofs.extract_fine.Statement.{statement}
+use Rattle.extraction.proofs.extract_fine.Tie as tie
 
 abbrev b : tie.Start → Buffers
 b s = buffers (s .args .state .now) (s .args .points .now) (s .args .first .now) (s .args .len .now) (s .args .kind .now)

@@ -1,0 +1,4 @@
+-- The definition that the contracts cite, then what is true of it.
+pub mod Extract
+pub mod Theorems
+pub mod Examples

@@ -1,0 +1,62 @@
+// Extraction of a graph that passes its checks: the scan, and what each lent buffer then holds.
+ghost use mathlib.Core.Path.{_≡_};
+ghost use mathlib.Core.List.{map};
+ghost use lib.ListN.{length};
+ghost use Rattle.graph.specs.Graph.{Graph};
+ghost use Rattle.next.specs.Known.{Links};
+ghost use Rattle.rings.specs.Field.{Field, Fielded};
+ghost use Rattle.walk.specs.Code.{unmark};
+ghost use Rattle.scan.specs.Scan.{scan};
+ghost use Rattle.scan.specs.Notes.{Roomy};
+ghost use Rattle.finish.specs.Finish.{Buffers, buffers};
+ghost use Rattle.extraction.specs.Extract.{extractedAs, afterScan};
+use scan::Extraction;
+use scan::Settings;
+
+// Extraction of a graph that passes checks 1 to 7, over the field of its ends.
+pub fn extract_fine(
+    ax: &[i32],
+    ay: &[i32],
+    bx: &[i32],
+    by: &[i32],
+    nxt: &[u32],
+    prv: &[u32],
+    lead: &[u8],
+    top: &[u8],
+    settings: Settings,
+    state: &mut [u8],
+    points: &mut [i32],
+    first: &mut [u32],
+    len: &mut [u32],
+    kind: &mut [u8],
+) -> Extraction
+    requires { ⌜ Fielded (now ax) (now ay) (now bx) (now by) (now top) (now nxt) (now prv) (now lead) (now state) ⌝ }
+    requires { ⌜ (Links (now ax) (now ay) (now bx) (now by) (length (now state))) × (length (now top) ≡ length (now state)) ⌝ }
+    requires { ⌜ Roomy (length (now state)) (length (now points)) (length (now first)) (length (now len)) (length (now kind)) ⌝ }
+    requires { ⌜ map unmark (now state) ≡ now state ⌝ }
+    ensures { λ r. ⌜ ((g : Graph) → Field g (now (ax .entry)) (now (ay .entry)) (now (bx .entry)) (now (by .entry)) (now (top .entry)) (now (nxt .entry))
+        (now (prv .entry)) (now (lead .entry)) (now (state .entry)) →
+        (let before : Buffers = buffers (now (state .entry)) (now (points .entry)) (now (first .entry)) (now (len .entry))
+        (now (kind .entry)) in
+        let after : Buffers = buffers (now (state .exit)) (now (points .exit)) (now (first .exit)) (now (len .exit)) (now (kind .exit)) in
+        extractedAs r after ≡ afterScan g (settings .minimum) before (scan g (settings .clockwise) (now (state .entry))))) ⌝ }
+{
+    let answer = scan::scan_links(
+        ax,
+        ay,
+        bx,
+        by,
+        nxt,
+        prv,
+        lead,
+        top,
+        settings,
+        state,
+        points,
+        first,
+        len,
+        kind,
+    );
+    finish::finish(answer, state, points, first, len, kind);
+    answer
+}
