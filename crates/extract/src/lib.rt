@@ -1,8 +1,7 @@
 // Extraction: the entry point, which makes the arrays that extraction works in.
-ghost use mathlib.Core.Path.{_≡_};
 ghost use Rattle.graph.specs.Graph.{Lent, lent};
 ghost use Rattle.finish.specs.Finish.{Buffers, buffers};
-ghost use Rattle.extraction.specs.Extract.{extractedAs, extracted};
+ghost use Rattle.extract.specs.Promises.{extract-says};
 use extract_in::extract_in;
 use scan::Extraction;
 use scan::Settings;
@@ -38,7 +37,7 @@ pub fn extract(
         let before : Buffers = buffers (now (state .entry)) (now (points .entry)) (now (first .entry)) (now (len .entry))
         (now (kind .entry)) in
         let after : Buffers = buffers (now (state .exit)) (now (points .exit)) (now (first .exit)) (now (len .exit)) (now (kind .exit)) in
-        extractedAs r after ≡ extracted g (now (top .entry)) clockwise minimum before) ⌝ }
+        extract-says g (now (top .entry)) clockwise minimum before r after) ⌝ }
 {
     let settings = Settings {
         clockwise: clockwise,

@@ -1,12 +1,11 @@
 // Extraction over lists lent to work in: checks 1 to 7, then the scan.
-ghost use mathlib.Core.Path.{_≡_};
 ghost use Prim.Native.Nat.{_≤_};
 ghost use lib.ListN.{length};
 ghost use Rattle.turn.specs.Limits.{maxLinks};
 ghost use Rattle.graph.specs.Graph.{Lent, lent};
 ghost use Rattle.rings.specs.Field.{Spacious, Unled};
 ghost use Rattle.finish.specs.Finish.{Buffers, buffers};
-ghost use Rattle.extraction.specs.Extract.{extractedAs, extracted};
+ghost use Rattle.extract_in.specs.Promises.{extract-in-says};
 use check_graph::Room;
 use extraction::extract_fine;
 use scan::Extraction;
@@ -41,7 +40,7 @@ pub fn extract_in(
         let before : Buffers = buffers (now (state .entry)) (now (points .entry)) (now (first .entry)) (now (len .entry))
         (now (kind .entry)) in
         let after : Buffers = buffers (now (state .exit)) (now (points .exit)) (now (first .exit)) (now (len .exit)) (now (kind .exit)) in
-        extractedAs r after ≡ extracted g (now (top .entry)) (settings .clockwise) (settings .minimum) before) ⌝ }
+        extract-in-says g (now (top .entry)) (settings .clockwise) (settings .minimum) before r after) ⌝ }
 {
     let room = Room {
         points: points.len(),

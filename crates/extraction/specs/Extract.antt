@@ -13,16 +13,29 @@ use Rattle.scan.specs.declared.Extraction.{Extraction}
 use Rattle.scan.specs.declared.Extraction.the-variants.{Done, Refused}
 use Rattle.walk.specs.Walk.{Walk}
 use Rattle.finish.specs.Finish.{Buffers, buffers}
+use Rattle.keep.specs.declared.Counts.{Counts}
+use Rattle.keep.specs.Tables.{noCounts}
 use Rattle.scan.specs.Scan.{Scanned, stopped, walks, scan}
+use Rattle.scan.specs.Values.{Values, valued, valuesOf}
 use Rattle.keep.specs.Outcome.{kept, lens, firsts, kinds, allPoints, coordinates, statesAfter, countsOf}
 
--- the answer with the whole of what was lent
+-- the answer with document 01's number and values for it, and the whole of what was lent
 pub record Extracted : Type 0 where
   pub answer : Extraction
+  pub values : Values
   pub lent : Buffers
 
+-- what an answer of the code and the buffers come to
 abbrev pub extractedAs : Extraction → Buffers → Extracted
-extractedAs answer lent = record { answer = answer; lent = lent }
+extractedAs answer lent = record { answer = answer; values = valuesOf answer; lent = lent }
+
+-- what the rules come to: the counts, or a refusal's number and place
+abbrev pub done : Counts → Buffers → Extracted
+done counts lent = record { answer = Done counts; values = valued 0 0 counts; lent = lent }
+
+-- "After any refusal the counts and totals are 0."
+abbrev pub refusal : (number place : ℕ) → Buffers → Extracted
+refusal number place lent = record { answer = Refused number place; values = valued number place noCounts; lent = lent }
 
 -- "After 8 and 9 the visit states are as before, and the points and contour table are all zero."
 abbrev pub zeroed : Buffers → Buffers
@@ -39,12 +52,12 @@ afterWalks g minimum ws b =
     (padded 0 (kinds (kept g minimum ws)) (length (b .kind)))
 
 abbrev pub afterScan : Graph → ℕ → Buffers → Scanned → Extracted
-afterScan g minimum b (stopped number place) = extractedAs (Refused number place) (zeroed b)
-afterScan g minimum b (walks ws st) = extractedAs (Done (countsOf g minimum ws)) (afterWalks g minimum ws b)
+afterScan g minimum b (stopped number place) = refusal number place (zeroed b)
+afterScan g minimum b (walks ws st) = done (countsOf g minimum ws) (afterWalks g minimum ws b)
 
 -- "After 1 to 7 .. all lent memory is as before the call."
 abbrev pub afterChecks : Graph → Bool → ℕ → Buffers → Checked → Extracted
-afterChecks g clockwise minimum b (check.Refused number place) = extractedAs (Refused number place) b
+afterChecks g clockwise minimum b (check.Refused number place) = refusal number place b
 afterChecks g clockwise minimum b check.Fine = afterScan g minimum b (scan g clockwise (b .state))
 
 unfoldable pub extracted : Lent → List ℕ → Bool → ℕ → Buffers → Extracted

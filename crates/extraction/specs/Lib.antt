@@ -1,4 +1,5 @@
 -- The definition that the contracts cite, then what is true of it.
 pub mod Extract
+pub mod Promises
 pub mod Theorems
 pub mod Examples

@@ -2,14 +2,12 @@
 ghost use mathlib.Core.Path.{_≡_};
 ghost use mathlib.Core.List.{map};
 ghost use lib.ListN.{length};
-ghost use Rattle.graph.specs.Graph.{Graph};
 ghost use Rattle.next.specs.Known.{Links};
-ghost use Rattle.rings.specs.Field.{Field, Fielded};
+ghost use Rattle.rings.specs.Field.{Fielded};
 ghost use Rattle.walk.specs.Code.{unmark};
-ghost use Rattle.scan.specs.Scan.{scan};
 ghost use Rattle.scan.specs.Notes.{Roomy};
-ghost use Rattle.finish.specs.Finish.{Buffers, buffers};
-ghost use Rattle.extraction.specs.Extract.{extractedAs, afterScan};
+ghost use Rattle.finish.specs.Finish.{buffers};
+ghost use Rattle.extraction.specs.Promises.{extract-fine-says};
 use scan::Extraction;
 use scan::Settings;
 
@@ -34,12 +32,10 @@ pub fn extract_fine(
     requires { ⌜ (Links (now ax) (now ay) (now bx) (now by) (length (now state))) × (length (now top) ≡ length (now state)) ⌝ }
     requires { ⌜ Roomy (length (now state)) (length (now points)) (length (now first)) (length (now len)) (length (now kind)) ⌝ }
     requires { ⌜ map unmark (now state) ≡ now state ⌝ }
-    ensures { λ r. ⌜ ((g : Graph) → Field g (now (ax .entry)) (now (ay .entry)) (now (bx .entry)) (now (by .entry)) (now (top .entry)) (now (nxt .entry))
-        (now (prv .entry)) (now (lead .entry)) (now (state .entry)) →
-        (let before : Buffers = buffers (now (state .entry)) (now (points .entry)) (now (first .entry)) (now (len .entry))
-        (now (kind .entry)) in
-        let after : Buffers = buffers (now (state .exit)) (now (points .exit)) (now (first .exit)) (now (len .exit)) (now (kind .exit)) in
-        extractedAs r after ≡ afterScan g (settings .minimum) before (scan g (settings .clockwise) (now (state .entry))))) ⌝ }
+    ensures { λ r. ⌜ extract-fine-says (now (ax .entry)) (now (ay .entry)) (now (bx .entry)) (now (by .entry)) (now (nxt .entry)) (now (prv .entry))
+        (now (lead .entry)) (now (top .entry)) settings
+        (buffers (now (state .entry)) (now (points .entry)) (now (first .entry)) (now (len .entry)) (now (kind .entry))) r
+        (buffers (now (state .exit)) (now (points .exit)) (now (first .exit)) (now (len .exit)) (now (kind .exit))) ⌝ }
 {
     let answer = scan::scan_links(
         ax,

@@ -109,7 +109,8 @@ pub fn find_place(
     requires { ⌜ Grids (now ax) (now ay) (now bx) (now by) (length (now ax)) ⌝ }
     requires { ⌜ (q / 2 < length (now ax)) × (OnGrid home) ⌝ }
     requires { ⌜ Sought (length (now ax)) (now prv) hoop ⌝ }
-    ensures { λ r. ⌜ find-place-says (pointAt (now (ax .entry)) (now (ay .entry))) (pointAt (now (bx .entry)) (now (by .entry))) (now (prv .entry)) hoop home q r ⌝ }
+    ensures { λ r. ⌜ find-place-says (pointAt (now (ax .entry)) (now (ay .entry))) (pointAt (now (bx .entry)) (now (by .entry)))
+        (now (prv .entry)) hoop home q r ⌝ }
 {
     let way = between(home, far_point(ax, ay, bx, by, q));
     let mut at = hoop.tail;

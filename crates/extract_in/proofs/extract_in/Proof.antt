@@ -35,7 +35,7 @@ lends : (o : tie.After-check-graph) → o .check-graph .result ≡ Fine → Lend
 lends o t =
     let s = at-start o in
     let k = o .check-graph .kept .1 .1 .1 .1 .1 .1 .1 .1 .1 .1 .1 in
-    lent-on (g s) (s .args .top .now) (s .args .settings .clockwise) (s .args .settings .minimum) (b s) (sym (o .check-graph .ensures .0) ∙ t)
+    lent-on (g s) (s .args .top .now) (s .args .settings .clockwise) (s .args .settings .minimum) (b s) (sym (o .check-graph .ensures .0 .2) ∙ t)
     (o .check-graph .ensures .1 t) (λ few. as-wide _ _ _ _ (s .pre .0 few) (k .0) (k .1 .0) (k .1 .1 .0))
 
 extract-fine-requires : tie.Need-extract-fine-requires
@@ -62,7 +62,7 @@ returns c =
     let o = c .before .before .before .before .before .before .before .before .before in
     let s = at-start o in
     after-refusal (g s) (s .args .top .now) (s .args .settings .clockwise) (s .args .settings .minimum) (b s) _ _
-    (sym (o .check-graph .ensures .0) ∙ c .before .number .given .1)
+    (sym (o .check-graph .ensures .0 .2) ∙ c .before .number .given .1)
 
 same-length-5 : tie.Need-same-length-5
 same-length-5 c = search needs
@@ -96,7 +96,7 @@ returns-2 c =
     let t = c .before .before .before .before .before .before .before .before .before .before .before .before .before .before .before .before
     .before .before .enum-told .given .1 in
     c .before .before .before .before .before .before .before .before .before .extract-fine .ensures (graphOf (g s) (s .args .top .now)) (lends o t .0)
-    ∙ after-fine (g s) (s .args .top .now) (s .args .settings .clockwise) (s .args .settings .minimum) (b s) (sym (o .check-graph .ensures .0) ∙ t)
+    ∙ after-fine (g s) (s .args .top .now) (s .args .settings .clockwise) (s .args .settings .minimum) (b s) (sym (o .check-graph .ensures .0 .2) ∙ t)
 
 pub extract-in-spec : {M : Type 1} → statement M
 extract-in-spec = tie.close (tie.spec check-graph-requires enum-known-number enum-told extract-fine-requires same-length
