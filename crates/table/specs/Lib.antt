@@ -6,3 +6,4 @@ pub mod Examples
 pub mod TableLaws
 pub mod Tests
 pub mod Passing
+pub mod Promises
