@@ -5,7 +5,7 @@ use native.Mathlib.Decide.{decLe}
 use mathlib.Core.Path.{_≡_, refl, sym, _∙_}
 use mathlib.Core.List.{List}
 use lib.ListN.{length, getD, set, length-set}
-use lib.Seq.{ext-getD}
+use lib.Seq.{ext-getD, getD-set-other}
 use Rattle.laws.specs.Lists.{put-above}
 
 -- the new list is as long as the old one, and from place m on it is the same
@@ -21,6 +21,10 @@ module _ {A : Type 0} (d : A) where
     -- a store at the first kept place
     pub kept-set : (v : A) → KeptFrom d (m + 1) old (set new m v)
     kept-set v = record { len = length-set new m v ∙ k .len; rest = put-above d (λ i. getD old i d) new m v (k .rest) }
+
+    -- a store before the kept places
+    pub kept-before : (i : ℕ) (v : A) → i < m → KeptFrom d m old (set new i v)
+    kept-before i v h = record { len = length-set new i v ∙ k .len; rest = λ j l. getD-set-other new i j v d (λ e. omega arith) ∙ k .rest j l }
 
     -- less is kept
     pub kept-less : (n : ℕ) → m ≤ n → KeptFrom d n old new
