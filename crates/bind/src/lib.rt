@@ -9,7 +9,8 @@ ghost use Rattle.table.specs.Sound.{Sound};
 ghost use Rattle.anchor.specs.AnchorChecks.{bothChecked};
 ghost use Rattle.anchor.specs.Anchored.{Anchored};
 ghost use Rattle.owners.specs.Owners.{owned, searchedOwners, ownersOf};
-ghost use Rattle.bind.specs.Outcome.{outcome, overFront, handed, bound, delivered};
+ghost use Rattle.bind.specs.Outcome.{outcome, overFront, handed, delivered};
+ghost use Rattle.bind.specs.Promises.{bind-says};
 
 // What binding answers: how many shapes there are and how many holes were dropped, or the number and the place of a refusal.
 pub enum Binding {
@@ -159,7 +160,7 @@ pub fn bind(
     owner: &mut [u16],
 ) -> Binding
     ensures { λ r. ⌜ (let t : Table = table (now (points .entry)) (now (first .entry)) (now (len .entry)) (now (kind .entry)) in
-        outcome r (now (owner .exit)) ≡ bound t clockwise (now (owner .entry))) ⌝ }
+        bind-says t clockwise (now (owner .entry)) r (now (owner .exit))) ⌝ }
 {
     match check(points, first, len, kind, clockwise, owner.len()) {
         Checked::Fine => bind_sound(points, first, len, kind, clockwise, owner),
