@@ -1,6 +1,6 @@
 -- The outcome of binding: the answer, and the owner buffer.
 use Prim.Native.Nat.{ℕ}
-use mathlib.Core.Bool.{Bool}
+use mathlib.Core.Bool.{Bool, true, false}
 use mathlib.Core.List.{List, _++_}
 use lib.ListN.{length, drop}
 use lib.Dec.{eqb}
@@ -84,6 +84,11 @@ boundAfter Fine t cw buffer = handed t (ownersOf t cw) buffer
 
 abbrev pub bound : Table → Bool → List ℕ → Outcome
 bound t cw buffer = boundAfter (bothChecked t (length buffer) cw) t cw buffer
+
+-- whether a hole has found no owner
+abbrev pub isStuck : Given → Bool
+isStuck All = false
+isStuck (Stuck c) = true
 
 -- on success the owners stand in front of the old tail; after a refusal nothing has changed
 abbrev pub deliveredBy : Given → List ℕ → List ℕ → Owned

@@ -120,7 +120,8 @@ module _ (h : Anchors) (who old mid : List ℕ) (m j : ℕ) (o : Ordering h who 
   ordering-more new l s = record {
     on = omega arith;
     kept = kept-then 0 (j + 1) old mid new (kept-less 0 j old mid (o .kept) (j + 1) (omega arith)) (s .kept);
-    done = rw (add-one j) (image (λ k. k) mid new (sorted (byAnchor h who) (λ k. k) j) (sorted (byAnchor h who) (λ k. k) (suc j)) j (slotOf h who mid j) j j (s .inserted)
+    done = rw (add-one j) (image (λ k. k) mid new (sorted (byAnchor h who) (λ k. k) j) (sorted (byAnchor h who) (λ k. k) (suc j)) j (slotOf h who mid j) j j
+        (s .inserted)
         (subst (λ (p : ℕ). Inserted (sorted (byAnchor h who) (λ k. k) j) (sorted (byAnchor h who) (λ k. k) (suc j)) j p j) (sym places)
         (sorted-more (byAnchor h who) (λ k. k) j))
         refl (o .done));

@@ -85,9 +85,11 @@ returns c =
     .before .before .before .before .before .before .before .before .before .before .before .before .before .before .before .before .before
     .before .before .before .before in let l =
     c .before .before .before .before .before .before .before .before .before .before .before .before .before .list-edges in let e =
-    c .before .before .before .before .before .before .before .nearest-edges in let u = c .before .before .name-contours in
-    (searched (t s) (s .pre .0) (l .last .1 .1 .0) (l .last .1 .1 .1 .0) (l .ensures .round) (right s) (s .args .mute .now) (h s) (s .args .m)
-    (e .last .1 .1 .1 .1 .1 .1 .1 .1 .1 .1 .1 .1 .0) (e .ensures) (u .last .1 .1 .1 .1 .0) (u .ensures .names), u .ensures .kept)
+    c .before .before .before .before .before .before .before .nearest-edges in let u = c .before .before .name-contours in (
+      searched (t s) (s .pre .0) (l .last .1 .1 .0) (l .last .1 .1 .1 .0) (l .ensures .round) (right s) (s .args .mute .now) (h s) (s .args .m)
+          (e .last .1 .1 .1 .1 .1 .1 .1 .1 .1 .1 .1 .1 .0) (e .ensures) (u .last .1 .1 .1 .1 .0) (u .ensures .names),
+      u .ensures .kept,
+    )
 
 pub contours-under-spec : {M : Type 1} → statement M
 contours-under-spec = tie.close (tie.spec slice-aggregate-list-edges slice-aggregate-list-edges-2 list-edges-requires

@@ -18,8 +18,7 @@ abbrev μ-loop : tie.MeasureT-loop
 
 loop-holds : tie.Need-loop-holds Inv-loop μ-loop
 loop-holds c =
-    let s = c .before .before .before in
-    (
+    let s = c .before .before .before in (
       omega arith,
       record {
         names = below-none (λ i. getD (s .args .under .now) i 0 ≡ named (s .args .of .now) (getD (s .args .best .now) i 0));
@@ -42,7 +41,8 @@ mul-under : tie.Need-mul-under Inv-loop μ-loop
 mul-under c = let s = c .before .before .before .before .before .before .before in omega (arith, s .good, s .pre .1)
 
 slice-write-under : tie.Need-slice-write-under Inv-loop μ-loop
-slice-write-under c = let s = c .before .before .before .before .before .before .before in omega (arith, s .pre .1, c .before .before .before .loop .inv .1 .kept .len)
+slice-write-under c =
+    let s = c .before .before .before .before .before .before .before in omega (arith, s .pre .1, c .before .before .before .loop .inv .1 .kept .len)
 
 add-j : tie.Need-add-j Inv-loop μ-loop
 add-j c = let s = c .before .before .before .before .before .before .before in omega (arith, s .good, s .pre .1)
