@@ -7,3 +7,4 @@ pub mod Examples
 pub mod AnchorPositions
 pub mod Anchoring
 pub mod AnchorLaws
+pub mod Promises

@@ -10,10 +10,11 @@ ghost use Rattle.laws.specs.Test.{pick};
 ghost use Rattle.turn.specs.Points.{Grid, OnGrid};
 ghost use Rattle.table.specs.Table.{Table, table, previousIn};
 ghost use Rattle.table.specs.Sound.{Sound};
-ghost use Rattle.anchor.specs.Anchor.{anchorPositionIn, anchorPointIn, lowerEnd, anchorEdgeIn};
-ghost use Rattle.anchor.specs.AnchorChecks.{holeBefore, notLeast, beforeLast, badAnchor, anchorsChecked};
+ghost use Rattle.anchor.specs.Anchor.{anchorPositionIn, anchorPointIn, lowerEnd};
+ghost use Rattle.anchor.specs.AnchorChecks.{holeBefore, notLeast, beforeLast, badAnchor};
 ghost use Rattle.anchor.specs.Anchored.{Paired};
-ghost use Rattle.anchor.specs.Anchors.{Anchors, anchors, listedAnchor, withAnchor, AnchorRoom};
+ghost use Rattle.anchor.specs.Anchors.{Anchors, anchors, AnchorRoom};
+ghost use Rattle.anchor.specs.Promises.{check-anchors-says, left-bottom-segment-from-says, listed-anchor-says, put-anchor-says};
 
 // A hole's anchor and the other end of its anchor edge.
 pub struct Anchor {
@@ -114,7 +115,7 @@ pub fn check_anchors(
 ) -> Checked
     requires { ⌜ Sound (table (now points) (now first) (now len) (now kind)) ⌝ }
     ensures { λ r. ⌜ (let t : Table = table (now (points .entry)) (now (first .entry)) (now (len .entry)) (now (kind .entry)) in
-        r ≡ anchorsChecked t clockwise) ⌝ }
+        check-anchors-says t clockwise r) ⌝ }
 {
     let mut last = 0;
     let mut c = 0;
@@ -145,7 +146,7 @@ fn lower_end(at: Point, p: Point, q: Point) -> Point
 // The anchor edge of the contour of so many points from a position on.
 pub fn left_bottom_segment_from(points: &[i32], from: usize, len: usize, clockwise: bool) -> Anchor
     requires { ⌜ (3 ≤ len) × ((from + len) * 2 ≤ length (now points)) × (Grid (now points)) ⌝ }
-    ensures { λ r. ⌜ r ≡ anchorEdgeIn (now (points .entry)) from (from + len) clockwise ⌝ }
+    ensures { λ r. ⌜ left-bottom-segment-from-says (now (points .entry)) from len clockwise r ⌝ }
 {
     let at = anchor_point(points, from, clockwise);
     let next = table::point_in(points, anchor_position(from, clockwise) + 1);
@@ -171,7 +172,7 @@ fn before_anchor(from: usize, len: usize, clockwise: bool) -> usize
 pub fn listed_anchor(x: &[i32], y: &[i32], to_x: &[i32], to_y: &[i32], j: usize) -> Anchor
     requires { ⌜ AnchorRoom (anchors (now x) (now y) (now «to_x») (now «to_y»)) (suc j) ⌝ }
     ensures { λ r. ⌜ (let h : Anchors = anchors (now (x .entry)) (now (y .entry)) (now («to_x» .entry)) (now («to_y» .entry)) in
-        r ≡ listedAnchor h j) ⌝ }
+        listed-anchor-says h j r) ⌝ }
 {
     Anchor {
         at: Point { x: x[j], y: y[j] },
@@ -194,8 +195,7 @@ pub fn put_anchor(
     requires { ⌜ (OnGrid (a .at)) × (OnGrid (a .to)) ⌝ }
     requires { ⌜ AnchorRoom (anchors (now x) (now y) (now «to_x») (now «to_y»)) (suc j) ⌝ }
     ensures { λ _. ⌜ (let h : Anchors = anchors (now (x .entry)) (now (y .entry)) (now («to_x» .entry)) (now («to_y» .entry)) in
-        let h′ : Anchors = anchors (now (x .exit)) (now (y .exit)) (now («to_x» .exit)) (now («to_y» .exit)) in
-        h′ ≡ withAnchor h j a) ⌝ }
+        put-anchor-says h j a (now (x .exit)) (now (y .exit)) (now («to_x» .exit)) (now («to_y» .exit))) ⌝ }
 {
     let at_x = a.at.x;
     let at_y = a.at.y;

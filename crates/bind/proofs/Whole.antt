@@ -1,12 +1,13 @@
 -- The parts joined: the checks, what the search hands on, and the outcome.
 use Prim.Native.Nat.{ℕ, _≤_}
 use mathlib.Core.Path.{_≡_, refl, sym, ap, _∙_, subst}
-use mathlib.Core.Bool.{Bool}
+use mathlib.Core.Bool.{Bool, true, false}
 use mathlib.Core.List.{List}
 use native.Mathlib.Omega.{arith}
 use lib.ListN.{length, take, replicate}
 use lib.Seq.{take-all}
 use borrow.Author.Tests.{ne-eqb}
+use Rattle.laws.specs.Test.{true≢false}
 use Rattle.turn.specs.declared.Checked.{Checked}
 use Rattle.turn.specs.declared.Checked.the-variants.{Fine, Refused as AtFault}
 use Rattle.turn.specs.Refusals.{followedBy}
@@ -22,7 +23,7 @@ use Rattle.owners.specs.declared.Given.{Given}
 use Rattle.owners.specs.declared.Given.the-variants.{All, Stuck}
 use Rattle.owners.specs.Owners.{contourBelow, firstOwner, tabulate, Owned, owned, giveEach, searchedOwners, ownersOf}
 use Rattle.bind.specs.declared.Binding.the-variants.{Bound, Refused}
-use Rattle.bind.specs.Outcome.{droppedOf, Outcome, outcome, overFront, handed, boundAfter, bound, delivered}
+use Rattle.bind.specs.Outcome.{droppedOf, Outcome, outcome, overFront, handed, boundAfter, bound, isStuck, delivered}
 
 -- ---- the ways out of `check`
 module _ (t : Table) (owners : ℕ) (cw : Bool) where
@@ -39,11 +40,21 @@ module _ (t : Table) (s : Sound t) (cw : Bool) (numbers own owner : List ℕ) (r
   found = ap (λ (k : ℕ). giveEach (contourBelow t cw) (bindingOrder t cw) (tabulate (firstOwner (t .kind)) k)) (sym (s .kind-long))
       ∙ ap (giveEach (contourBelow t cw) (bindingOrder t cw)) (sym n) ∙ sym e
 
-  pub deliver-stuck : (c : ℕ) → r ≡ Stuck c → owned (Stuck c) owner ≡ delivered (searchedOwners t cw) owner
-  deliver-stuck c q = rw (found, q)
+  -- a hole has found none: nothing is written
+  pub deliver-stuck : isStuck r ≡ true → owned r owner ≡ delivered (searchedOwners t cw) owner
+  deliver-stuck q = go r q ∙ sym (ap (λ (w : Owned). delivered w owner) found)
+    where
+      go : (g : Given) → isStuck g ≡ true → owned g owner ≡ delivered (owned g own) owner
+      go All q = absurd (true≢false q refl)
+      go (Stuck c) q = refl
 
-  pub deliver-all : (new : List ℕ) → r ≡ All → new ≡ overFront own owner → owned All new ≡ delivered (searchedOwners t cw) owner
-  deliver-all new q w = rw (found, q, w)
+  -- every hole has its owner: all are written
+  pub deliver-all : (new : List ℕ) → isStuck r ≡ false → new ≡ overFront own owner → owned r new ≡ delivered (searchedOwners t cw) owner
+  deliver-all new q w = ap (owned r) w ∙ go r q ∙ sym (ap (λ (w : Owned). delivered w owner) found)
+    where
+      go : (g : Given) → isStuck g ≡ false → owned g (overFront own owner) ≡ delivered (owned g own) owner
+      go All q = refl
+      go (Stuck c) q = absurd (true≢false refl q)
 
 -- ---- the ways out of `bind_sound`
 pub hull-count : (t : Table) → Sound t → (k : ℕ) → k ≡ hulls (take (contourCount t) (t .kind)) → hullCount t ≡ k

@@ -1,6 +1,6 @@
 -- The outcome of binding: the answer, and the owner buffer.
 use Prim.Native.Nat.{ℕ}
-use mathlib.Core.Bool.{Bool}
+use mathlib.Core.Bool.{Bool, true, false}
 use mathlib.Core.List.{List, _++_}
 use lib.ListN.{length, drop}
 use lib.Dec.{eqb}
@@ -19,34 +19,17 @@ use Rattle.bind.specs.declared.Binding.the-variants.{Bound, Refused}
 abbrev pub droppedOf : Table → ℕ
 droppedOf t = pick (eqb (hullCount t) 0) (contourCount t) 0
 
--- ---- the outcome: the answer, and the owner buffer
-pub record Outcome : Type 0 where
-  pub answer : Binding
-  pub owner : List ℕ
+-- ---- document 01's number and values for each answer
+-- number 0 is done; "After any refusal the counts and totals are 0."
+pub record BindingValues : Type 0 where
+  pub number : ℕ
+  pub place : ℕ
+  pub shapes : ℕ
+  pub dropped : ℕ
 
-abbrev pub outcome : Binding → List ℕ → Outcome
-outcome b l = record { answer = b; owner = l }
+abbrev pub valued : (number place shapes dropped : ℕ) → BindingValues
+valued number place shapes dropped = record { number = number; place = place; shapes = shapes; dropped = dropped }
 
--- "An owner buffer longer than needed keeps its tail."
-abbrev pub overFront : List ℕ → List ℕ → List ℕ
-overFront owners buffer = owners ++ drop (length owners) buffer
-
--- "After 1 to 7 and 10 to 12 all lent memory is as before the call."
-abbrev pub handedBy : Table → Given → List ℕ → List ℕ → Outcome
-handedBy t All owners buffer = outcome (Bound (hullCount t) (droppedOf t)) (overFront owners buffer)
-handedBy t (Stuck c) owners buffer = outcome (Refused 12 c) buffer
-
-abbrev pub handed : Table → Owned → List ℕ → Outcome
-handed t w buffer = handedBy t (w .answer) (w .owners) buffer
-
-abbrev pub boundAfter : Checked → Table → Bool → List ℕ → Outcome
-boundAfter (AtFault number at) t cw buffer = outcome (Refused number at) buffer
-boundAfter Fine t cw buffer = handed t (ownersOf t cw) buffer
-
-abbrev pub bound : Table → Bool → List ℕ → Outcome
-bound t cw buffer = boundAfter (bothChecked t (length buffer) cw) t cw buffer
-
--- ---- document 01's number and place for each answer: 0 is done
 abbrev pub bindingNumber : Binding → ℕ
 bindingNumber (Bound shapes dropped) = 0
 bindingNumber (Refused number at) = number
@@ -54,6 +37,58 @@ bindingNumber (Refused number at) = number
 abbrev pub bindingPlace : Binding → ℕ
 bindingPlace (Bound shapes dropped) = 0
 bindingPlace (Refused number at) = at
+
+abbrev pub bindingShapes : Binding → ℕ
+bindingShapes (Bound shapes dropped) = shapes
+bindingShapes (Refused number at) = 0
+
+abbrev pub bindingDropped : Binding → ℕ
+bindingDropped (Bound shapes dropped) = dropped
+bindingDropped (Refused number at) = 0
+
+abbrev pub valuesOfBinding : Binding → BindingValues
+valuesOfBinding b = valued (bindingNumber b) (bindingPlace b) (bindingShapes b) (bindingDropped b)
+
+-- ---- the outcome: the answer with its number and values, and the owner buffer
+pub record Outcome : Type 0 where
+  pub answer : Binding
+  pub values : BindingValues
+  pub owner : List ℕ
+
+-- what an answer of the code and a buffer come to
+abbrev pub outcome : Binding → List ℕ → Outcome
+outcome b l = record { answer = b; values = valuesOfBinding b; owner = l }
+
+-- what the rules come to: so many shapes and dropped holes, or a refusal's number and place
+abbrev pub done : (shapes dropped : ℕ) → List ℕ → Outcome
+done shapes dropped owners = record { answer = Bound shapes dropped; values = valued 0 0 shapes dropped; owner = owners }
+
+abbrev pub refusal : (number place : ℕ) → List ℕ → Outcome
+refusal number place buffer = record { answer = Refused number place; values = valued number place 0 0; owner = buffer }
+
+-- "An owner buffer longer than needed keeps its tail."
+abbrev pub overFront : List ℕ → List ℕ → List ℕ
+overFront owners buffer = owners ++ drop (length owners) buffer
+
+-- "After 1 to 7 and 10 to 12 all lent memory is as before the call."
+abbrev pub handedBy : Table → Given → List ℕ → List ℕ → Outcome
+handedBy t All owners buffer = done (hullCount t) (droppedOf t) (overFront owners buffer)
+handedBy t (Stuck c) owners buffer = refusal 12 c buffer
+
+abbrev pub handed : Table → Owned → List ℕ → Outcome
+handed t w buffer = handedBy t (w .answer) (w .owners) buffer
+
+abbrev pub boundAfter : Checked → Table → Bool → List ℕ → Outcome
+boundAfter (AtFault number at) t cw buffer = refusal number at buffer
+boundAfter Fine t cw buffer = handed t (ownersOf t cw) buffer
+
+abbrev pub bound : Table → Bool → List ℕ → Outcome
+bound t cw buffer = boundAfter (bothChecked t (length buffer) cw) t cw buffer
+
+-- whether a hole has found no owner
+abbrev pub isStuck : Given → Bool
+isStuck All = false
+isStuck (Stuck c) = true
 
 -- on success the owners stand in front of the old tail; after a refusal nothing has changed
 abbrev pub deliveredBy : Given → List ℕ → List ℕ → Owned

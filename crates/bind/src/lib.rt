@@ -9,7 +9,8 @@ ghost use Rattle.table.specs.Sound.{Sound};
 ghost use Rattle.anchor.specs.AnchorChecks.{bothChecked};
 ghost use Rattle.anchor.specs.Anchored.{Anchored};
 ghost use Rattle.owners.specs.Owners.{owned, searchedOwners, ownersOf};
-ghost use Rattle.bind.specs.Outcome.{outcome, overFront, handed, bound, delivered};
+ghost use Rattle.bind.specs.Outcome.{outcome, overFront, handed, isStuck, delivered};
+ghost use Rattle.bind.specs.Promises.{bind-says};
 
 // What binding answers: how many shapes there are and how many holes were dropped, or the number and the place of a refusal.
 pub enum Binding {
@@ -41,6 +42,16 @@ fn fill(owner: &mut [u16], n: usize, number: u16)
     }
 }
 
+// Whether a hole has found no owner.
+fn is_stuck(given: Given) -> bool
+    ensures { λ r. ⌜ r ≡ isStuck given ⌝ }
+{
+    match given {
+        Given::All => false,
+        Given::Stuck(_) => true,
+    }
+}
+
 // The owners are worked out in `own`, and `owner` is written only where every hole has found its own.
 fn bind_in(
     points: &[i32],
@@ -58,13 +69,12 @@ fn bind_in(
         owned r (now (owner .exit)) ≡ delivered (searchedOwners t clockwise) (now (owner .entry))) ⌝ }
 {
     owners::number_hulls(kind, own);
-    match owners::search_owners(points, first, len, kind, clockwise, own) {
-        Given::Stuck(c) => Given::Stuck(c),
-        Given::All => {
-            copy(own, owner);
-            Given::All
-        }
+    let given = owners::search_owners(points, first, len, kind, clockwise, own);
+    if is_stuck(given) {
+        return given;
     }
+    copy(own, owner);
+    given
 }
 
 // Two hulls or more, with an array of its own.
@@ -159,7 +169,7 @@ pub fn bind(
     owner: &mut [u16],
 ) -> Binding
     ensures { λ r. ⌜ (let t : Table = table (now (points .entry)) (now (first .entry)) (now (len .entry)) (now (kind .entry)) in
-        outcome r (now (owner .exit)) ≡ bound t clockwise (now (owner .entry))) ⌝ }
+        bind-says t clockwise (now (owner .entry)) r (now (owner .exit))) ⌝ }
 {
     match check(points, first, len, kind, clockwise, owner.len()) {
         Checked::Fine => bind_sound(points, first, len, kind, clockwise, owner),

@@ -4,7 +4,7 @@ use mathlib.Core.Path.{_≡_, refl, _∙_, sym}
 use mathlib.Core.Bool.{true, false}
 use mathlib.Core.List.{List}
 use native.Mathlib.Omega.{arith}
-use lib.ListN.{length, getD, set, length-set}
+use lib.ListN.{length, getD, set}
 use native.Mathlib.Nat.{not-suc-le-zero}
 use native.Mathlib.Decide.{ℕ-discrete}
 use lib.Dec.{ltb}
@@ -13,8 +13,11 @@ use Rattle.laws.specs.Lists.{put-below}
 use Rattle.laws.specs.Test.{pick}
 use Rattle.turn.specs.declared.Point.{Point}
 use Rattle.table.specs.Table.{pointIn, Table, firstOf, rangeEnd, contourOf, nextIn, next}
+use Rattle.table.specs.TableChecks.{startIn}
+use Rattle.table.specs.TableLaws.{start-next}
 use Rattle.table.specs.Passing.{apart, contour-is}
-use Rattle.candidates.specs.EdgeLists.{EdgeLists, listedEdge, Ranges, ranges, ContourListed, Round}
+use Rattle.table.specs.Fronts.{KeptFrom, kept-all, kept-set, kept-less, kept-then}
+use Rattle.candidates.specs.EdgeLists.{EdgeLists, listedEdge, Ranges, ranges, ContourListed, Round, RoundInto}
 
 -- ---- the ways out of `listed_edge`
 module _ (g : EdgeLists) (k : ℕ) (p q : Point) (ep : p ≡ pointIn (g .points) k) (eq : q ≡ pointIn (g .points) (getD (g .next) k 0)) where
@@ -36,19 +39,19 @@ mixed from old f i = pick (ltb i from) (getD old i 0) (f i)
 pub record Listing (c from to : ℕ) (next₀ of₀ next of : List ℕ) (k : ℕ) : Type 0 where
   pub low : from ≤ k
   pub high : k ≤ to
-  pub len-next : length next ≡ length next₀
-  pub len-of : length of ≡ length of₀
   pub of-is : (i : ℕ) → i < k → getD of i 0 ≡ mixed from of₀ (λ _. c) i
   pub next-is : (i : ℕ) → i < k → getD next i 0 ≡ mixed from next₀ (nextIn from to) i
+  pub of-kept : KeptFrom 0 k of₀ of
+  pub next-kept : KeptFrom 0 k next₀ next
 
 pub listing-start : (c from to : ℕ) (next of : List ℕ) → from ≤ to → Listing c from to next of next of from
 listing-start c from to next of h = record {
   low = omega arith;
   high = h;
-  len-next = refl;
-  len-of = refl;
   of-is = λ i l. rw (lt-ltb i from l);
   next-is = λ i l. rw (lt-ltb i from l);
+  of-kept = kept-all 0 from of;
+  next-kept = kept-all 0 from next;
 }
 
 module _ (c from to : ℕ) (next₀ of₀ next of : List ℕ) (k : ℕ) (l : Listing c from to next₀ of₀ next of k) where
@@ -57,10 +60,10 @@ module _ (c from to : ℕ) (next₀ of₀ next of : List ℕ) (k : ℕ) (l : Lis
   listing-more r h n o e = record {
     low = omega (arith, l .low);
     high = omega arith;
-    len-next = length-set next k r ∙ l .len-next;
-    len-of = length-set of k c ∙ l .len-of;
-    of-is = put-below 0 (mixed from of₀ (λ _. c)) of k c (omega (arith, l .len-of)) (rw (le-ltb k from (l .low))) (l .of-is);
-    next-is = put-below 0 (mixed from next₀ (nextIn from to)) next k r (omega (arith, l .len-next)) (e ∙ rw (le-ltb k from (l .low))) (l .next-is);
+    of-is = put-below 0 (mixed from of₀ (λ _. c)) of k c (omega (arith, l .of-kept .len)) (rw (le-ltb k from (l .low))) (l .of-is);
+    next-is = put-below 0 (mixed from next₀ (nextIn from to)) next k r (omega (arith, l .next-kept .len)) (e ∙ rw (le-ltb k from (l .low))) (l .next-is);
+    of-kept = kept-set 0 k of₀ of (l .of-kept) c;
+    next-kept = kept-set 0 k next₀ next (l .next-kept) r;
   }
 
   pub listing-end : to ≤ k → ContourListed c from to next₀ of₀ next of
@@ -69,6 +72,8 @@ module _ (c from to : ℕ) (next₀ of₀ next of : List ℕ) (k : ℕ) (l : Lis
     next-below = λ i j. l .next-is i (omega (arith, l .low)) ∙ rw (lt-ltb i from j);
     of-in = λ i j m. l .of-is i (omega arith) ∙ rw (le-ltb i from j);
     next-in = λ i j m. l .next-is i (omega arith) ∙ rw (le-ltb i from j);
+    of-kept = kept-less 0 k of₀ of (l .of-kept) to (l .high);
+    next-kept = kept-less 0 k next₀ next (l .next-kept) to (l .high);
   }
 
 -- ---- the loop of `list_edges`
@@ -100,3 +105,20 @@ module _ (first len : List ℕ) (r : Ranges first len) where
           let f′ : firstOf t c ≤ k = rw q at f in let e′ : k < rangeEnd t c = rw q at e in
           n .next-in k f′ e′ ∙ rw (at-home c k h f′ e′)
       at-next b k l f e (no q) = n .next-below k (omega (arith, apart t (r .follow) c b h (omega arith))) ∙ o .next-is b k (omega arith) f e
+
+  pub rounds-start : (next of : List ℕ) → RoundInto first len 0 next of next of
+  rounds-start next of = record { round = round-start next of; next-kept = kept-all 0 _ next; of-kept = kept-all 0 _ of }
+
+  pub rounds-more : (c : ℕ) (next of next₀ of₀ next₁ of₁ : List ℕ) → c < length first → RoundInto first len c next of next₀ of₀
+      → ContourListed c (firstOf t c) (rangeEnd t c) next₀ of₀ next₁ of₁ → RoundInto first len (c + 1) next of next₁ of₁
+  rounds-more c next of next₀ of₀ next₁ of₁ h o n = record {
+    round = round-more c next₀ of₀ next₁ of₁ h (o .round) n;
+    next-kept = further next next₀ next₁ (o .next-kept) (n .next-kept);
+    of-kept = further of of₀ of₁ (o .of-kept) (n .of-kept);
+  }
+    where
+      further : (old mid new : List ℕ) → KeptFrom 0 (startIn first len c) old mid → KeptFrom 0 (rangeEnd t c) mid new
+          → KeptFrom 0 (startIn first len (c + 1)) old new
+      further old mid new a b =
+          rw (start-next first len c)
+          (kept-then 0 (rangeEnd t c) old mid new (kept-less 0 (startIn first len c) old mid a (rangeEnd t c) (omega (arith, r .follow c h))) b)

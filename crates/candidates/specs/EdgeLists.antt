@@ -8,6 +8,7 @@ use lib.IntN.{ℤ}
 use Rattle.turn.specs.Limits.{maxLinks}
 use Rattle.turn.specs.Points.{Grid}
 use Rattle.table.specs.TableChecks.{startIn}
+use Rattle.table.specs.Fronts.{KeptFrom}
 use Rattle.table.specs.Table.{Table, table, pointIn, firstOf, rangeEnd, contourOf, nextIn, next}
 use Rattle.edges.specs.declared.Edge.{Edge}
 use Rattle.candidates.specs.Candidates.{edgeOf}
@@ -53,10 +54,18 @@ ranges first len = table [] first len []
 pub record ContourListed (c from to : ℕ) (next of next′ of′ : List ℕ) : Type 0 where
   pub of-below : (k : ℕ) → k < from → getD of′ k 0 ≡ getD of k 0
   pub of-in : (k : ℕ) → from ≤ k → k < to → getD of′ k 0 ≡ c
+  pub of-kept : KeptFrom 0 to of of′
   pub next-below : (k : ℕ) → k < from → getD next′ k 0 ≡ getD next k 0
   pub next-in : (k : ℕ) → from ≤ k → k < to → getD next′ k 0 ≡ nextIn from to k
+  pub next-kept : KeptFrom 0 to next next′
 
 -- right for the points of the first n contours
 pub record Round (t : Table) (n : ℕ) (next′ of : List ℕ) : Type 0 where
   pub of-is : (c k : ℕ) → c < n → firstOf t c ≤ k → k < rangeEnd t c → getD of k 0 ≡ contourOf t k
   pub next-is : (c k : ℕ) → c < n → firstOf t c ≤ k → k < rangeEnd t c → getD next′ k 0 ≡ next t (contourOf t k) k
+
+-- right for the points of the first n contours, and past the last of these as they were
+pub record RoundInto (first len : List ℕ) (n : ℕ) (next of next′ of′ : List ℕ) : Type 0 where
+  pub round : Round (ranges first len) n next′ of′
+  pub next-kept : KeptFrom 0 (startIn first len n) next next′
+  pub of-kept : KeptFrom 0 (startIn first len n) of of′

@@ -2,3 +2,4 @@
 pub mod Candidates
 pub mod EdgeLists
 pub mod EdgeListLaws
+pub mod Promises

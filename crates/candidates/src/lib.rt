@@ -4,9 +4,9 @@ ghost use mathlib.Core.Path.{_≡_};
 ghost use Prim.Native.Nat.{ℕ, _<_, _≤_};
 ghost use lib.ListN.{length};
 ghost use Rattle.turn.specs.Limits.{maxLinks};
-ghost use Rattle.turn.specs.Points.{OnGrid};
 ghost use Rattle.table.specs.Table.{nextIn};
-ghost use Rattle.candidates.specs.EdgeLists.{EdgeLists, edgeLists, listedEdge, Fit, ContourListed, Ranges, ranges, Round};
+ghost use Rattle.candidates.specs.EdgeLists.{EdgeLists, edgeLists, Fit, ContourListed, Ranges};
+ghost use Rattle.candidates.specs.Promises.{listed-edge-says, list-edges-says};
 
 // Edge k, which begins at point k, with its ends the way round that makes a candidate run from left to right.
 pub fn listed_edge(
@@ -20,7 +20,7 @@ pub fn listed_edge(
 ) -> Edge
     requires { ⌜ (Fit (edgeLists (now points) (now next) (now of) (now kind) right) n) × (k < n) ⌝ }
     ensures { λ r. ⌜ (let g : EdgeLists = edgeLists (now (points .entry)) (now (next .entry)) (now (of .entry)) (now (kind .entry)) right in
-        (r ≡ listedEdge g k) × (OnGrid (r .left)) × (OnGrid (r .right))) ⌝ }
+        listed-edge-says g k r) ⌝ }
 {
     let c = of[k];
     let t = kind[c as usize];
@@ -69,10 +69,10 @@ fn list_contour(next: &mut [u32], of: &mut [u32], c: u32, from: usize, to: usize
     }
 }
 
-// For every point the one after it round its contour, and its contour.
+// For every point the one after it round its contour, and its contour. Past the last point both lists stay as they are.
 pub fn list_edges(first: &[u32], len: &[u32], next: &mut [u32], of: &mut [u32])
     requires { ⌜ (Ranges (now first) (now len)) × (maxLinks ≤ length (now next)) × (maxLinks ≤ length (now of)) ⌝ }
-    ensures { λ _. ⌜ Round (ranges (now (first .entry)) (now (len .entry))) (length (now (first .entry))) (now (next .exit)) (now (of .exit)) ⌝ }
+    ensures { λ _. ⌜ list-edges-says (now (first .entry)) (now (len .entry)) (now (next .entry)) (now (of .entry)) (now (next .exit)) (now (of .exit)) ⌝ }
 {
     let mut c = 0;
     while c < first.len() {

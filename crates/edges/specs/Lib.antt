@@ -2,3 +2,4 @@
 pub mod Edges
 pub mod Gaps
 pub mod Nearer
+pub mod Promises

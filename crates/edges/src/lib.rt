@@ -6,7 +6,8 @@ ghost use mathlib.Core.Path.{_≡_};
 ghost use Prim.Native.Nat.{ℕ, _≤_};
 ghost use lib.IntN.{natAbs, _*ℤ_};
 ghost use Rattle.turn.specs.Points.{Short, productBound, span};
-ghost use Rattle.edges.specs.Edges.{height, liesUnder, winsTie, nearer, On, gapBound};
+ghost use Rattle.edges.specs.Edges.{height, winsTie, On, gapBound};
+ghost use Rattle.edges.specs.Promises.{lies-under-says, is-nearer-says};
 
 // An edge from its left end to its right end, with its contour's kind (0 hull, 1 hole) and number.
 pub struct Edge {
@@ -27,7 +28,7 @@ fn height_over(a: Anchor, e: Edge) -> i64
 // The anchor is strictly above the edge, or on it with its anchor edge strictly counterclockwise of it.
 pub fn lies_under(a: Anchor, e: Edge) -> bool
     requires { ⌜ On a e ⌝ }
-    ensures { λ r. ⌜ r ≡ liesUnder a e ⌝ }
+    ensures { λ r. ⌜ lies-under-says a e r ⌝ }
 {
     let h = height_over(a, e);
     if 0 < h {
@@ -66,7 +67,7 @@ fn wins_tie(u: Vector, v: Vector, kind: u8, other_kind: u8, contour: u32, other:
 // e is nearer to the anchor than f: by the gaps as fractions, then as `wins_tie` says.
 pub fn is_nearer(a: Anchor, e: Edge, f: Edge) -> bool
     requires { ⌜ (On a e) × (On a f) ⌝ }
-    ensures { λ r. ⌜ r ≡ nearer a e f ⌝ }
+    ensures { λ r. ⌜ is-nearer-says a e f r ⌝ }
 {
     let u = turn::between(e.left, e.right);
     let v = turn::between(f.left, f.right);

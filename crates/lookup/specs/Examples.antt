@@ -8,7 +8,7 @@ use Rattle.table.specs.TableChecks.{tableChecked}
 use Rattle.table.specs.Examples.{e9, e10One, noHull}
 use Rattle.lookup.specs.declared.records.Role.the-variants.{Hull, Hole, Dropped}
 use Rattle.lookup.specs.declared.records.Lookup.the-variants.{Found, Missing}
-use Rattle.lookup.specs.Lookups.{lookedUp}
+use Rattle.lookup.specs.Lookups.{lookedUp, lookedUpValues}
 
 -- ---- lookups, with the owners that binding gives
 e9-hull : lookedUp e9 (0 ∷ 1 ∷ 1 ∷ 1 ∷ []) 1 ≡ Found (record { first = 4; len = 4; role = Hull 1 })
@@ -34,3 +34,12 @@ e10-one = refl
 dropped : lookedUp noHull (droppedOwner ∷ droppedOwner ∷ []) 1 ≡ Found (record { first = 4; len = 4; role = Dropped })
 unfolding lookedUp tableChecked lowest count
 dropped = refl
+
+-- ---- document 01's numbers and values of such answers
+dropped-values : lookedUpValues noHull (droppedOwner ∷ droppedOwner ∷ []) 1 ≡ record { found = 1; role = 2; owner = 65535; first = 4; len = 4 }
+unfolding lookedUpValues tableChecked lowest count
+dropped-values = refl
+
+none-values : lookedUpValues e9 (0 ∷ 1 ∷ 1 ∷ 1 ∷ []) 4 ≡ record { found = 0; role = 0; owner = 0; first = 0; len = 0 }
+unfolding lookedUpValues tableChecked lowest count
+none-values = refl

@@ -2,3 +2,4 @@
 pub mod Lookups
 pub mod Examples
 pub mod LookupLaws
+pub mod Promises

@@ -12,12 +12,14 @@ use Rattle.laws.specs.Test.{pick}
 use Rattle.laws.specs.Fails.{Iff}
 use Rattle.turn.specs.declared.Checked.the-variants.{Fine}
 use Rattle.turn.specs.Refusals.{isFine, fine-is}
-use Rattle.table.specs.Table.{Table, contourCount, kindOf, hullCount, shapeOf, droppedOwner}
+use Rattle.table.specs.Table.{Table, contourCount, firstOf, lenOf, kindOf, hullCount, shapeOf, droppedOwner}
 use Rattle.table.specs.TableChecks.{tableChecked}
+use Rattle.lookup.specs.declared.records.Role.the-variants.{Hull, Hole, Dropped}
 use Rattle.lookup.specs.declared.records.ContourRecord.{ContourRecord}
 use Rattle.lookup.specs.declared.records.Lookup.{Lookup}
 use Rattle.lookup.specs.declared.records.Lookup.the-variants.{Found, Missing}
-use Rattle.lookup.specs.Lookups.{ownerRight, roleOf, recordOf, lookedUp, roleKind, roleOwner}
+use Rattle.lookup.specs.Lookups.{ownerRight, roleOf, recordOf, recordIfRight, lookedUp, roleKind, roleNumber, roleOwner}
+use Rattle.lookup.specs.Lookups.{noValues, valuesOfLookup, roleNumberIn, valuesIfRight, lookedUpValues}
 
 abbrev right : Table → List ℕ → ℕ → Bool
 right t owner c = ownerRight (kindOf t c) (getD owner c 0) (shapeOf t c) (hullCount t)
@@ -74,3 +76,39 @@ module _ (owner shape hulls : ℕ) where
           × (roleOwner (roleOf 1 owner hulls) ≡ owner)
       go (yes q) e = let w = eq-eqb hulls 0 q in rw w (refl, sym (eqb-true owner droppedOwner (rw w at e)))
       go (no q) e = let w = ne-eqb hulls 0 q in rw w (refl, refl)
+
+-- ---- what is answered has the values that are read off the table and the owners
+role-number : (kind owner hulls : ℕ) → roleNumber (roleOf kind owner hulls) ≡ roleNumberIn kind hulls
+role-number kind owner hulls = go (eqb kind 0) (eqb hulls 0)
+  where
+    go : (b n : Bool) → roleNumber (pick b (Hull owner) (pick n Dropped (Hole owner))) ≡ pick b 0 (pick n 2 1)
+    go true n = refl
+    go false true = refl
+    go false false = refl
+
+role-owner : (kind owner shape hulls : ℕ) → ownerRight kind owner shape hulls ≡ true → roleOwner (roleOf kind owner hulls) ≡ owner
+role-owner kind owner shape hulls = go (eqb kind 0) (eqb hulls 0)
+  where
+    go : (b n : Bool) → pick b (eqb owner shape) (pick n (eqb owner droppedOwner) (ltb owner hulls)) ≡ true
+        → roleOwner (pick b (Hull owner) (pick n Dropped (Hole owner))) ≡ owner
+    go true n e = refl
+    go false true e = sym (eqb-true owner droppedOwner e)
+    go false false e = refl
+
+module _ (t : Table) (owner : List ℕ) (c : ℕ) where
+  values-right : valuesOfLookup (recordIfRight t owner c) ≡ valuesIfRight t owner c
+  values-right = go (right t owner c) refl
+    where
+      go : (b : Bool) → right t owner c ≡ b → valuesOfLookup (pick b (Found (recordOf t owner c)) Missing) ≡ pick b
+          (record { found = 1; role = roleNumberIn (kindOf t c) (hullCount t); owner = getD owner c 0; first = firstOf t c; len = lenOf t c }) noValues
+      go true e =
+          rw (role-number (kindOf t c) (getD owner c 0) (hullCount t), role-owner (kindOf t c) (getD owner c 0) (shapeOf t c) (hullCount t) e)
+      go false e = refl
+
+  pub looked-up-values : valuesOfLookup (lookedUp t owner c) ≡ lookedUpValues t owner c
+  unfolding lookedUp lookedUpValues
+  looked-up-values = go (ltb c (contourCount t) && isFine (tableChecked t (length owner)))
+    where
+      go : (b : Bool) → valuesOfLookup (pick b (recordIfRight t owner c) Missing) ≡ pick b (valuesIfRight t owner c) noValues
+      go true = values-right
+      go false = refl

@@ -8,7 +8,8 @@ ghost use mathlib.Core.List.{[]};
 ghost use Prim.Native.Nat.{ℕ, _<_};
 ghost use lib.ListN.{length};
 ghost use Rattle.table.specs.Table.{Table, table};
-ghost use Rattle.lookup.specs.Lookups.{ownerRight, roleOf, recordIfRight, lookedUp};
+ghost use Rattle.lookup.specs.Lookups.{ownerRight, roleOf, recordIfRight};
+ghost use Rattle.lookup.specs.Promises.{lookup-says};
 
 pub mod records;
 
@@ -65,7 +66,7 @@ pub fn lookup(
     contour: usize,
 ) -> Lookup
     ensures { λ r. ⌜ (let t : Table = table (now (points .entry)) (now (first .entry)) (now (len .entry)) (now (kind .entry)) in
-        r ≡ lookedUp t (now (owner .entry)) contour) ⌝ }
+        lookup-says t (now (owner .entry)) contour r) ⌝ }
 {
     if first.len() <= contour {
         return Lookup::Missing;

@@ -2,3 +2,4 @@
 pub mod Search
 pub mod SearchLists
 pub mod Least
+pub mod Promises

@@ -8,6 +8,7 @@ use lib.Dec.{eqb}
 use lib.IntN.{ℤ, pos}
 use lib.Signed.{_≤ℤ_, _<ℤ_}
 use Rattle.laws.specs.Test.{pick}
+use Rattle.table.specs.Fronts.{KeptFrom}
 use Rattle.anchor.specs.Anchors.{Anchors, listedAnchor, AnchorsOnGrid}
 use Rattle.candidates.specs.EdgeLists.{EdgeLists, listedEdge}
 use Rattle.nearest.specs.Search.{offered, nearest}
@@ -51,3 +52,8 @@ Offered g h m k old new = (j : ℕ) → j < m → getD new j 0 ≡ offered (list
 -- the nearest of n edges under each of m anchors
 abbrev pub Nearests : EdgeLists → List ℕ → ℕ → Anchors → ℕ → List ℕ → Type 0
 Nearests g mute n h m best = (j : ℕ) → j < m → getD best j 0 ≡ nearest (listedEdge g) (giving mute) (listedAnchor h j) n
+
+-- the contours of m edges have been written, and past them all is as it was
+pub record NamedInto (of best : List ℕ) (m : ℕ) (old new : List ℕ) : Type 0 where
+  pub names : (j : ℕ) → j < m → getD new j 0 ≡ named of (getD best j 0)
+  pub kept : KeptFrom 0 m old new

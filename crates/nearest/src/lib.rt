@@ -7,11 +7,12 @@ ghost use lib.ListN.{length, getD};
 ghost use Rattle.turn.specs.Limits.{maxLinks};
 ghost use Rattle.table.specs.Table.{Table, table};
 ghost use Rattle.table.specs.Sound.{Sound};
-ghost use Rattle.anchor.specs.Anchors.{Anchors, anchors, listedAnchor};
+ghost use Rattle.anchor.specs.Anchors.{Anchors, anchors};
 ghost use Rattle.edges.specs.Edges.{On};
 ghost use Rattle.candidates.specs.EdgeLists.{EdgeLists, edgeLists, listedEdge, Fit};
-ghost use Rattle.nearest.specs.Search.{kept as kept-of, searchUnder};
-ghost use Rattle.nearest.specs.SearchLists.{giving, Flags, SortedAnchors, Sorted, Parted, Numbers, Offered, Nearests, named};
+ghost use Rattle.nearest.specs.Search.{kept as kept-of};
+ghost use Rattle.nearest.specs.SearchLists.{Flags, SortedAnchors, Sorted, Parted, Numbers, Offered, Nearests, named, NamedInto};
+ghost use Rattle.nearest.specs.Promises.{contours-under-says};
 
 // The first of m numbers in order that is not below x.
 fn first_from(l: &[i32], m: usize, x: i32) -> usize
@@ -169,7 +170,7 @@ fn contour_of(of: &[u32], b: u32) -> u32
 fn name_contours(of: &[u32], n: usize, best: &[u32], m: usize, under: &mut [u32])
     requires { ⌜ (n ≤ length (now of)) × ((k : ℕ) → k < n → getD (now of) k 0 < maxLinks) ⌝ }
     requires { ⌜ (m ≤ length (now best)) × (m ≤ length (now under)) × (Numbers (now best) m n) ⌝ }
-    ensures { λ _. ⌜ ((j : ℕ) → j < m → getD (now (under .exit)) j 0 ≡ named (now (of .entry)) (getD (now (best .entry)) j 0)) ⌝ }
+    ensures { λ _. ⌜ (NamedInto (now (of .entry)) (now (best .entry)) m (now (under .entry)) (now (under .exit))) ⌝ }
 {
     let mut j = 0;
     while j < m {
@@ -179,7 +180,7 @@ fn name_contours(of: &[u32], n: usize, best: &[u32], m: usize, under: &mut [u32]
 }
 
 // The search: for each of m anchors the contour, and 1, of the nearest edge under it; 0 where there is none.
-// Candidate edges have fill above, or below, as is asked; edges come from the contours that are not mute.
+// Candidate edges have fill above, or below, as is asked; edges come from the contours that are not mute. Past place m `under` stays as it is.
 pub fn contours_under(
     points: &[i32],
     first: &[u32],
@@ -200,7 +201,7 @@ pub fn contours_under(
     requires { ⌜ SortedAnchors (anchors (now x) (now y) (now «to_x») (now «to_y»)) m ⌝ }
     ensures { λ _. ⌜ (let t : Table = table (now (points .entry)) (now (first .entry)) (now (len .entry)) (now (kind .entry)) in
         let h : Anchors = anchors (now (x .entry)) (now (y .entry)) (now («to_x» .entry)) (now («to_y» .entry)) in
-        ((j : ℕ) → j < m → getD (now (under .exit)) j 0 ≡ searchUnder t above clockwise (giving (now (mute .entry))) (listedAnchor h j))) ⌝ }
+        contours-under-says t above clockwise (now (mute .entry)) h m (now (under .entry)) (now (under .exit))) ⌝ }
 {
     let n = points.len() / 2;
     let right = (above & !clockwise) | (!above & clockwise);

@@ -9,17 +9,18 @@ use native.Mathlib.Nat.{not-suc-le-zero}
 use native.Mathlib.Decide.{ℕ-discrete}
 use lib.Dec.{ltb}
 use lib.IntN.{ℤ, pos, natAbs}
-use lib.ListN.{length, getD, set, length-set}
+use lib.ListN.{length, getD, set}
 use lib.Seq.{getD-set-same, getD-set-other}
 use Rattle.laws.specs.Bounds.{Z, same64}
 use Rattle.laws.specs.Compare.{lower}
 use Rattle.turn.specs.Points.{before, cross, productBound}
+use Rattle.table.specs.Fronts.{KeptFrom, kept-all, kept-before, kept-less, kept-then}
 use Rattle.anchor.specs.declared.Anchor.{Anchor}
 use Rattle.anchor.specs.Anchor.{anchorWay}
 use Rattle.anchor.specs.Anchors.{Anchors, listedAnchor}
 use Rattle.order.specs.HoleOrder.{goesBefore, slot, sorted}
-use Rattle.order.specs.Insertion.{Inserted, slot-same, image, slotIn, sorted-more, entries}
-use Rattle.order.specs.HoleLists.{byAnchor, slotOf, Ordered}
+use Rattle.order.specs.Insertion.{Inserted, InsertedInto, slot-same, image, slotIn, sorted-more, entries}
+use Rattle.order.specs.HoleLists.{byAnchor, slotOf, Ordered, OrderedInto}
 
 -- ---- the ways out of `goes_before`
 module _ (a b : Anchor) (c d : ℕ) where
@@ -48,13 +49,13 @@ slot-stop test (suc p) h e = let q : suc p - 1 ≡ p = omega arith in let e′ :
 -- ---- the loop of `insert`: a gap at p; what was from p on has moved by one
 pub record Shifted (test : ℕ → Bool) (old new : List ℕ) (m p : ℕ) : Type 0 where
   pub within : p ≤ m
-  pub len : length new ≡ length old
+  pub kept : KeptFrom 0 (m + 1) old new
   pub below : (i : ℕ) → i < p → getD new i 0 ≡ getD old i 0
   pub above : (i : ℕ) → p ≤ i → i < m → getD new (i + 1) 0 ≡ getD old i 0
   pub same : slot test m ≡ slot test p
 
 pub shift-start : (test : ℕ → Bool) (old : List ℕ) (m : ℕ) → Shifted test old old m m
-shift-start test old m = record { within = omega arith; len = refl; below = λ i l. refl; above = λ i l k. absurd (no-i i l k); same = refl }
+shift-start test old m = record { within = omega arith; kept = kept-all 0 (m + 1) old; below = λ i l. refl; above = λ i l k. absurd (no-i i l k); same = refl }
   where
     no-i : (i : ℕ) → m ≤ i → i < m → ⊥
     no-i i l k = omega arith
@@ -63,7 +64,7 @@ module _ (test : ℕ → Bool) (old new : List ℕ) (m p : ℕ) (s : Shifted tes
   pub shift-more : 0 < p → test (p - 1) ≡ true → (d : ℕ) → d ≡ getD new (p - 1) 0 → Shifted test old (set new p d) m (p - 1)
   shift-more h t d q = record {
     within = omega (arith, s .within);
-    len = length-set new p d ∙ s .len;
+    kept = kept-before 0 (m + 1) old new (s .kept) p d (omega (arith, s .within));
     below = λ i l. getD-set-other new p i d 0 (λ e. omega arith) ∙ s .below i (omega arith);
     above = λ i l k. at i l k (ℕ-discrete (i + 1) p);
     same = s .same ∙ slot-down test p h t;
@@ -72,21 +73,24 @@ module _ (test : ℕ → Bool) (old new : List ℕ) (m p : ℕ) (s : Shifted tes
       at : (i : ℕ) → p - 1 ≤ i → i < m → Dec (i + 1 ≡ p) → getD (set new p d) (i + 1) 0 ≡ getD old i 0
       at i l k (yes e) =
           let z : p - 1 ≡ i = omega arith in
-          rw e (getD-set-same new p d 0 (omega (arith, s .within, s .len))) ∙ q ∙ s .below (p - 1) (omega arith) ∙ ap (λ (j : ℕ). getD old j 0) z
+          rw e (getD-set-same new p d 0 (omega (arith, s .within, s .kept .len))) ∙ q ∙ s .below (p - 1) (omega arith) ∙ ap (λ (j : ℕ). getD old j 0) z
       at i l k (no e) = getD-set-other new p (i + 1) d 0 e ∙ s .above i (omega arith) k
 
-  put : (c : ℕ) → slot test m ≡ p → Inserted old (set new p c) m (slot test m) c
+  put : (c : ℕ) → slot test m ≡ p → InsertedInto old (set new p c) m (slot test m) c
   put c e = rw e (record {
-    within = s .within;
-    below = λ i l. getD-set-other new p i c 0 (λ q. omega arith) ∙ s .below i l;
-    here = getD-set-same new p c 0 (omega (arith, s .within, s .len));
-    above = λ i l k. getD-set-other new p (i + 1) c 0 (λ q. omega arith) ∙ s .above i l k;
+    inserted = record {
+      within = s .within;
+      below = λ i l. getD-set-other new p i c 0 (λ q. omega arith) ∙ s .below i l;
+      here = getD-set-same new p c 0 (omega (arith, s .within, s .kept .len));
+      above = λ i l k. getD-set-other new p (i + 1) c 0 (λ q. omega arith) ∙ s .above i l k;
+    };
+    kept = kept-before 0 (m + 1) old new (s .kept) p c (omega (arith, s .within));
   })
 
-  pub shift-stop : (c : ℕ) → 0 < p → test (p - 1) ≡ false → Inserted old (set new p c) m (slot test m) c
+  pub shift-stop : (c : ℕ) → 0 < p → test (p - 1) ≡ false → InsertedInto old (set new p c) m (slot test m) c
   shift-stop c h t = put c (s .same ∙ slot-stop test p h t)
 
-  pub shift-end : (c : ℕ) → p ≤ 0 → Inserted old (set new p c) m (slot test m) c
+  pub shift-end : (c : ℕ) → p ≤ 0 → InsertedInto old (set new p c) m (slot test m) c
   unfolding slot
   shift-end c h = let e : p ≡ 0 = omega arith in put c (s .same ∙ rw e)
 
@@ -102,21 +106,22 @@ went h who old new j p s l a b ea eb r e {v} q =
 -- ---- the loop of `order_holes`: the first j holes are in order
 pub record Ordering (h : Anchors) (who old new : List ℕ) (m j : ℕ) : Type 0 where
   pub on : j ≤ m
-  pub len : length new ≡ length old
+  pub kept : KeptFrom 0 j old new
   pub done : Ordered h who j new
 
 pub ordering-start : (h : Anchors) (who old : List ℕ) (m : ℕ) → Ordering h who old old m 0
-ordering-start h who old m = record { on = omega arith; len = refl; done = λ i l. absurd (not-suc-le-zero l) }
+ordering-start h who old m = record { on = omega arith; kept = kept-all 0 0 old; done = λ i l. absurd (not-suc-le-zero l) }
 
 module _ (h : Anchors) (who old mid : List ℕ) (m j : ℕ) (o : Ordering h who old mid m j) where
   pub ordering-below : (i : ℕ) → i < j → getD mid i 0 < j
   ordering-below i l = rw (o .done i l) (entries (λ k. k < j) (byAnchor h who) (λ k. k) j (λ k n. n) i l)
 
-  pub ordering-more : (new : List ℕ) → j < m → length new ≡ length mid → Inserted mid new j (slotOf h who mid j) j → Ordering h who old new m (j + 1)
-  ordering-more new l e s = record {
+  pub ordering-more : (new : List ℕ) → j < m → InsertedInto mid new j (slotOf h who mid j) j → Ordering h who old new m (j + 1)
+  ordering-more new l s = record {
     on = omega arith;
-    len = e ∙ o .len;
-    done = rw (add-one j) (image (λ k. k) mid new (sorted (byAnchor h who) (λ k. k) j) (sorted (byAnchor h who) (λ k. k) (suc j)) j (slotOf h who mid j) j j s
+    kept = kept-then 0 (j + 1) old mid new (kept-less 0 j old mid (o .kept) (j + 1) (omega arith)) (s .kept);
+    done = rw (add-one j) (image (λ k. k) mid new (sorted (byAnchor h who) (λ k. k) j) (sorted (byAnchor h who) (λ k. k) (suc j)) j (slotOf h who mid j) j j
+        (s .inserted)
         (subst (λ (p : ℕ). Inserted (sorted (byAnchor h who) (λ k. k) j) (sorted (byAnchor h who) (λ k. k) (suc j)) j p j) (sym places)
         (sorted-more (byAnchor h who) (λ k. k) j))
         refl (o .done));
@@ -126,5 +131,5 @@ module _ (h : Anchors) (who old mid : List ℕ) (m j : ℕ) (o : Ordering h who 
       places = slot-same (λ p. byAnchor h who j (getD mid p 0)) (λ p. byAnchor h who j (getD (sorted (byAnchor h who) (λ k. k) j) p 0)) j
           (λ p k. ap (byAnchor h who j) (o .done p k))
 
-  pub ordering-end : m ≤ j → Ordered h who m mid
-  ordering-end l = let e : j ≡ m = omega (arith, o .on) in rw e at (o .done)
+  pub ordering-end : m ≤ j → OrderedInto h who m old mid
+  ordering-end l = let e : j ≡ m = omega (arith, o .on) in record { done = rw e at (o .done); kept = rw e at (o .kept) }

@@ -5,7 +5,9 @@ use mathlib.Core.Bool.{Bool}
 use mathlib.Core.List.{List}
 use lib.ListN.{length, getD}
 use native.Mathlib.Omega.{arith}
+use lib.IntN.{pos}
 use Rattle.table.specs.Table.{Table}
+use Rattle.table.specs.Fronts.{KeptFrom}
 use Rattle.anchor.specs.Anchor.{anchorEdge}
 use Rattle.anchor.specs.Anchors.{Anchors, listedAnchor, AnchorRoom, AnchorsOnGrid, less-room, fewer-anchors}
 use Rattle.order.specs.HoleOrder.{goesBefore, slot, sorted, holesBelow}
@@ -36,6 +38,24 @@ slotOf h who ord j = slot (λ p. byAnchor h who j (getD ord p 0)) j
 -- m holes in binding's order, by their places among the holes
 abbrev pub Ordered : Anchors → List ℕ → ℕ → List ℕ → Type 0
 Ordered h who m ord = (i : ℕ) → i < m → getD ord i 0 ≡ getD (sorted (byAnchor h who) (λ j. j) m) i 0
+
+-- the same in a longer list, which past them is as it was
+pub record OrderedInto (h : Anchors) (who : List ℕ) (m : ℕ) (old new : List ℕ) : Type 0 where
+  pub done : Ordered h who m new
+  pub kept : KeptFrom 0 m old new
+
+-- ---- lists of anchors that from place m on are as they were
+pub record AnchorsKept (m : ℕ) (old new : Anchors) : Type 0 where
+  pub x : KeptFrom (pos 0) m (old .x) (new .x)
+  pub y : KeptFrom (pos 0) m (old .y) (new .y)
+  pub to-x : KeptFrom (pos 0) m (old .to-x) (new .to-x)
+  pub to-y : KeptFrom (pos 0) m (old .to-y) (new .to-y)
+
+-- the m holes among the first n contours, in longer lists, which past them are as they were
+pub record GatheredInto (t : Table) (cw : Bool) (n m : ℕ) (who : List ℕ) (h : Anchors) (who′ : List ℕ) (h′ : Anchors) : Type 0 where
+  pub found : Gathered t cw n m who′ h′
+  pub who-kept : KeptFrom 0 m who who′
+  pub anchors-kept : AnchorsKept m h h′
 
 -- ---- fewer holes
 pub room-for : (who : List ℕ) (h : Anchors) (n : ℕ) {m : ℕ} → Room who h m → n ≤ m → Room who h n

@@ -12,6 +12,7 @@ use lib.ListN.{length, getD, take, drop, length-append, length-drop, take-append
 use lib.Seq.{length-take-le, getD-take, getD-drop, getD-at, getD-append-add, take-suc, take-length}
 use Rattle.laws.specs.Test.{pick, pick-ind}
 use Rattle.laws.specs.Count.{count, count-append, count-snoc}
+use Rattle.table.specs.Fronts.{KeptFrom}
 use Rattle.order.specs.HoleOrder.{slot, insertAt, inserted, sorted}
 
 -- c stands at place p among m; what was from p on has moved by one
@@ -20,6 +21,11 @@ pub record Inserted (old new : List ℕ) (m p c : ℕ) : Type 0 where
   pub below : (i : ℕ) → i < p → getD new i 0 ≡ getD old i 0
   pub here : getD new p 0 ≡ c
   pub above : (i : ℕ) → p ≤ i → i < m → getD new (i + 1) 0 ≡ getD old i 0
+
+-- the same in a longer list, which past place m is as it was
+pub record InsertedInto (old new : List ℕ) (m p c : ℕ) : Type 0 where
+  pub inserted : Inserted old new m p c
+  pub kept : KeptFrom 0 (m + 1) old new
 
 -- ---- the place
 pub slot-le : (test : ℕ → Bool) (n : ℕ) → slot test n ≤ n

@@ -4,3 +4,4 @@ pub mod HoleLists
 pub mod Insertion
 pub mod HoleLaws
 pub mod OrderLaws
+pub mod Promises

@@ -9,10 +9,11 @@ ghost use Rattle.table.specs.Table.{Table, table};
 ghost use Rattle.table.specs.Sound.{Sound};
 ghost use Rattle.anchor.specs.Anchors.{Anchors, anchors};
 ghost use Rattle.order.specs.HoleOrder.{goesBefore};
-ghost use Rattle.order.specs.HoleLists.{Room, Gathered, Bounded, slotOf, Ordered};
-ghost use Rattle.order.specs.Insertion.{Inserted};
+ghost use Rattle.order.specs.HoleLists.{Room, Bounded, slotOf};
+ghost use Rattle.order.specs.Insertion.{InsertedInto};
+ghost use Rattle.order.specs.Promises.{gather-holes-says, order-holes-says};
 
-// The holes in contour order: hole j's contour and its anchor. Answers how many there are.
+// The holes in contour order: hole j's contour and its anchor. Answers how many there are; past these the lists stay as they are.
 pub fn gather_holes(
     points: &[i32],
     first: &[u32],
@@ -28,8 +29,8 @@ pub fn gather_holes(
     requires { ⌜ Sound (table (now points) (now first) (now len) (now kind)) ⌝ }
     requires { ⌜ Room (now who) (anchors (now x) (now y) (now «to_x») (now «to_y»)) maxLinks ⌝ }
     ensures { λ m. ⌜ (let t : Table = table (now (points .entry)) (now (first .entry)) (now (len .entry)) (now (kind .entry)) in
-        let h : Anchors = anchors (now (x .exit)) (now (y .exit)) (now («to_x» .exit)) (now («to_y» .exit)) in
-        Gathered t clockwise (length (now (first .entry))) m (now (who .exit)) h) ⌝ }
+        let h : Anchors = anchors (now (x .entry)) (now (y .entry)) (now («to_x» .entry)) (now («to_y» .entry)) in
+        gather-holes-says t clockwise (now (who .entry)) h m (now (who .exit)) (now (x .exit)) (now (y .exit)) (now («to_x» .exit)) (now («to_y» .exit))) ⌝ }
 {
     let mut m = 0;
     let mut c = 0;
@@ -72,7 +73,7 @@ fn insert(who: &[u32], x: &[i32], y: &[i32], to_x: &[i32], to_y: &[i32], ord: &m
     requires { ⌜ (Bounded (now who) (anchors (now x) (now y) (now «to_x») (now «to_y»)) (suc j)) × (j < maxLinks) ⌝ }
     requires { ⌜ (j < length (now ord)) × ((i : ℕ) → i < j → getD (now ord) i 0 < j) ⌝ }
     ensures { λ _. ⌜ (let h : Anchors = anchors (now (x .entry)) (now (y .entry)) (now («to_x» .entry)) (now («to_y» .entry)) in
-        Inserted (now (ord .entry)) (now (ord .exit)) j (slotOf h (now (who .entry)) (now (ord .entry)) j) j) ⌝ }
+        InsertedInto (now (ord .entry)) (now (ord .exit)) j (slotOf h (now (who .entry)) (now (ord .entry)) j) j) ⌝ }
 {
     let a = anchor::listed_anchor(x, y, to_x, to_y, j);
     let c = who[j];
@@ -92,7 +93,7 @@ fn insert(who: &[u32], x: &[i32], y: &[i32], to_x: &[i32], to_y: &[i32], ord: &m
     ord[p] = j as u32;
 }
 
-// The m holes in binding's order, by their places among the holes.
+// The m holes in binding's order, by their places among the holes. Past place m `ord` stays as it is.
 pub fn order_holes(
     who: &[u32],
     x: &[i32],
@@ -105,7 +106,7 @@ pub fn order_holes(
     requires { ⌜ (let h : Anchors = anchors (now x) (now y) (now «to_x») (now «to_y») in
         (Bounded (now who) h m) × (m ≤ maxLinks) × (m ≤ length (now ord))) ⌝ }
     ensures { λ _. ⌜ (let h : Anchors = anchors (now (x .entry)) (now (y .entry)) (now («to_x» .entry)) (now («to_y» .entry)) in
-        Ordered h (now (who .entry)) m (now (ord .exit))) ⌝ }
+        order-holes-says h (now (who .entry)) m (now (ord .entry)) (now (ord .exit))) ⌝ }
 {
     let mut j = 0;
     while j < m {

@@ -2,3 +2,4 @@
 pub mod Owners
 pub mod Giving
 pub mod OwnerLaws
+pub mod Promises

@@ -32,13 +32,24 @@ unfoldable pub tabulate : (ℕ → ℕ) → ℕ → List ℕ
 tabulate f zero = []
 tabulate f (suc n) = f zero ∷ tabulate (λ k. f (suc k)) n
 
+-- document 01's number and place for each answer: 0 where every hole has its owner, 12 at the hole that finds none
+abbrev pub givenNumber : Given → ℕ
+givenNumber All = 0
+givenNumber (Stuck c) = 12
+
+abbrev pub givenPlace : Given → ℕ
+givenPlace All = 0
+givenPlace (Stuck c) = c
+
 -- owners, with all holes' parents found or the contour of the first hole that finds none
 pub record Owned : Type 0 where
   pub answer : Given
+  pub number : ℕ
+  pub place : ℕ
   pub owners : List ℕ
 
 abbrev pub owned : Given → List ℕ → Owned
-owned g l = record { answer = g; owners = l }
+owned g l = record { answer = g; number = givenNumber g; place = givenPlace g; owners = l }
 
 -- what the nearest edge's contour gives: "A hull gives its own shape number (hulls counted from 0); a hole gives its parent's", where it has one
 abbrev pub given : (under : ℕ) → List ℕ → ℕ

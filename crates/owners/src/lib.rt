@@ -6,9 +6,9 @@ ghost use Rattle.turn.specs.Limits.{maxLinks};
 ghost use Rattle.table.specs.Table.{Table, table};
 ghost use Rattle.table.specs.Sound.{Sound};
 ghost use Rattle.anchor.specs.Anchored.{Anchored};
-ghost use Rattle.order.specs.HoleOrder.{bindingOrder};
-ghost use Rattle.owners.specs.Owners.{owned, firstOwner, tabulate, given, giveEach, contourBelow};
+ghost use Rattle.owners.specs.Owners.{owned, given};
 ghost use Rattle.owners.specs.Giving.{giveListed, Listed};
+ghost use Rattle.owners.specs.Promises.{number-hulls-says, search-owners-says};
 
 // Every hole has its owner, or the contour of the first that finds none.
 pub enum Given {
@@ -19,7 +19,7 @@ pub enum Given {
 // The first owners: a hull's is its own number, a hole has none yet.
 pub fn number_hulls(kind: &[u8], own: &mut [u16])
     requires { ⌜ (length (now own) ≡ length (now kind)) × (length (now kind) ≤ maxLinks) ⌝ }
-    ensures { λ _. ⌜ now (own .exit) ≡ tabulate (firstOwner (now (kind .entry))) (length (now (kind .entry))) ⌝ }
+    ensures { λ _. ⌜ number-hulls-says (now (kind .entry)) (now (own .exit)) ⌝ }
 {
     let mut shape: u16 = 0;
     let mut c = 0;
@@ -77,7 +77,7 @@ pub fn search_owners(
     requires { ⌜ (let t : Table = table (now points) (now first) (now len) (now kind) in
         (Sound t) × (Anchored t clockwise) × (length (now own) ≡ length (now first))) ⌝ }
     ensures { λ r. ⌜ (let t : Table = table (now (points .entry)) (now (first .entry)) (now (len .entry)) (now (kind .entry)) in
-        owned r (now (own .exit)) ≡ giveEach (contourBelow t clockwise) (bindingOrder t clockwise) (now (own .entry))) ⌝ }
+        search-owners-says t clockwise (now (own .entry)) r (now (own .exit))) ⌝ }
 {
     let mut who = [0u32; turn::MAX_LINKS];
     let mut x = [0i32; turn::MAX_LINKS];

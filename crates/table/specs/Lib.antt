@@ -6,3 +6,5 @@ pub mod Examples
 pub mod TableLaws
 pub mod Tests
 pub mod Passing
+pub mod Fronts
+pub mod Promises

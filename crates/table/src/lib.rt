@@ -5,11 +5,12 @@ use turn::off_grid;
 ghost use mathlib.Core.Path.{_≡_};
 ghost use Prim.Native.Nat.{ℕ, _+_, _*_, _^_, _<_, _≤_};
 ghost use lib.Dec.{eqb};
-ghost use lib.ListN.{length, take};
+ghost use lib.ListN.{length};
 ghost use Rattle.laws.specs.Test.{pick};
 ghost use Rattle.laws.specs.Lowest.{lowest};
-ghost use Rattle.table.specs.Table.{Table, table, pointIn, hulls};
-ghost use Rattle.table.specs.TableChecks.{misfit, startIn, rangeFault, somePointFault, contourFault, badContour, tableChecked};
+ghost use Rattle.table.specs.Table.{Table, table};
+ghost use Rattle.table.specs.TableChecks.{misfit, startIn, rangeFault, somePointFault, contourFault, badContour};
+ghost use Rattle.table.specs.Promises.{point-in-says, check-table-says, hulls-before-says};
 
 // The owner of a hole where there is no hull.
 pub const DROPPED: u16 = 65535;
@@ -17,7 +18,7 @@ pub const DROPPED: u16 = 65535;
 // The point at position p of a list of x and y in turn.
 pub fn point_in(points: &[i32], p: usize) -> Point
     requires { ⌜ p * 2 + 1 < length (now points) ⌝ }
-    ensures { λ r. ⌜ r ≡ pointIn (now (points .entry)) p ⌝ }
+    ensures { λ r. ⌜ point-in-says (now (points .entry)) p r ⌝ }
 {
     let i = p * 2;
     Point {
@@ -118,7 +119,7 @@ pub fn check_table(
     owners: usize,
 ) -> Checked
     ensures { λ r. ⌜ (let t : Table = table (now (points .entry)) (now (first .entry)) (now (len .entry)) (now (kind .entry)) in
-        r ≡ tableChecked t owners) ⌝ }
+        check-table-says t owners r) ⌝ }
 {
     if misfit(points.len(), first.len(), len.len(), kind.len(), owners) {
         return Checked::Refused {
@@ -145,7 +146,7 @@ pub fn check_table(
 // How many of the first n contours are hulls.
 pub fn hulls_before(kind: &[u8], n: usize) -> usize
     requires { ⌜ n ≤ length (now kind) ⌝ }
-    ensures { λ r. ⌜ (r ≡ hulls (take n (now (kind .entry)))) × (r ≤ n) ⌝ }
+    ensures { λ r. ⌜ hulls-before-says (now (kind .entry)) n r ⌝ }
 {
     let mut count = 0;
     let mut c = 0;

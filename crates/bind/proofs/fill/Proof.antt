@@ -1,7 +1,7 @@
 -- `fill`: a copy of one number n times.
 use native.Mathlib.Omega.{arith}
 use Prim.Native.Nat.{_-_}
-use lib.ListN.{replicate, length-replicate}
+use lib.ListN.{length, replicate, length-replicate}
 use Rattle.bind.proofs.Copies.{Copying, copy-start, fill-more, copy-end}
 use Rattle.bind.proofs.fill.Statement.{statement}
 use Rattle.bind.proofs.fill.Tie as tie
@@ -10,7 +10,7 @@ abbrev Inv-loop : tie.InvT-loop
 Inv-loop owner₀ n number i₀ owner i = Copying owner₀ owner (replicate n number) i
 
 abbrev μ-loop : tie.MeasureT-loop
-μ-loop owner₀ n number i₀ owner i = n - i
+μ-loop owner₀ n number i₀ owner i = length owner₀ - i
 
 loop-holds : tie.Need-loop-holds Inv-loop μ-loop
 loop-holds c = copy-start _ _
@@ -25,7 +25,7 @@ add-i : tie.Need-add-i Inv-loop μ-loop
 add-i c = let s = c .before .before in omega (arith, s .good, s .pre)
 
 loop-less : tie.Need-loop-less Inv-loop μ-loop
-loop-less c = omega arith
+loop-less c = let s = c .before .before in omega (arith, s .pre, c .before .loop .inv .len)
 
 loop-again : tie.Need-loop-again Inv-loop μ-loop
 loop-again c = let s = c .before .before in let l = c .before .loop in fill-more _ (l .owner) _ _ (l .i) (l .inv) (omega (arith, s .pre)) (c .loop-test .taken)

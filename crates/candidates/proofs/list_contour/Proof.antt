@@ -18,7 +18,7 @@ mul-of : tie.Need-mul-of Inv-loop μ-loop
 mul-of c = let s = c .before .before .before .before in omega (arith, s .pre)
 
 slice-write-of : tie.Need-slice-write-of Inv-loop μ-loop
-slice-write-of c = let s = c .before .before .before .before in omega (arith, s .pre, c .before .loop .inv .len-of)
+slice-write-of c = let s = c .before .before .before .before in omega (arith, s .pre, c .before .loop .inv .of-kept .len)
 
 follows-requires : tie.Need-follows-requires Inv-loop μ-loop
 follows-requires c κs = let s = c .before .before .before .before in (c .before .loop .inv .low, c .loop-test .taken, s .pre .1)
@@ -27,7 +27,7 @@ mul-next : tie.Need-mul-next Inv-loop μ-loop
 mul-next c = let s = c .before .before .before .before .before in omega (arith, s .pre)
 
 slice-write-next : tie.Need-slice-write-next Inv-loop μ-loop
-slice-write-next c = let s = c .before .before .before .before .before in omega (arith, s .pre, c .before .before .loop .inv .len-next)
+slice-write-next c = let s = c .before .before .before .before .before in omega (arith, s .pre, c .before .before .loop .inv .next-kept .len)
 
 add-k : tie.Need-add-k Inv-loop μ-loop
 add-k c = let s = c .before .before .before .before .before in omega (arith, s .pre)
@@ -41,10 +41,10 @@ loop-again c =
     listing-more _ _ _ _ _ (l .next) (l .of) (l .k) (l .inv) _ (c .before .loop-test .taken) (s .pre .2) (s .pre .3) (c .follows .ensures)
 
 same-length : tie.Need-same-length Inv-loop μ-loop
-same-length c = c .before .loop .inv .len-next
+same-length c = c .before .loop .inv .next-kept .len
 
 same-length-2 : tie.Need-same-length-2 Inv-loop μ-loop
-same-length-2 c = c .before .loop .inv .len-of
+same-length-2 c = c .before .loop .inv .of-kept .len
 
 returns : tie.Need-returns Inv-loop μ-loop
 returns c = let l = c .before .loop in listing-end _ _ _ _ _ (l .next) (l .of) (l .k) (l .inv) (c .loop-test .left)

@@ -1,21 +1,21 @@
--- `list_edges`: contour by contour, as `Round` says.
+-- `list_edges`: contour by contour, as `RoundInto` says.
 use native.Mathlib.Omega.{arith}
-use mathlib.Core.Path.{_≡_, refl, _∙_}
+use mathlib.Core.Path.{_≡_}
 use Prim.Native.Nat.{_-_, _≤_}
 use lib.ListN.{length}
-use Rattle.candidates.specs.EdgeLists.{Round, ranges}
-use Rattle.candidates.proofs.Listing.{round-start, round-more}
+use Rattle.candidates.specs.EdgeLists.{RoundInto}
+use Rattle.candidates.proofs.Listing.{rounds-start, rounds-more}
 use Rattle.candidates.proofs.list_edges.Statement.{statement}
 use Rattle.candidates.proofs.list_edges.Tie as tie
 
 abbrev Inv-loop : tie.InvT-loop
-Inv-loop first len next₀ of₀ c₀ next of c = (c ≤ length first) × (length next ≡ length next₀) × (length of ≡ length of₀) × (Round (ranges first len) c next of)
+Inv-loop first len next₀ of₀ c₀ next of c = (c ≤ length first) × (RoundInto first len c next₀ of₀ next of)
 
 abbrev μ-loop : tie.MeasureT-loop
 μ-loop first len next₀ of₀ c₀ next of c = length first - c
 
 loop-holds : tie.Need-loop-holds Inv-loop μ-loop
-loop-holds c = let s = c .before .before .before .before in (omega arith, refl, refl, round-start _ _ (s .pre .0) _ _)
+loop-holds c = let s = c .before .before .before .before in (omega arith, rounds-start _ _ (s .pre .0) _ _)
 
 mul-from : tie.Need-mul-from Inv-loop μ-loop
 mul-from c = let s = c .before .before .before .before .before .before in omega (arith, s .good)
@@ -48,7 +48,7 @@ list-contour-requires c κs =
     let s = c .before .before .before .before .before .before .before .before .before .before in
     let l = c .before .before .before .before .before .loop in
     let w = s .pre .0 .within (l .c) (c .before .before .before .before .loop-test .taken) in
-    (omega arith, w, omega (arith, s .pre .1, l .inv .1), omega (arith, s .pre .2, l .inv .2))
+    (omega arith, w, omega (arith, s .pre .1, l .inv .1 .next-kept .len), omega (arith, s .pre .2, l .inv .1 .of-kept .len))
 
 add-c : tie.Need-add-c Inv-loop μ-loop
 add-c c =
@@ -64,22 +64,20 @@ loop-again c =
     let l = c .before .before .before .before .before .before .before .before .before .before .loop in
     let k = c .before .before .before .before .list-contour in (
       omega arith,
-      k .kept .0 ∙ l .inv .1,
-      k .kept .1 .0 ∙ l .inv .2,
-      round-more _ _ (s .pre .0) (l .c) (l .next) (l .of) _ _
-          (c .before .before .before .before .before .before .before .before .before .loop-test .taken) (l .inv .3) (k .ensures),
+      rounds-more _ _ (s .pre .0) (l .c) _ _ (l .next) (l .of) _ _
+          (c .before .before .before .before .before .before .before .before .before .loop-test .taken) (l .inv .1) (k .ensures),
     )
 
 same-length : tie.Need-same-length Inv-loop μ-loop
-same-length c = c .before .loop .inv .1
+same-length c = c .before .loop .inv .1 .next-kept .len
 
 same-length-2 : tie.Need-same-length-2 Inv-loop μ-loop
-same-length-2 c = c .before .loop .inv .2
+same-length-2 c = c .before .loop .inv .1 .of-kept .len
 
 returns : tie.Need-returns Inv-loop μ-loop
 returns c =
     let l = c .before .loop in let e : l .c ≡ length (c .before .before .before .before .before .before .args .first .now) = omega arith in
-    rw e at (l .inv .3)
+    rw e at (l .inv .1)
 
 pub list-edges-spec : {M : Type 1} → statement M
 list-edges-spec = tie.close (tie.spec Inv-loop μ-loop loop-holds mul-from shared-slice-read-from cast-from mul-to

@@ -7,6 +7,7 @@ use denote.Ref.{now}
 use borrow.Author.Needs.{needs}
 use Rattle.table.specs.Passing.{passes-sound}
 use Rattle.table.specs.Table.{Table, table}
+use Rattle.lookup.specs.Promises.{lookup-keeps}
 use Rattle.lookup.proofs.Answers.{lookup-past, lookup-refused, lookup-found}
 use Rattle.lookup.proofs.lookup.Statement.{statement}
 use Rattle.lookup.proofs.lookup.Tie as tie
@@ -16,8 +17,8 @@ t-of c = table (now (c .args .points)) (now (c .args .first)) (now (c .args .len
 
 returns : tie.Need-returns
 returns c =
-    lookup-past (t-of (c .before .before .before .before .before)) (now (c .before .before .before .before .before .args .owner))
-    (c .before .before .before .before .before .args .contour) (c .if1 .taken)
+    let s = c .before .before .before .before .before in
+    lookup-keeps (t-of s) (now (s .args .owner)) (s .args .contour) _ (lookup-past (t-of s) (now (s .args .owner)) (s .args .contour) (c .if1 .taken))
 
 check-table-requires : tie.Need-check-table-requires
 check-table-requires c κs = search needs
@@ -40,13 +41,15 @@ enum-told-2 c = search needs
 returns-2 : tie.Need-returns-2
 returns-2 c =
     let s = c .before .before .before .before .before .before .before .before .before in
-    lookup-found (t-of s) (now (s .args .owner)) (s .args .contour) _ (c .before .before .before .before .if1 .left)
-    (sym (sym (c .before .before .before .check-table .ensures) ∙ c .before .enum-told .given .1)) (c .record-at .ensures)
+    lookup-keeps (t-of s) (now (s .args .owner)) (s .args .contour) _
+    (lookup-found (t-of s) (now (s .args .owner)) (s .args .contour) _ (c .before .before .before .before .if1 .left)
+    (sym (sym (c .before .before .before .check-table .ensures) ∙ c .before .enum-told .given .1)) (c .record-at .ensures))
 
 returns-3 : tie.Need-returns-3
 returns-3 c =
     let s = c .before .before .before .before .before .before .before .before in
-    lookup-refused (t-of s) (now (s .args .owner)) (s .args .contour) _ _ (sym (sym (c .before .before .check-table .ensures) ∙ c .enum-told2 .given .1))
+    lookup-keeps (t-of s) (now (s .args .owner)) (s .args .contour) _
+    (lookup-refused (t-of s) (now (s .args .owner)) (s .args .contour) _ _ (sym (sym (c .before .before .check-table .ensures) ∙ c .enum-told2 .given .1)))
 
 pub lookup-spec : {M : Type 1} → statement M
 lookup-spec = tie.close (tie.spec returns check-table-requires enum-told record-at-requires enum-told-2 returns-2

@@ -45,10 +45,10 @@ nearest-edges-requires c κs =
     let s = c .before .before .before .before .before .before .before .before .before .before .before .before .before in
     let l = c .before .before .before .before .before .list-edges in let p = s .pre .1 in (
       (
-        fit (t s) (s .pre .0) (l .last .1 .1 .0) (l .last .1 .1 .1 .0) (l .ensures) (right s) (omega (arith, l .kept .1 .1 .0))
+        fit (t s) (s .pre .0) (l .last .1 .1 .0) (l .last .1 .1 .1 .0) (l .ensures .round) (right s) (omega (arith, l .kept .1 .1 .0))
             (omega (arith, l .kept .1 .1 .1 .0)),
         s .pre .0 .few,
-        flags (t s) (s .pre .0) (l .last .1 .1 .0) (l .last .1 .1 .1 .0) (l .ensures) (s .args .mute .now) (p .0 .0),
+        flags (t s) (s .pre .0) (l .last .1 .1 .0) (l .last .1 .1 .1 .0) (l .ensures .round) (s .args .mute .now) (p .0 .0),
       ),
       (p .1, (p .0 .1, λ j h. getD-replicate {A = ℕ} maxLinks j 0 0 (omega (arith, p .0 .1)))),
     )
@@ -66,12 +66,12 @@ name-contours-requires c κs =
     .before in let l =
     c .before .before .before .before .before .before .before .before .before .before .list-edges in let e =
     c .before .before .before .before .nearest-edges in let p = s .pre .1 in (
-      (omega (arith, l .kept .1 .1 .1 .0, s .pre .0 .few), of-few (t s) (s .pre .0) (l .last .1 .1 .0) (l .last .1 .1 .1 .0) (l .ensures)),
+      (omega (arith, l .kept .1 .1 .1 .0, s .pre .0 .few), of-few (t s) (s .pre .0) (l .last .1 .1 .0) (l .last .1 .1 .1 .0) (l .ensures .round)),
       (
         omega (arith, e .kept .1 .1 .1 .1 .1 .1 .1 .1 .1 .1 .1 .1 .0, p .0 .1),
         p .0 .2,
         best-numbers (t s) (s .pre .0) (l .last .1 .1 .0)
-            (l .last .1 .1 .1 .0) (l .ensures) (right s) (s .args .mute .now) (h s) (s .args .m) (e .last .1 .1 .1 .1 .1 .1 .1 .1 .1 .1 .1 .1 .0)
+            (l .last .1 .1 .1 .0) (l .ensures .round) (right s) (s .args .mute .now) (h s) (s .args .m) (e .last .1 .1 .1 .1 .1 .1 .1 .1 .1 .1 .1 .1 .0)
             (e .ensures),
       ),
     )
@@ -85,9 +85,11 @@ returns c =
     .before .before .before .before .before .before .before .before .before .before .before .before .before .before .before .before .before
     .before .before .before .before in let l =
     c .before .before .before .before .before .before .before .before .before .before .before .before .before .list-edges in let e =
-    c .before .before .before .before .before .before .before .nearest-edges in let u = c .before .before .name-contours in
-    searched (t s) (s .pre .0) (l .last .1 .1 .0) (l .last .1 .1 .1 .0) (l .ensures) (right s) (s .args .mute .now) (h s) (s .args .m)
-    (e .last .1 .1 .1 .1 .1 .1 .1 .1 .1 .1 .1 .1 .0) (e .ensures) (u .last .1 .1 .1 .1 .0) (u .ensures)
+    c .before .before .before .before .before .before .before .nearest-edges in let u = c .before .before .name-contours in (
+      searched (t s) (s .pre .0) (l .last .1 .1 .0) (l .last .1 .1 .1 .0) (l .ensures .round) (right s) (s .args .mute .now) (h s) (s .args .m)
+          (e .last .1 .1 .1 .1 .1 .1 .1 .1 .1 .1 .1 .1 .0) (e .ensures) (u .last .1 .1 .1 .1 .0) (u .ensures .names),
+      u .ensures .kept,
+    )
 
 pub contours-under-spec : {M : Type 1} → statement M
 contours-under-spec = tie.close (tie.spec slice-aggregate-list-edges slice-aggregate-list-edges-2 list-edges-requires

@@ -1,24 +1,30 @@
 -- `name_contours`: every place below j has been written.
 use native.Mathlib.Omega.{arith}
-use mathlib.Core.Path.{_≡_, refl}
-use Prim.Native.Nat.{ℕ, _-_, _≤_, _<_}
-use lib.ListN.{length, getD, length-set}
+use mathlib.Core.Path.{_≡_}
+use Prim.Native.Nat.{_-_, _≤_}
+use lib.ListN.{getD}
 use borrow.Author.Count.{below-none}
 use Rattle.laws.specs.Lists.{put-below}
-use Rattle.nearest.specs.SearchLists.{named}
+use Rattle.table.specs.Fronts.{kept-all, kept-set, kept-less}
+use Rattle.nearest.specs.SearchLists.{named, NamedInto}
 use Rattle.nearest.proofs.name_contours.Statement.{statement}
 use Rattle.nearest.proofs.name_contours.Tie as tie
 
 abbrev Inv-loop : tie.InvT-loop
-Inv-loop of n best m under₀ j₀ under j = (j ≤ m) × (length under ≡ length under₀) × ((i : ℕ) → i < j → getD under i 0 ≡ named of (getD best i 0))
+Inv-loop of n best m under₀ j₀ under j = (j ≤ m) × (NamedInto of best j under₀ under)
 
 abbrev μ-loop : tie.MeasureT-loop
 μ-loop of n best m under₀ j₀ under j = m - j
 
 loop-holds : tie.Need-loop-holds Inv-loop μ-loop
 loop-holds c =
-    let s = c .before .before .before in
-    (omega arith, refl, below-none (λ i. getD (s .args .under .now) i 0 ≡ named (s .args .of .now) (getD (s .args .best .now) i 0)))
+    let s = c .before .before .before in (
+      omega arith,
+      record {
+        names = below-none (λ i. getD (s .args .under .now) i 0 ≡ named (s .args .of .now) (getD (s .args .best .now) i 0));
+        kept = kept-all 0 0 (s .args .under .now);
+      },
+    )
 
 mul-contour-of : tie.Need-mul-contour-of Inv-loop μ-loop
 mul-contour-of c = let s = c .before .before .before .before .before in omega (arith, s .good, s .pre .1)
@@ -35,7 +41,8 @@ mul-under : tie.Need-mul-under Inv-loop μ-loop
 mul-under c = let s = c .before .before .before .before .before .before .before in omega (arith, s .good, s .pre .1)
 
 slice-write-under : tie.Need-slice-write-under Inv-loop μ-loop
-slice-write-under c = let s = c .before .before .before .before .before .before .before in omega (arith, s .pre .1, c .before .before .before .loop .inv .1)
+slice-write-under c =
+    let s = c .before .before .before .before .before .before .before in omega (arith, s .pre .1, c .before .before .before .loop .inv .1 .kept .len)
 
 add-j : tie.Need-add-j Inv-loop μ-loop
 add-j c = let s = c .before .before .before .before .before .before .before in omega (arith, s .good, s .pre .1)
@@ -47,16 +54,20 @@ loop-again : tie.Need-loop-again Inv-loop μ-loop
 loop-again c =
     let s = c .before .before .before .before .before .before .before in let l = c .before .before .before .loop in (
       omega arith,
-      simp length-set (l .inv .1),
-      put-below 0 (λ i. named (s .args .of .now) (getD (s .args .best .now) i 0)) (l .under) (l .j) _
-          (omega (arith, s .pre .1, l .inv .1)) (c .contour-of .ensures) (l .inv .2),
+      record {
+        names = put-below 0 (λ i. named (s .args .of .now) (getD (s .args .best .now) i 0)) (l .under) (l .j) _
+            (omega (arith, s .pre .1, l .inv .1 .kept .len)) (c .contour-of .ensures) (l .inv .1 .names);
+        kept = kept-set 0 (l .j) _ (l .under) (l .inv .1 .kept) _;
+      },
     )
 
 same-length : tie.Need-same-length Inv-loop μ-loop
-same-length c = c .before .loop .inv .1
+same-length c = c .before .loop .inv .1 .kept .len
 
 returns : tie.Need-returns Inv-loop μ-loop
-returns c = λ j h. c .before .loop .inv .2 j (omega arith)
+returns c =
+    let l = c .before .loop in
+    record { names = λ j h. l .inv .1 .names j (omega arith); kept = kept-less 0 (l .j) _ (l .under) (l .inv .1 .kept) _ (l .inv .0) }
 
 pub name-contours-spec : {M : Type 1} → statement M
 name-contours-spec = tie.close (tie.spec Inv-loop μ-loop loop-holds mul-contour-of shared-slice-read-contour-of

@@ -94,7 +94,7 @@ slice-write-who c =
       arith,
       few (c .before .before .before .before .before),
       c .before .before .before .before .before .before .loop .inv .few,
-      c .before .before .before .before .before .before .loop .inv .who-len,
+      c .before .before .before .before .before .before .loop .inv .into .who-kept .len,
       s .pre .1 .who-room,
     )
 
@@ -145,19 +145,19 @@ loop-again-2 c =
     (room (c .before .before .before .before .before .before .before .before .before .before .before .before .before .before))) _ (p .ensures)
 
 same-length : tie.Need-same-length Inv-loop μ-loop
-same-length c = c .before .loop .inv .who-len
+same-length c = c .before .loop .inv .into .who-kept .len
 
 same-length-2 : tie.Need-same-length-2 Inv-loop μ-loop
-same-length-2 c = c .before .loop .inv .x-len
+same-length-2 c = c .before .loop .inv .into .anchors-kept .x .len
 
 same-length-3 : tie.Need-same-length-3 Inv-loop μ-loop
-same-length-3 c = c .before .loop .inv .y-len
+same-length-3 c = c .before .loop .inv .into .anchors-kept .y .len
 
 same-length-4 : tie.Need-same-length-4 Inv-loop μ-loop
-same-length-4 c = c .before .loop .inv .to-x-len
+same-length-4 c = c .before .loop .inv .into .anchors-kept .to-x .len
 
 same-length-5 : tie.Need-same-length-5 Inv-loop μ-loop
-same-length-5 c = c .before .loop .inv .to-y-len
+same-length-5 c = c .before .loop .inv .into .anchors-kept .to-y .len
 
 returns : tie.Need-returns Inv-loop μ-loop
 returns c =

@@ -51,7 +51,7 @@ mul-d c = let s = c .before .before .before .before .before .before in omega (ar
 slice-read-d : tie.Need-slice-read-d Inv-loop μ-loop
 slice-read-d c =
     let s = c .before .before .before .before .before .before .before in
-    omega (arith, s .pre .1 .0, c .before .before .loop .inv .within, c .before .before .loop .inv .len)
+    omega (arith, s .pre .1 .0, c .before .before .loop .inv .within, c .before .before .loop .inv .kept .len)
 
 cast-i : tie.Need-cast-i Inv-loop μ-loop
 cast-i c = omega (arith, c .slice-known2 .given (c .before .before .loop .p - 1))
@@ -91,7 +91,7 @@ slice-write-ord c =
       arith,
       s .pre .1 .0,
       c .before .before .before .before .before .before .loop .inv .within,
-      c .before .before .before .before .before .before .loop .inv .len,
+      c .before .before .before .before .before .before .loop .inv .kept .len,
     )
 
 sub-p : tie.Need-sub-p Inv-loop μ-loop
@@ -126,11 +126,11 @@ slice-write-ord-2 c =
       arith,
       s .pre .1 .0,
       c .before .before .before .before .before .before .loop .inv .within,
-      c .before .before .before .before .before .before .loop .inv .len,
+      c .before .before .before .before .before .before .loop .inv .kept .len,
     )
 
 same-length : tie.Need-same-length Inv-loop μ-loop
-same-length c = simp length-set (c .before .before .before .before .before .before .loop .inv .len)
+same-length c = simp length-set (c .before .before .before .before .before .before .loop .inv .kept .len)
 
 returns : tie.Need-returns Inv-loop μ-loop
 returns c =
@@ -151,10 +151,10 @@ mul-ord-3 c = let s = c .before .before .before .before .before .before in omega
 
 slice-write-ord-3 : tie.Need-slice-write-ord-3 Inv-loop μ-loop
 slice-write-ord-3 c =
-    let s = c .before .before .before .before .before .before in omega (arith, s .pre .1 .0, c .before .loop .inv .within, c .before .loop .inv .len)
+    let s = c .before .before .before .before .before .before in omega (arith, s .pre .1 .0, c .before .loop .inv .within, c .before .loop .inv .kept .len)
 
 same-length-2 : tie.Need-same-length-2 Inv-loop μ-loop
-same-length-2 c = simp length-set (c .before .loop .inv .len)
+same-length-2 c = simp length-set (c .before .loop .inv .kept .len)
 
 returns-2 : tie.Need-returns-2 Inv-loop μ-loop
 returns-2 c =

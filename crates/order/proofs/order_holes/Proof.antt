@@ -23,7 +23,7 @@ insert-requires : tie.Need-insert-requires Inv-loop μ-loop
 insert-requires c κs =
     let s = c .before .before .before .before .before in let l = c .before .before .loop in let i = c .before .loop-test .taken in (
       (bounded-to (s .args .who .now) (h s) _ _ (s .pre .0) i, omega (arith, s .pre .1)),
-      (omega (arith, l .inv .len, s .pre .2), ordering-below (h s) (s .args .who .now) _ (l .ord) _ (l .j) (l .inv)),
+      (omega (arith, l .inv .kept .len, s .pre .2), ordering-below (h s) (s .args .who .now) _ (l .ord) _ (l .j) (l .inv)),
     )
 
 add-j : tie.Need-add-j Inv-loop μ-loop
@@ -37,10 +37,10 @@ loop-again c =
     let s = c .before .before .before .before .before .before .before .before in let l = c .before .before .before .before .before .loop in
     let o = c .before .before .insert in
     ordering-more (h s) (s .args .who .now) _ (l .ord) _ (l .j) (l .inv) (o .last .1 .1 .1 .1 .1 .0)
-    (c .before .before .before .before .loop-test .taken) (o .kept .1 .1 .1 .1 .1 .0) (o .ensures)
+    (c .before .before .before .before .loop-test .taken) (o .ensures)
 
 same-length : tie.Need-same-length Inv-loop μ-loop
-same-length c = c .before .loop .inv .len
+same-length c = c .before .loop .inv .kept .len
 
 returns : tie.Need-returns Inv-loop μ-loop
 returns c =

@@ -88,12 +88,12 @@ contours-under-requires c κs =
     .before .before .before .before .before .before .before .before .before .before .before .before .before .before .before .before .before
     .before .before .before .before in let g =
     c .before .before .before .before .before .before .before .before .before .before .before in let few =
-    few-holes (t s) (s .pre .0) (s .args .clockwise) (s .pre .1) (g .gather-holes .result) (who g) (h g) (g .gather-holes .ensures) in (
+    few-holes (t s) (s .pre .0) (s .args .clockwise) (s .pre .1) (g .gather-holes .result) (who g) (h g) (g .gather-holes .ensures .found) in (
       s .pre .0,
       (
         (omega (arith, contours-few (t s) (s .pre .0)), few, few),
         sorted-anchors (t s) (s .pre .0) (s .args .clockwise) (s .pre .1)
-            (g .gather-holes .result) (who g) (h g) (g .gather-holes .ensures) (room g),
+            (g .gather-holes .result) (who g) (h g) (g .gather-holes .ensures .found) (room g),
       ),
     )
 
@@ -122,8 +122,8 @@ order-holes-requires c κs =
     .before .before .before .before .before .before .before .before .before .before .before .before in let g =
     c .before .before .before .before .before .before .before .before .before .before .before .before .before .before .before .before .before
     .before .before in let few =
-    few-holes (t s) (s .pre .0) (s .args .clockwise) (s .pre .1) (g .gather-holes .result) (who g) (h g) (g .gather-holes .ensures) in
-    (bounded (t s) (s .pre .0) (s .args .clockwise) (s .pre .1) (g .gather-holes .result) (who g) (h g) (g .gather-holes .ensures) (room g), few, few)
+    few-holes (t s) (s .pre .0) (s .args .clockwise) (s .pre .1) (g .gather-holes .result) (who g) (h g) (g .gather-holes .ensures .found) in
+    (bounded (t s) (s .pre .0) (s .args .clockwise) (s .pre .1) (g .gather-holes .result) (who g) (h g) (g .gather-holes .ensures .found) (room g), few, few)
 
 slice-aggregate-give-owners : tie.Need-slice-aggregate-give-owners
 slice-aggregate-give-owners c = search needs
@@ -144,8 +144,8 @@ give-owners-requires c κs =
     .before .before .before .before .before .before .before .before in let u =
     c .before .before .before .before .before .before .before .before .before .before .before .before .before .contours-under in let o =
     c .before .before .before .before .before .order-holes in
-    listed (t s) (s .pre .0) (s .args .clockwise) (s .pre .1) (g .gather-holes .result) (who g) (h g) (g .gather-holes .ensures)
-    (u .last .1 .1 .1 .1 .1 .1 .1 .1 .1 .1 .1 .1 .0) (o .last .1 .1 .1 .1 .1 .1 .0) (s .args .own .now) (u .ensures) (o .ensures)
+    listed (t s) (s .pre .0) (s .args .clockwise) (s .pre .1) (g .gather-holes .result) (who g) (h g) (g .gather-holes .ensures .found)
+    (u .last .1 .1 .1 .1 .1 .1 .1 .1 .1 .1 .1 .1 .0) (o .last .1 .1 .1 .1 .1 .1 .0) (s .args .own .now) (u .ensures .0) (o .ensures .done)
     (omega (arith, o .kept .1 .1 .1 .1 .1 .1 .0)) (room g .who-room) (omega (arith, u .kept .1 .1 .1 .1 .1 .1 .1 .1 .1 .1 .1 .1 .0)) (s .pre .2)
 
 same-length : tie.Need-same-length
@@ -162,8 +162,8 @@ returns c =
     c .before .before .before .before .before .before .before .before .before .before .before .before .before .before .before .before
     .contours-under in let o = c .before .before .before .before .before .before .before .before .order-holes in
     c .before .before .give-owners .ensures
-    ∙ gave (t s) (s .pre .0) (s .args .clockwise) (s .pre .1) (g .gather-holes .result) (who g) (h g) (g .gather-holes .ensures)
-    (u .last .1 .1 .1 .1 .1 .1 .1 .1 .1 .1 .1 .1 .0) (o .last .1 .1 .1 .1 .1 .1 .0) (s .args .own .now) (u .ensures) (o .ensures)
+    ∙ gave (t s) (s .pre .0) (s .args .clockwise) (s .pre .1) (g .gather-holes .result) (who g) (h g) (g .gather-holes .ensures .found)
+    (u .last .1 .1 .1 .1 .1 .1 .1 .1 .1 .1 .1 .1 .0) (o .last .1 .1 .1 .1 .1 .1 .0) (s .args .own .now) (u .ensures .0) (o .ensures .done)
     (omega (arith, o .kept .1 .1 .1 .1 .1 .1 .0))
 
 pub search-owners-spec : {M : Type 1} → statement M

@@ -1,0 +1,29 @@
+-- What each public function promises, written once: its contract names it, and any two outcomes that it allows are equal.
+use Prim.Native.Nat.{ℕ, _≤_}
+use mathlib.Core.Path.{_≡_}
+use mathlib.Core.List.{List}
+use lib.IntN.{ℤ}
+use lib.ListN.{take}
+use Rattle.laws.specs.Unique.{Determines, by-equation, by-equation-with}
+use Rattle.turn.specs.declared.Point.{Point}
+use Rattle.turn.specs.declared.Checked.{Checked}
+use Rattle.table.specs.Table.{Table, pointIn, hulls}
+use Rattle.table.specs.TableChecks.{tableChecked}
+
+abbrev pub point-in-says : List ℤ → ℕ → Point → Type 0
+point-in-says points p r = r ≡ pointIn points p
+
+pub point-in-once : (points : List ℤ) (p : ℕ) → Determines (point-in-says points p)
+point-in-once points p = by-equation (pointIn points p)
+
+abbrev pub check-table-says : Table → ℕ → Checked → Type 0
+check-table-says t owners r = r ≡ tableChecked t owners
+
+pub check-table-once : (t : Table) (owners : ℕ) → Determines (check-table-says t owners)
+check-table-once t owners = by-equation (tableChecked t owners)
+
+abbrev pub hulls-before-says : List ℕ → ℕ → ℕ → Type 0
+hulls-before-says kind n r = (r ≡ hulls (take n kind)) × (r ≤ n)
+
+pub hulls-before-once : (kind : List ℕ) (n : ℕ) → Determines (hulls-before-says kind n)
+hulls-before-once kind n = by-equation-with (hulls (take n kind)) (λ r. r ≤ n)
