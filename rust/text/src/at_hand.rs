@@ -48,7 +48,7 @@ impl Run {
     /// what its top and state say.
     pub fn new(graph: &Graph, state: &[u8], settings: Settings, rule: usize) -> Self {
         let rule = RULES[rule];
-        let end = |id: u32, point: Point| IdPoint::new(id as usize, IntPoint { x: point.x, y: point.y });
+        let end = |id: u32, point: Point| IdPoint::new(id as usize, IntPoint::new(point.x, point.y));
         let links = (0..graph.links()).map(|link| {
             let above = graph.top[link] == 1;
             let below = above == (state[link] == 1);
@@ -99,7 +99,16 @@ impl Run {
         let mut buffer = std::mem::take(&mut self.buffer);
         let shapes = self.graph().extract_shapes(self.rule, &mut buffer);
         self.buffer = buffer;
-        shapes.iter().map(|shape| shape.iter().map(|contour| points(contour)).collect()).collect()
+        nested(&shapes)
+    }
+
+    /// The patched text's `try_extract_shapes`: the same shapes, or the refusal.
+    #[cfg(patched)]
+    pub fn try_extract_shapes(&mut self) -> Result<Vec<Vec<Vec<Point>>>, guovdamas::Refusal> {
+        let mut buffer = std::mem::take(&mut self.buffer);
+        let shapes = self.graph().try_extract_shapes(self.rule, &mut buffer);
+        self.buffer = buffer;
+        shapes.map(|shapes| nested(&shapes))
     }
 
     /// What the text binds, from the contours that `extract_contours` found; the kinds say which are holes.
@@ -112,6 +121,10 @@ impl Run {
             clockwise: self.options.output_direction == ContourDirection::Clockwise,
         }
     }
+}
+
+fn nested(shapes: &IntShapes<i32>) -> Vec<Vec<Vec<Point>>> {
+    shapes.iter().map(|shape| shape.iter().map(|contour| points(contour)).collect()).collect()
 }
 
 fn points(contour: &[IntPoint<i32>]) -> Vec<Point> {

@@ -1,7 +1,8 @@
 //! The given text of i_overlay 9.0.1 (extraction and binding), compiled unchanged over small stand-ins.
 //!
-//! The text itself is not part of this project: `build.rs` finds it beside the repository. Where it is missing,
-//! [`AT_HAND`] is false and [`Run`] cannot be made.
+//! The text itself is not part of this project: `given.rs` finds it beside the repository. Where it is missing,
+//! [`AT_HAND`] is false and [`Run`] cannot be made. rust/integration compiles these sources once more, over a copy of the text
+//! that is patched.
 //!
 //! The modules `bind`, `core`, `geom`, `segm`, `util` and `vector` hold the text's files, with stand-ins for the few items
 //! of that crate that the text leaves out. The text leans on four more crates, which are not at hand; the modules `int`,

@@ -39,6 +39,11 @@ impl Run {
         unreachable!("{NOT_AT_HAND}");
     }
 
+    #[cfg(patched)]
+    pub fn try_extract_shapes(&mut self) -> Result<Vec<Vec<Vec<Point>>>, guovdamas::Refusal> {
+        unreachable!("{NOT_AT_HAND}");
+    }
+
     pub fn unbound(&self, _: &[u8]) -> Unbound {
         unreachable!("{NOT_AT_HAND}");
     }

@@ -90,6 +90,12 @@ pub(crate) mod point {
         pub y: I,
     }
 
+    impl<I> IntPoint<I> {
+        pub fn new(x: I, y: I) -> Self {
+            Self { x, y }
+        }
+    }
+
     impl<I: IntNumber> Sub for IntPoint<I> {
         type Output = IntVector<I>;
 
