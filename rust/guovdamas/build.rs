@@ -1,7 +1,7 @@
 //! Finds or builds the static library, copies it to where cargo keeps what is built, and links it from there.
 //!
-//! It is taken from the folder that `GUOVDAMAS_LIB_DIR` names; else from `lib/` beside this crate's folder, as in a released
-//! archive; else it is built from the repository's proved crates: for x86-64 by `rt staticlib guovdamas`, for aarch64 by
+//! It is taken from the folder that `GUOVDAMAS_LIB_DIR` names; else from `lib/` of the released archive that this crate stands
+//! in; else it is built from the repository's proved crates: for x86-64 by `rt staticlib guovdamas`, for aarch64 by
 //! `rust/native-archive`, which has rt's own compiler compile the same module.
 
 use std::collections::BTreeMap;
@@ -76,9 +76,9 @@ fn named(folder: &Path) -> Result<PathBuf, Complaint> {
     }
 }
 
-/// The archive beside this crate's folder, as it is released.
+/// The archive in `lib/` where this crate was released with it: the repository has no such folder.
 fn released() -> Option<PathBuf> {
-    let archive = folder_of("CARGO_MANIFEST_DIR").parent()?.join("lib").join(ARCHIVE);
+    let archive = root().join("lib").join(ARCHIVE);
     // not named where it is not: cargo takes a missing file for a changed one
     archive.is_file().then(|| {
         println!("cargo::rerun-if-changed={}", archive.display());
@@ -88,10 +88,9 @@ fn released() -> Option<PathBuf> {
 
 /// Builds the archive from the repository that this crate stands in.
 fn build(processor: &str) -> Result<PathBuf, Complaint> {
-    let root = folder_of("CARGO_MANIFEST_DIR").join("../..");
-    let crates = fs::read_to_string(root.join("crates.txt")).map_err(|_| {
-        format!("there is no {ARCHIVE}: set GUOVDAMAS_LIB_DIR to a folder that holds one, or put it into lib/ beside this crate")
-    })?;
+    let root = root();
+    let crates = fs::read_to_string(root.join("crates.txt"))
+        .map_err(|_| format!("there is no {ARCHIVE}: set GUOVDAMAS_LIB_DIR to a folder that holds one"))?;
     let host = variable("HOST");
     if !host.starts_with(processor) {
         return Err(format!(
@@ -167,6 +166,12 @@ fn machine_of(archive: &[u8]) -> Option<u16> {
         }
         rest = after.get(length + length % 2..)?;
     }
+}
+
+/// The repository, or the released archive, that this crate stands in.
+fn root() -> PathBuf {
+    let package = folder_of("CARGO_MANIFEST_DIR");
+    package.ancestors().nth(2).unwrap_or(&package).to_path_buf()
 }
 
 /// What cargo says under a name.
