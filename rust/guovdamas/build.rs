@@ -1,8 +1,8 @@
 //! Finds or builds the static library, copies it to where cargo keeps what is built, and links it from there.
 //!
-//! It is taken from the folder that `GUOVDAMAS_LIB_DIR` names; else from `lib/` of the released archive that this crate stands
-//! in; else it is built from the repository's proved crates: for x86-64 by `rt staticlib guovdamas`, for aarch64 by
-//! `rust/native-archive`, which has rt's own compiler compile the same module.
+//! It is taken from the folder that `GUOVDAMAS_LIB_DIR` names; else from `lib/` of the released archive that this crate
+//! stands in; else it is built from the repository's proved crates: for x86-64 by `rt staticlib guovdamas`, for aarch64
+//! by `rust/native-archive`, which has rt's own compiler compile the same module.
 
 use std::collections::BTreeMap;
 use std::path::{Path, PathBuf};
@@ -62,8 +62,9 @@ fn covered_target() -> Result<String, Complaint> {
 fn named(folder: &Path) -> Result<PathBuf, Complaint> {
     if folder.is_relative() {
         return Err(format!(
-            "GUOVDAMAS_LIB_DIR is {}, a relative path, and cargo does not say what it is relative to. Name the folder by an \
-             absolute path; in .cargo/config.toml, `[env] GUOVDAMAS_LIB_DIR = {{ value = \"path\", relative = true }}` makes one",
+            "GUOVDAMAS_LIB_DIR is {}, a relative path, and cargo does not say what it is relative to. Name the folder \
+             by an absolute path; in .cargo/config.toml, \
+             `[env] GUOVDAMAS_LIB_DIR = {{ value = \"path\", relative = true }}` makes one",
             folder.display()
         ));
     }
@@ -94,8 +95,8 @@ fn build(processor: &str) -> Result<PathBuf, Complaint> {
     let host = variable("HOST");
     if !host.starts_with(processor) {
         return Err(format!(
-            "{ARCHIVE} cannot be built for another processor than the host's ({host}): set GUOVDAMAS_LIB_DIR to a folder that \
-             holds one for {processor}"
+            "{ARCHIVE} cannot be built for another processor than the host's ({host}): set GUOVDAMAS_LIB_DIR to a \
+             folder that holds one for {processor}"
         ));
     }
     name_inputs(&root, &crates);
@@ -110,7 +111,8 @@ fn build(processor: &str) -> Result<PathBuf, Complaint> {
     }
 }
 
-/// Names what the build reads to cargo: the sources of the library's crate and of those below it.
+/// Names what the build reads to cargo: the sources of the library's crate and of those below it, and which toolchain
+/// it is.
 fn name_inputs(root: &Path, crates: &str) {
     let lines = crates.lines().map(|line| line.split('#').next().unwrap_or_default());
     let below: BTreeMap<&str, &str> =
@@ -128,7 +130,18 @@ fn name_inputs(root: &Path, crates: &str) {
         .iter()
         .flat_map(|name| ["src", "specs", "proofs"].map(|part| root.join("crates").join(name).join(part)));
     // one that is not there is not named: cargo takes a missing file for a changed one
-    parts.filter(|part| part.is_dir()).for_each(|part| println!("cargo::rerun-if-changed={}", part.display()));
+    let parts = parts.filter(|part| part.is_dir()).chain(toolchain());
+    parts.for_each(|part| println!("cargo::rerun-if-changed={}", part.display()));
+}
+
+/// The file that says which toolchain it is, where there is one.
+fn toolchain() -> Option<PathBuf> {
+    let beside_rt = || {
+        let rt = env::split_paths(&env::var_os("PATH")?).map(|folder| folder.join("rt")).find(|rt| rt.is_file())?;
+        rt.canonicalize().ok()?.ancestors().nth(2).map(Path::to_path_buf)
+    };
+    let home = env::var_os("RATTLE_HOME").map(PathBuf::from).or_else(beside_rt)?;
+    Some(home.join("KIT-ID")).filter(|file| file.is_file())
 }
 
 fn run(command: &mut Command, root: &Path) -> Result<(), Complaint> {
@@ -153,8 +166,8 @@ fn fits(archive: &[u8], processor: &str) -> Result<(), Complaint> {
     if made_for == processor { Ok(()) } else { Err(format!("is for {made_for}, and the target is {processor}")) }
 }
 
-/// The processor's number in the first ELF object of an archive. A member is a head of 60 bytes, in which its length stands in
-/// decimal from byte 48 on, then its bytes, and a byte more if they are odd in number.
+/// The processor's number in the first ELF object of an archive. A member is a head of 60 bytes, in which its length
+/// stands in decimal from byte 48 on, then its bytes, and a byte more if they are odd in number.
 fn machine_of(archive: &[u8]) -> Option<u16> {
     let mut rest = archive.strip_prefix(b"!<arch>\n")?;
     loop {
@@ -182,4 +195,37 @@ fn variable(name: &str) -> String {
 /// A folder that cargo names.
 fn folder_of(name: &str) -> PathBuf {
     PathBuf::from(variable(name))
+}
+
+/// Run by tests/build_script.rs, of which this file is then a module.
+#[cfg(test)]
+mod tests {
+    use super::*;
+
+    /// An archive with a member of odd length before an object whose head names a processor.
+    fn archive(machine: u16) -> Vec<u8> {
+        let object = [&b"\x7fELF"[..], &[0; 14], &machine.to_le_bytes()].concat();
+        let member = |bytes: &[u8]| [format!("{:48}{:<10}`\n", "name/", bytes.len()).as_bytes(), bytes].concat();
+        [&b"!<arch>\n"[..], &member(b"odd"), b"\n", &member(&object)].concat()
+    }
+
+    #[test]
+    fn archives_for_other_processors_are_refused() {
+        assert_eq!(fits(&archive(62), "x86_64"), Ok(()));
+        assert_eq!(fits(&archive(183), "aarch64"), Ok(()));
+        let refused = |machine, processor| fits(&archive(machine), processor).unwrap_err();
+        assert_eq!(refused(62, "aarch64"), "is for x86_64, and the target is aarch64");
+        assert_eq!(refused(243, "aarch64"), "is for another processor, and the target is aarch64");
+        assert_eq!(fits(b"no archive", "x86_64").unwrap_err(), "is no archive of ELF objects");
+        assert_eq!(fits(&archive(62)[..100], "x86_64").unwrap_err(), "is no archive of ELF objects");
+    }
+
+    #[test]
+    fn folders_are_named_by_absolute_paths() {
+        assert!(named(Path::new("lib")).unwrap_err().starts_with("GUOVDAMAS_LIB_DIR is lib, a relative path"));
+        let empty = Path::new(env!("CARGO_MANIFEST_DIR")).join("src");
+        assert!(named(&empty).unwrap_err().starts_with("GUOVDAMAS_LIB_DIR holds no libguovdamas.a: "));
+        let linked = Path::new(env!("GUOVDAMAS_ARCHIVE"));
+        assert_eq!(named(linked.parent().unwrap()), Ok(linked.to_path_buf()));
+    }
 }

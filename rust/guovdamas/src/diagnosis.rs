@@ -1,5 +1,5 @@
-//! The reason of a refusal, worked out from what was lent. Nothing of it runs unless the library has refused; that it did,
-//! with which number and where, is the library's answer alone.
+//! The reason of a refusal, worked out from what was lent. Nothing of it runs unless the library has refused; that it
+//! did, with which number and where, is the library's answer alone.
 
 use crate::lists::{Buffers, Lists, Table, in_range, turn};
 use crate::refusal::RefusalKind::{self, *};
@@ -107,7 +107,8 @@ fn wrong_nodes(lists: &Lists<'_>) -> Option<RefusalKind> {
     })
 }
 
-/// Of a node with fewer than two entries: a loose end if really one link ends there alone. Where more do, its list lacks one.
+/// Of a node with fewer than two entries: a loose end if really one link ends there alone. Where more do, its list
+/// lacks one.
 fn few_entries(lists: &Lists<'_>, node: u32) -> Option<RefusalKind> {
     let ending = |link: &usize| lists.ids(*link).is_some_and(|ids| ids.contains(&node));
     match (0..lists.links()).filter(ending).take(2).collect::<Vec<_>>()[..] {
@@ -152,8 +153,8 @@ fn same_direction(lists: &Lists<'_>, state: &[u8], node: usize) -> Option<Refusa
     })
 }
 
-/// Whether the vectors from `o` to both points have one direction. The two points are not `o`, and lie on one side of it
-/// exactly if they are both before it or both after it.
+/// Whether the vectors from `o` to both points have one direction. The two points are not `o`, and lie on one side of
+/// it exactly if they are both before it or both after it.
 fn is_one_direction(o: [i32; 2], p: [i32; 2], q: [i32; 2]) -> bool {
     turn(o, p, q) == 0 && (p > o) == (q > o)
 }

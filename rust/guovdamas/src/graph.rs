@@ -111,15 +111,15 @@ impl Graph {
         self.start.push(numbered(self.list.len()));
     }
 
-    /// Sorts the segments into links, by a and then by b, and joins ends with equal points into nodes. A segment may have
-    /// its ends either way round.
+    /// Sorts the segments into links, by a and then by b, and joins ends with equal points into nodes. A segment may
+    /// have its ends either way round.
     ///
-    /// The segments must not cross or overlap: they may meet at their ends alone. That is not checked, but for two that run
-    /// from one point in one direction (7). What is found where segments cross is what the rules of walking say, and no
-    /// outline that one would draw.
+    /// The segments must not cross or overlap: they may meet at their ends alone. That is not checked, but for two that
+    /// run from one point in one direction (7). What is found where segments cross is what the rules of walking say,
+    /// and no outline that one would draw.
     ///
-    /// A link that a [refusal](Refusal) names has the number of its segment, in the order in which they were given, and not
-    /// the sorted one; [`segment_of`](Self::segment_of) gives it for any link.
+    /// A link that a [refusal](Refusal) names has the number of its segment, in the order in which they were given, and
+    /// not the sorted one; [`segment_of`](Self::segment_of) gives it for any link.
     pub fn from_segments(segments: impl IntoIterator<Item = Segment>) -> Self {
         let mut segments: Vec<(Segment, u32)> = segments.into_iter().map(Segment::forward).zip(0..).collect();
         segments.sort_by_key(|(segment, _)| (segment.a, segment.b));

@@ -73,12 +73,12 @@ pub struct ContourRecord {
     pub role: Role,
 }
 
-/// Walks the graph and writes the kept contours, hulls and holes, in the order in which they were found. On success everything
-/// past the last contour is zero. It takes some 70 kB of stack.
+/// Walks the graph and writes the kept contours, hulls and holes, in the order in which they were found. On success
+/// everything past the last contour is zero. It takes some 70 KiB of stack.
 ///
 /// # Errors
-/// 1 to 7 if a check finds the graph at fault: then all that was lent is as before. 8 and 9 if a walk cannot be gone on with
-/// or ends elsewhere: then the states are as before, and the points and the contour table are zero.
+/// 1 to 7 if a check finds the graph at fault: then all that was lent is as before. 8 and 9 if a walk cannot be gone on
+/// with or ends elsewhere: then the states are as before, and the points and the contour table are zero.
 pub fn extract(lists: Lists<'_>, options: Options, mut lent: Buffers<'_>) -> Result<Counts, Refusal> {
     let answer = ffi::extract(lists, options.output_direction.is_clockwise(), options.min_output_area, &mut lent);
     let counts = Counts {
@@ -102,12 +102,12 @@ fn small(number: usize) -> u32 {
     u32::try_from(number).expect("at most 4,096")
 }
 
-/// Writes the owner of every contour: a hull's own shape number, the number of the shape that a hole belongs to, or 65,535 for a
-/// dropped hole. What `owner` has beyond the contours is left as it is. It takes some 172 kB of stack.
+/// Writes the owner of every contour: a hull's own shape number, the number of the shape that a hole belongs to, or
+/// 65,535 for a dropped hole. What `owner` has beyond the contours is left as it is. It takes some 172 KiB of stack.
 ///
 /// # Errors
-/// 10 to 12 if the table is malformed, its holes are not as extraction leaves them, or a hole finds no shape: then all of
-/// `owner` is as before.
+/// 10 to 12 if the table is malformed, its holes are not as extraction leaves them, or a hole finds no shape: then all
+/// of `owner` is as before.
 pub fn bind(table: Table<'_>, output_direction: ContourDirection, owner: &mut [u16]) -> Result<Bound, Refusal> {
     let answer = ffi::bind(table, output_direction.is_clockwise(), owner);
     let bound = Bound { shapes: answer.shapes, dropped: answer.dropped };

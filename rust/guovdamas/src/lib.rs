@@ -1,7 +1,11 @@
+// What is public of this crate; its README is its front page.
+
 #![doc = include_str!("../README.md")]
 #![deny(missing_docs)]
+#![deny(unsafe_code)]
 
 mod diagnosis;
+#[allow(unsafe_code)]
 mod ffi;
 mod graph;
 mod iter;

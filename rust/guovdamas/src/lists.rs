@@ -2,8 +2,8 @@
 
 use crate::MAX_COORDINATE;
 
-/// A graph's lists, borrowed. Link `i` runs from `(ax[i], ay[i])` at node `a_id[i]` to `(bx[i], by[i])` at node `b_id[i]`.
-/// Node `j` holds the links `list[start[j]..start[j + 1]]`.
+/// A graph's lists, borrowed. Link `i` runs from `(ax[i], ay[i])` at node `a_id[i]` to `(bx[i], by[i])` at node
+/// `b_id[i]`. Node `j` holds the links `list[start[j]..start[j + 1]]`.
 #[derive(Clone, Copy, Debug)]
 pub struct Lists<'a> {
     /// The x of each link's first point, a.
@@ -107,7 +107,8 @@ pub(crate) fn vector(from: [i32; 2], to: [i32; 2]) -> [i128; 2] {
     [0, 1].map(|axis| to[axis] as i128 - from[axis] as i128)
 }
 
-/// The cross product of two vectors: above 0 if the second is turned counterclockwise from the first by less than half a turn.
+/// The cross product of two vectors: above 0 if the second is turned counterclockwise from the first by less than half
+/// a turn.
 pub(crate) fn cross(v: [i128; 2], w: [i128; 2]) -> i128 {
     v[0] * w[1] - v[1] * w[0]
 }

@@ -117,8 +117,8 @@ impl Contours {
         Ok(shapes)
     }
 
-    /// Extracts a graph in the place of what was found before, with the room that the library asks for. A graph with too many
-    /// links is refused before any room is asked for.
+    /// Extracts a graph in the place of what was found before, with the room that the library asks for. A graph with
+    /// too many links is refused before any room is asked for.
     pub(crate) fn extract(&mut self, lists: Lists<'_>, skipped: &[u8], options: Options) -> Result<(), Refusal> {
         let links = lists.links().min(MAX_LINKS);
         self.options = options;
@@ -194,7 +194,8 @@ impl Shapes {
         Iter::new(self, self.len())
     }
 
-    /// The shapes as i_overlay nests them: each the points of its contours, the hull's first. Dropped holes are not there.
+    /// The shapes as i_overlay nests them: each the points of its contours, the hull's first. Dropped holes are not
+    /// there.
     pub fn to_vec(&self) -> Vec<Vec<Vec<[i32; 2]>>> {
         let mut shapes: Vec<_> = self.iter().map(|shape| vec![shape.hull().points.to_vec()]).collect();
         let holes = self.contours.iter().filter(|contour| contour.kind == ContourKind::Hole);
@@ -211,8 +212,8 @@ impl Shapes {
         &self.contours
     }
 
-    /// What a contour is, and to which shape it belongs: what [`lent::lookup`] says. Binding has made the owners, so nothing
-    /// is checked again.
+    /// What a contour is, and to which shape it belongs: what [`lent::lookup`] says. Binding has made the owners, so
+    /// nothing is checked again.
     pub fn role(&self, contour: usize) -> Option<Role> {
         let owner = *self.owner.get(contour)?;
         Some(match self.contours.kind(contour) {

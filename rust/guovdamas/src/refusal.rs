@@ -3,11 +3,11 @@
 use std::error::Error;
 use std::fmt;
 
-/// Why nothing was found: a number, the link, node or contour that it speaks of, and the reason. All that was lent is as
-/// before, but that after 8 and 9 the points and the contour table are zero.
+/// Why nothing was found: a number, the link, node or contour that it speaks of, and the reason. All that was lent is
+/// as before, but that after 8 and 9 the points and the contour table are zero.
 ///
-/// Number and place are the library's own, and are proved. The [kind](Refusal::kind) is worked out afterwards, on this side,
-/// from what was lent.
+/// Number and place are the library's own, and are proved. The [kind](Refusal::kind) is worked out afterwards, on this
+/// side, from what was lent.
 #[derive(Clone, Copy, Debug, PartialEq, Eq, Hash)]
 pub struct Refusal {
     number: u32,
@@ -26,8 +26,8 @@ impl Refusal {
         self.number
     }
 
-    /// The lowest link (3, 4), node (6, 7) or contour (10, 11) at fault, the link the scan stood at (8, 9), the first hole
-    /// that found no shape (12); 0 where the fault is no single one's (1, 2, 5).
+    /// The lowest link (3, 4), node (6, 7) or contour (10, 11) at fault, the link the scan stood at (8, 9), the first
+    /// hole that found no shape (12); 0 where the fault is no single one's (1, 2, 5).
     ///
     /// A link of [`Graph::from_segments`](crate::Graph::from_segments) has the number of the caller's segment here.
     pub fn place(&self) -> u32 {

@@ -27,14 +27,14 @@ impl Error for UnevenNode {}
 impl Graph {
     /// Whether filled and empty come by turns round every node, over the links that are not skipped.
     ///
-    /// In other words: direct each link with its filled side on the left. Round every node, links that arrive and links that
-    /// leave come by turns, as many of one as of the other. *If so*, and checks 1 to 7 find nothing, it is proved that no walk
-    /// is refused (neither 8 nor 9 is answered), that each link is walked once, and that the areas, of rejected walks too,
-    /// add up to the total over the links. *If not*, the tops contradict one another somewhere: the graph may be walked whole
-    /// all the same, or be refused with 8 or 9.
+    /// In other words: direct each link with its filled side on the left. Round every node, links that arrive and links
+    /// that leave come by turns, as many of one as of the other. *If so*, and checks 1 to 7 find nothing, it is proved
+    /// that no walk is refused (neither 8 nor 9 is answered), that each link is walked once, and that the areas, of
+    /// rejected walks too, add up to the total over the links. *If not*, the tops contradict one another somewhere: the
+    /// graph may be walked whole all the same, or be refused with 8 or 9.
     ///
-    /// It asks nothing of a graph that fails a check: extraction refuses that one. Nor does it see links that cross away from
-    /// nodes.
+    /// Of a graph that fails a check it says nothing: extraction refuses that one. Nor does it see links that cross
+    /// away from nodes.
     ///
     /// # Errors
     /// The lowest node at which they do not come by turns.

@@ -1,4 +1,5 @@
-//! Extraction and binding into buffers that are kept: the one way in which this crate calls the library for its callers.
+//! Extraction and binding into buffers that are kept: the one way in which this crate calls the library for its
+//! callers.
 
 use crate::lists::Lists;
 use crate::outline::{Contours, Shapes};
@@ -39,8 +40,8 @@ impl Lending<'_> {
     }
 }
 
-/// Buffers that are kept from call to call: who extracts one graph after the other allocates nothing once they have the room
-/// that the largest graph needs.
+/// Buffers that are kept from call to call: who extracts one graph after the other allocates nothing once they have the
+/// room that the largest graph needs.
 ///
 /// ```
 /// use guovdamas::{Graph, Options, Segment, Workspace};

@@ -9,8 +9,8 @@ contours 2 shapes 1 doubled area 128
 1 hole 0: (2,2) (2,8) (8,8) (8,2)
 ";
 
-/// Compiles the example, as the language that the words after the compiler name, and runs it; passes where there is no such
-/// compiler.
+/// Compiles the example, as the language that the words after the compiler name, and runs it; passes where there is no
+/// such compiler.
 fn run_example(compiler: &str, words: &[&str]) {
     let root = Path::new(env!("CARGO_MANIFEST_DIR")).join("../..");
     let program = PathBuf::from(env!("CARGO_TARGET_TMPDIR")).join(format!("square-{compiler}"));

@@ -174,7 +174,8 @@ fn filled_sides_alternate() {
     let uneven = Graph::from_segments(segments.iter().copied()).sides_alternate().unwrap_err();
     assert_eq!(uneven, UnevenNode { node: 0, point: [0, 0] });
     assert_eq!(uneven.to_string(), "filled and empty do not come by turns round node 0 at (0, 0)");
-    // what is skipped does not count, and a cross of two filled corners does not alternate if one of them is turned round
+    // what is skipped does not count, and a cross of two filled corners does not alternate if one of them is turned
+    // round
     segments[1].fill_top = false;
     segments[4..].iter_mut().for_each(|segment| segment.skipped = true);
     assert_eq!(Graph::from_segments(segments.iter().copied()).sides_alternate(), Ok(()));
