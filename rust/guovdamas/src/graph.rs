@@ -152,7 +152,7 @@ impl Graph {
         self.caller.get(link).copied()
     }
 
-    /// The lists, to be lent.
+    /// The lists, to be lent. In them a link has its own number, not its segment's.
     pub fn lists(&self) -> Lists<'_> {
         Lists {
             ax: &self.ax,
