@@ -29,8 +29,8 @@ Times the static library and the given text of i_overlay 9.0.1 on the same graph
     --help            this text
 
 Each time is the least of many runs of one graph; the ratio is the first time by the second. There are graphs near the
-most links, 48 different meshes in turn, and tiny graphs; then the whole call of the safe interface beside the bare
-calls.
+most links, 48 different meshes in turn, and tiny graphs; then the whole call of the safe interface, with buffers of its
+own and in a workspace, beside the bare calls.
 Where the text is not at hand (../shared/docs/src beside the repository) the library is timed alone.
 docs/PERFORMANCE.md says what each row is.";
 
@@ -107,13 +107,18 @@ fn whole_calls(table: &Table, groups: &[Group], effort: Effort) {
     for group in groups {
         let mut ours: Vec<Library> = group.samples.iter().map(Library::new).collect();
         let mut bare: Vec<Library> = group.samples.iter().map(Library::new).collect();
-        let whole = each(group, &mut ours, |ours| drop(ours.shapes()));
-        let calls = each(group, &mut bare, |bare| {
-            bare.extract();
-            bare.bind();
-        });
-        table.row(group.name, "graph to shapes", least(effort, whole, Some(calls)), group.runs());
-        bare.iter().for_each(|bare| sides::agree_with_safe_interface(group.name, bare));
+        let wholes: [(_, fn(&mut Library)); 2] = [
+            ("graph to shapes", |ours| drop(black_box(ours.shapes()))),
+            ("graph to shapes, in a workspace", |ours| _ = black_box(ours.shapes_in_workspace())),
+        ];
+        for (step, whole) in wholes {
+            let calls = each(group, &mut bare, |bare| {
+                bare.extract();
+                bare.bind();
+            });
+            table.row(group.name, step, least(effort, each(group, &mut ours, whole), Some(calls)), group.runs());
+        }
+        bare.iter_mut().for_each(|bare| sides::agree_with_safe_interface(group.name, bare));
     }
 }
 

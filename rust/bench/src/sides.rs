@@ -2,7 +2,7 @@
 
 use crate::graphs::Group;
 use generators::Sample;
-use guovdamas::{ContourDirection, Graph, Link, Options, Shapes, lent};
+use guovdamas::{ContourDirection, Graph, Link, Options, Shapes, Workspace, lent};
 use lending::{buffers, lists};
 use reading::Settings;
 use reading::graph::Buffers;
@@ -18,13 +18,15 @@ pub struct Library<'a> {
     counts: lent::Counts,
     owner: Vec<u16>,
     graph: Graph,
+    workspace: Workspace,
 }
 
 impl<'a> Library<'a> {
     pub fn new(sample: &'a Sample) -> Self {
         let lent = Buffers::for_states(sample.state.clone());
         let owner = vec![0; lent.first.len()];
-        Self { sample, lent, counts: lent::Counts::default(), owner, graph: owned(sample) }
+        let (graph, workspace) = (owned(sample), Workspace::new());
+        Self { sample, lent, counts: lent::Counts::default(), owner, graph, workspace }
     }
 
     /// Extraction with every link skipped: all checks run, and nothing is walked.
@@ -60,6 +62,11 @@ impl<'a> Library<'a> {
     /// The whole call of the safe interface: graph to shapes, in buffers that it allocates.
     pub fn shapes(&self) -> Shapes {
         self.graph.extract_shapes(Options::default()).expect("the graphs are walked")
+    }
+
+    /// The same in a workspace, whose buffers are kept.
+    pub fn shapes_in_workspace(&mut self) -> &Shapes {
+        self.workspace.extract_shapes(&self.graph, Options::default()).expect("the graphs are walked")
     }
 
     pub fn kinds(&self) -> &[u8] {
@@ -111,8 +118,9 @@ pub fn unbound(ours: &[Library], theirs: &[Run]) -> Vec<Unbound> {
 }
 
 /// Panics unless the safe interface says what the bare calls say.
-pub fn agree_with_safe_interface(name: &str, ours: &Library) {
+pub fn agree_with_safe_interface(name: &str, ours: &mut Library) {
     let shapes = ours.shapes();
+    assert_eq!(*ours.shapes_in_workspace(), shapes, "{name}: a workspace changes nothing");
     let points: Vec<i32> =
         shapes.contours().iter().flat_map(|contour| contour.points().as_flattened().to_vec()).collect();
     assert_eq!(points, ours.points(), "{name}: the whole call finds the same points");

@@ -1,8 +1,8 @@
 //! How a graph of i_overlay's own types is lent: `cargo run --example adapter`.
 //!
-//! The types below are i_overlay 9.0.1's, cut down to the fields that count. `lend` is what the dashboard needs: a link's
-//! top flag is its rule's `is_fill_top`, and a link whose two sides are both filled, or both empty, is skipped, as the link
-//! filter does.
+//! The types below are i_overlay 9.0.1's, cut down to the fields that count. `lend` is what the dashboard needs: a
+//! link's top flag is its rule's `is_fill_top`, and a link whose two sides are both filled, or both empty, is skipped,
+//! as the link filter does.
 
 use guovdamas::{Graph, Link, Options, Refusal, Shapes};
 
@@ -145,7 +145,8 @@ fn main() -> Result<(), Refusal> {
         (OverlayRule::Xor, 8),
     ];
     for (rule, area) in rules {
-        // The links left out by a rule keep their nodes: a node with one of two links skipped is refused, and none is here.
+        // The links left out by a rule keep their nodes: a node with one of two links skipped is refused, and none is
+        // here.
         let shapes: Shapes = lend(&links, &nodes, rule).extract_shapes(Options::default())?;
         let found: i64 = shapes.iter().map(|shape| shape.doubled_area() / 2).sum();
         println!("{rule:?}: {} shapes, area {found}", shapes.len());

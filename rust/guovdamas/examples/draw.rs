@@ -1,7 +1,7 @@
 //! Draws a study: `cargo run --example draw -- study.graph out.svg`.
 //!
-//! Shapes are tinted, holes are not; every contour bears its number, what it is, its shape and its area in mm² (one unit of the
-//! graph is 0.01 mm). A study that is refused is not drawn, and the reason is printed.
+//! Shapes are tinted, holes are not; every contour bears its number, what it is, its shape and its area in mm² (one
+//! unit of the graph is 0.01 mm). A study that is refused is not drawn, and the reason is printed.
 
 use guovdamas::lent::Role;
 use guovdamas::{Contour, Shapes};

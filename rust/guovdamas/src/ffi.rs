@@ -1,11 +1,10 @@
 //! The boundary to the static library: the only unsafe code of this crate.
 //!
-//! A slice passes as a pointer and a length. What the library does with them is proved: it reads and writes within them alone,
-//! keeps no pointer, never unwinds, and requires nothing of what they hold. What is left to this side is that they are what
-//! they say they are, and that what may be written overlaps nothing else; Rust's references say both.
+//! A slice passes as a pointer and a length. What the library does with them is proved: it reads and writes within them
+//! alone, keeps no pointer, never unwinds, and requires nothing of what they hold. What is left to this side is that
+//! they are what they say they are, and that what may be written overlaps nothing else; Rust's references say both.
 
-use crate::Lists;
-use crate::lent::{Buffers, Table};
+use crate::lists::{Buffers, Lists, Table};
 
 #[repr(C)]
 pub(crate) struct Extraction {
@@ -66,11 +65,11 @@ unsafe extern "C" {
 }
 
 #[rustfmt::skip]
-pub(crate) fn extract(lists: Lists<'_>, clockwise: bool, minimum: u64, lent: Buffers<'_>) -> Extraction {
+pub(crate) fn extract(lists: Lists<'_>, clockwise: bool, minimum: u64, lent: &mut Buffers<'_>) -> Extraction {
     let Lists { ax, ay, bx, by, a_id, b_id, top, start, list } = lists;
     let Buffers { state, points, first, len, kind } = lent;
-    // SAFETY: each pointer comes with its own slice's length and is valid for the call; the five that are written through are
-    // exclusive references, so they overlap nothing that is passed.
+    // SAFETY: each pointer comes with its own slice's length and is valid for the call; the five that are written
+    // through are exclusive references, so they overlap nothing that is passed.
     unsafe {
         guovdamas_extract(
             ax.as_ptr(), ax.len(), ay.as_ptr(), ay.len(),

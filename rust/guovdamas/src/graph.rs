@@ -1,43 +1,21 @@
-//! Graphs, owned and borrowed.
+//! Graphs that own their lists.
 
-use crate::lent;
-use crate::outline::Contours;
-use crate::{Options, Refusal, Shapes};
+use crate::lists::Lists;
+use crate::outline::{Contours, Shapes};
+use crate::workspace::Lending;
+use crate::{Options, Refusal};
 use std::collections::BTreeMap;
-
-/// A graph's lists, borrowed. Link `i` runs from `(ax[i], ay[i])` at node `a_id[i]` to `(bx[i], by[i])` at node `b_id[i]`;
-/// `top[i]` is 1 where the left of a to b is filled, else 0. Node `j` holds the links `list[start[j]..start[j + 1]]`.
-#[derive(Clone, Copy, Debug)]
-pub struct Lists<'a> {
-    pub ax: &'a [i32],
-    pub ay: &'a [i32],
-    pub bx: &'a [i32],
-    pub by: &'a [i32],
-    pub a_id: &'a [u32],
-    pub b_id: &'a [u32],
-    pub top: &'a [u8],
-    pub start: &'a [u32],
-    pub list: &'a [u32],
-}
-
-impl Lists<'_> {
-    /// Walks the graph; `skipped` has a 1 for every link to be left out, else 0.
-    pub fn extract_contours(self, skipped: &[u8], options: Options) -> Result<Contours, Refusal> {
-        Contours::extract(self, skipped, options)
-    }
-
-    /// Walks the graph and binds its holes.
-    pub fn extract_shapes(self, skipped: &[u8], options: Options) -> Result<Shapes, Refusal> {
-        self.extract_contours(skipped, options)?.bind_holes()
-    }
-}
 
 /// A link between two numbered nodes; point `a` comes before point `b`, by x and then by y.
 #[derive(Clone, Copy, Debug, PartialEq, Eq)]
 pub struct Link {
+    /// Its first point.
     pub a: [i32; 2],
+    /// Its second point.
     pub b: [i32; 2],
+    /// The node at `a`.
     pub a_id: u32,
+    /// The node at `b`.
     pub b_id: u32,
     /// Filled on the left of a to b: i_overlay's `is_fill_top`.
     pub fill_top: bool,
@@ -45,16 +23,29 @@ pub struct Link {
     pub skipped: bool,
 }
 
-/// A link whose nodes are yet to be numbered.
+/// A link whose nodes are yet to be numbered. Its ends may come either way round.
 #[derive(Clone, Copy, Debug, PartialEq, Eq)]
 pub struct Segment {
+    /// One end.
     pub a: [i32; 2],
+    /// The other end.
     pub b: [i32; 2],
+    /// Filled on the left of a to b.
     pub fill_top: bool,
+    /// Left out of all walks.
     pub skipped: bool,
 }
 
+impl Segment {
+    /// The same segment from its lesser point to its greater; the filled side turns with it.
+    fn forward(self) -> Self {
+        if self.a <= self.b { self } else { Self { a: self.b, b: self.a, fill_top: !self.fill_top, ..self } }
+    }
+}
+
 /// A graph that owns its lists.
+///
+/// Two graphs are equal if their lists are, and, where they come from segments, their segments' order.
 #[derive(Clone, Debug, PartialEq, Eq)]
 pub struct Graph {
     ax: Vec<i32>,
@@ -67,6 +58,8 @@ pub struct Graph {
     state: Vec<u8>,
     start: Vec<u32>,
     list: Vec<u32>,
+    /// By which number the caller knows each link.
+    caller: Vec<u32>,
 }
 
 impl Default for Graph {
@@ -89,11 +82,17 @@ impl Graph {
             state: Vec::new(),
             start: vec![0],
             list: Vec::new(),
+            caller: Vec::new(),
         }
     }
 
     /// Adds a link. The links come in the order of their first points.
     pub fn push_link(&mut self, link: Link) {
+        let number = numbered(self.a_id.len());
+        self.push_link_of(link, number);
+    }
+
+    fn push_link_of(&mut self, link: Link, caller: u32) {
         self.ax.push(link.a[0]);
         self.ay.push(link.a[1]);
         self.bx.push(link.b[0]);
@@ -102,36 +101,58 @@ impl Graph {
         self.b_id.push(link.b_id);
         self.top.push(link.fill_top as u8);
         self.state.push(link.skipped as u8);
+        self.caller.push(caller);
     }
 
     /// Adds a node that holds the given links: two make i_overlay's `Bridge`, more a `Cross`.
     pub fn push_node(&mut self, links: impl IntoIterator<Item = u32>) {
         self.list.extend(links);
         // A list too long to be numbered is refused (5), as it is one that does not end where the starts say.
-        self.start.push(u32::try_from(self.list.len()).unwrap_or(u32::MAX));
+        self.start.push(numbered(self.list.len()));
     }
 
-    /// Sorts the segments into links, by a and then by b, and joins ends with equal points into nodes.
+    /// Sorts the segments into links, by a and then by b, and joins ends with equal points into nodes. A segment may
+    /// have its ends either way round.
+    ///
+    /// The segments must not cross or overlap: they may meet at their ends alone. That is not checked, but for two that
+    /// run from one point in one direction (7). What is found where segments cross is what the rules of walking say,
+    /// and no outline that one would draw.
+    ///
+    /// A link that a [refusal](Refusal) names has the number of its segment, in the order in which they were given, and
+    /// not the sorted one; [`segment_of`](Self::segment_of) gives it for any link.
     pub fn from_segments(segments: impl IntoIterator<Item = Segment>) -> Self {
-        let mut segments: Vec<Segment> = segments.into_iter().collect();
-        segments.sort_by_key(|segment| (segment.a, segment.b));
+        let mut segments: Vec<(Segment, u32)> = segments.into_iter().map(Segment::forward).zip(0..).collect();
+        segments.sort_by_key(|(segment, _)| (segment.a, segment.b));
         let mut nodes: BTreeMap<[i32; 2], (u32, Vec<u32>)> = BTreeMap::new();
-        for (number, segment) in segments.iter().enumerate() {
+        for (number, (segment, _)) in (0..).zip(&segments) {
             for point in [segment.a, segment.b] {
-                nodes.entry(point).or_default().1.push(number as u32);
+                nodes.entry(point).or_default().1.push(number);
             }
         }
         (0..).zip(nodes.values_mut()).for_each(|(id, node)| node.0 = id);
 
         let mut graph = Self::new();
-        for Segment { a, b, fill_top, skipped } in segments {
-            graph.push_link(Link { a, b, a_id: nodes[&a].0, b_id: nodes[&b].0, fill_top, skipped });
+        for (Segment { a, b, fill_top, skipped }, caller) in segments {
+            graph.push_link_of(Link { a, b, a_id: nodes[&a].0, b_id: nodes[&b].0, fill_top, skipped }, caller);
         }
         nodes.into_values().for_each(|(_, links)| graph.push_node(links));
         graph
     }
 
-    /// The lists, to be lent.
+    /// The link with this number; none if there is none.
+    pub fn link(&self, number: usize) -> Option<Link> {
+        let lists = self.lists();
+        let ([a, b], [a_id, b_id]) = (lists.ends(number)?, lists.ids(number)?);
+        Some(Link { a, b, a_id, b_id, fill_top: self.top[number] == 1, skipped: self.state[number] == 1 })
+    }
+
+    /// The number of the segment that this link was made of, in the order in which the segments were given to
+    /// [`from_segments`](Self::from_segments). A link that was pushed has its own number.
+    pub fn segment_of(&self, link: usize) -> Option<u32> {
+        self.caller.get(link).copied()
+    }
+
+    /// The lists, to be lent. In them a link has its own number, not its segment's.
     pub fn lists(&self) -> Lists<'_> {
         Lists {
             ax: &self.ax,
@@ -152,36 +173,47 @@ impl Graph {
     }
 
     /// Walks the graph: i_overlay's `extract_contours_into`.
+    ///
+    /// # Errors
+    /// 1 to 9: a check finds the graph at fault, or a walk cannot be gone on with or ends elsewhere.
     pub fn extract_contours(&self, options: Options) -> Result<Contours, Refusal> {
-        self.lists().extract_contours(&self.state, options)
+        Lending::from(self).contours(options)
     }
 
     /// Walks the graph and binds its holes: i_overlay's `extract_shapes`.
+    ///
+    /// # Errors
+    /// 1 to 9 as [`extract_contours`](Self::extract_contours), and 12: a hole finds no shape.
     pub fn extract_shapes(&self, options: Options) -> Result<Shapes, Refusal> {
-        self.lists().extract_shapes(&self.state, options)
+        Lending::from(self).shapes(options)
     }
 }
 
-impl Contours {
-    /// Lends the library buffers with the room that it asks for.
-    fn extract(lists: Lists<'_>, skipped: &[u8], options: Options) -> Result<Self, Refusal> {
-        let (links, room) = (lists.a_id.len(), lists.a_id.len() / 3);
-        let mut state = skipped.to_vec();
-        let mut points = vec![[0; 2]; links];
-        let (mut first, mut len, mut kind) = (vec![0; room], vec![0; room], vec![0; room]);
-        let lent = lent::Buffers {
-            state: &mut state,
-            points: points.as_flattened_mut(),
-            first: &mut first,
-            len: &mut len,
-            kind: &mut kind,
-        };
-        let counts = lent::extract(lists, options, lent)?;
-        points.truncate(counts.points as usize);
-        for column in [&mut first, &mut len] {
-            column.truncate(counts.contours as usize);
-        }
-        kind.truncate(counts.contours as usize);
-        Ok(Self { options, counts, state, points, first, len, kind })
+impl<'a> From<&'a Graph> for Lending<'a> {
+    fn from(graph: &'a Graph) -> Self {
+        Self { lists: graph.lists(), skipped: &graph.state, caller: Some(&graph.caller) }
     }
+}
+
+impl Lists<'_> {
+    /// Walks the graph; `skipped` has a 1 for every link to be left out, else 0.
+    ///
+    /// # Errors
+    /// 1 to 9: a check finds the graph at fault, or a walk cannot be gone on with or ends elsewhere.
+    pub fn extract_contours(self, skipped: &[u8], options: Options) -> Result<Contours, Refusal> {
+        Lending::from((self, skipped)).contours(options)
+    }
+
+    /// Walks the graph and binds its holes.
+    ///
+    /// # Errors
+    /// 1 to 9 as [`extract_contours`](Self::extract_contours), and 12: a hole finds no shape.
+    pub fn extract_shapes(self, skipped: &[u8], options: Options) -> Result<Shapes, Refusal> {
+        Lending::from((self, skipped)).shapes(options)
+    }
+}
+
+/// A position or a number as the lists hold it: past what 32 bits hold, one that no list has.
+fn numbered(count: usize) -> u32 {
+    u32::try_from(count).unwrap_or(u32::MAX)
 }

@@ -21,44 +21,25 @@
 //! # Ok::<(), guovdamas::Refusal>(())
 //! ```
 
-use crate::ffi;
-use crate::{ContourDirection, Lists, Options, Refusal};
+use crate::{ContourDirection, Lists, Options, Refusal, diagnosis, ffi};
 
-/// What extraction writes. For n links: n states (0, or 1 for a skipped link; afterwards also 2 for a link of a hole and 3 for
-/// one of a hull), room for n points (x, y in turn), and a contour table with room for n / 3 contours.
-#[derive(Debug)]
-pub struct Buffers<'a> {
-    pub state: &'a mut [u8],
-    pub points: &'a mut [i32],
-    /// Position of each contour's first point.
-    pub first: &'a mut [u32],
-    /// Number of each contour's points.
-    pub len: &'a mut [u32],
-    /// 0 for a hull, 1 for a hole.
-    pub kind: &'a mut [u8],
-}
+pub use crate::lists::{Buffers, Table};
 
 /// What extraction counts; areas are signed, doubled, positive when counterclockwise, and summed.
 #[derive(Clone, Copy, Debug, Default, PartialEq, Eq)]
 pub struct Counts {
-    /// Kept contours, and their points.
+    /// Kept contours.
     pub contours: u32,
+    /// Their points.
     pub points: u32,
     /// Walks rejected for their size.
     pub rejected: u32,
     /// Links walked, by kept and rejected walks.
     pub walked: u32,
+    /// The kept contours' areas, summed.
     pub kept_area: i64,
+    /// The rejected walks' areas, summed.
     pub rejected_area: i64,
-}
-
-/// A contour table with its points, as extraction leaves it, without the room past it.
-#[derive(Clone, Copy, Debug)]
-pub struct Table<'a> {
-    pub points: &'a [i32],
-    pub first: &'a [u32],
-    pub len: &'a [u32],
-    pub kind: &'a [u8],
 }
 
 /// What binding counts.
@@ -84,15 +65,22 @@ pub enum Role {
 /// One contour's record.
 #[derive(Clone, Copy, Debug, PartialEq, Eq)]
 pub struct ContourRecord {
+    /// Position of its first point.
     pub first: u32,
+    /// How many points it has.
     pub len: u32,
+    /// What it is, and to which shape it belongs.
     pub role: Role,
 }
 
-/// Walks the graph and writes the kept contours, hulls and holes, in the order in which they were found. On success everything
-/// past the last contour is zero.
-pub fn extract(lists: Lists<'_>, options: Options, lent: Buffers<'_>) -> Result<Counts, Refusal> {
-    let answer = ffi::extract(lists, options.output_direction.is_clockwise(), options.min_output_area, lent);
+/// Walks the graph and writes the kept contours, hulls and holes, in the order in which they were found. On success
+/// everything past the last contour is zero. It takes some 70 KiB of stack.
+///
+/// # Errors
+/// 1 to 7 if a check finds the graph at fault: then all that was lent is as before. 8 and 9 if a walk cannot be gone on
+/// with or ends elsewhere: then the states are as before, and the points and the contour table are zero.
+pub fn extract(lists: Lists<'_>, options: Options, mut lent: Buffers<'_>) -> Result<Counts, Refusal> {
+    let answer = ffi::extract(lists, options.output_direction.is_clockwise(), options.min_output_area, &mut lent);
     let counts = Counts {
         contours: small(answer.contours),
         points: small(answer.points),
@@ -105,7 +93,8 @@ pub fn extract(lists: Lists<'_>, options: Options, lent: Buffers<'_>) -> Result<
         return Ok(counts);
     }
     debug_assert_eq!(counts, Counts::default(), "a refusal counts nothing");
-    Err(Refusal::new(answer.number, small(answer.place)))
+    let (number, place) = (answer.number, small(answer.place));
+    Err(Refusal::new(number, place, diagnosis::of_graph(number, place, &lists, &lent)))
 }
 
 /// A count or a place of extraction: past check 1 none is above the 4,096 links, and before it each is 0.
@@ -113,8 +102,12 @@ fn small(number: usize) -> u32 {
     u32::try_from(number).expect("at most 4,096")
 }
 
-/// Writes the owner of every contour: a hull's own shape number, the number of the shape that a hole belongs to, or 65,535 for a
-/// dropped hole. What `owner` has beyond the contours is left as it is, and all of it after a refusal.
+/// Writes the owner of every contour: a hull's own shape number, the number of the shape that a hole belongs to, or
+/// 65,535 for a dropped hole. What `owner` has beyond the contours is left as it is. It takes some 172 KiB of stack.
+///
+/// # Errors
+/// 10 to 12 if the table is malformed, its holes are not as extraction leaves them, or a hole finds no shape: then all
+/// of `owner` is as before.
 pub fn bind(table: Table<'_>, output_direction: ContourDirection, owner: &mut [u16]) -> Result<Bound, Refusal> {
     let answer = ffi::bind(table, output_direction.is_clockwise(), owner);
     let bound = Bound { shapes: answer.shapes, dropped: answer.dropped };
@@ -122,7 +115,8 @@ pub fn bind(table: Table<'_>, output_direction: ContourDirection, owner: &mut [u
         return Ok(bound);
     }
     debug_assert_eq!(bound, Bound::default(), "a refusal counts nothing");
-    Err(Refusal::new(answer.number, answer.place))
+    let (number, place) = (answer.number, answer.place);
+    Err(Refusal::new(number, place, diagnosis::of_table(number, place, &table, output_direction, owner.len())))
 }
 
 /// One contour's record; none if there is no such contour, the table is malformed or the contour's owner is wrong.

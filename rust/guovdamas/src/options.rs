@@ -3,8 +3,10 @@
 /// Direction of the output's hulls; holes run the other way.
 #[derive(Clone, Copy, Debug, Default, PartialEq, Eq, Hash)]
 pub enum ContourDirection {
+    /// Hulls run counterclockwise, with y pointing upward.
     #[default]
     CounterClockwise,
+    /// Hulls run clockwise.
     Clockwise,
 }
 
@@ -14,6 +16,7 @@ impl ContourDirection {
         if clockwise { Self::Clockwise } else { Self::CounterClockwise }
     }
 
+    /// Whether hulls run clockwise.
     pub fn is_clockwise(self) -> bool {
         self == Self::Clockwise
     }

@@ -1,12 +1,16 @@
 //! What is found: contours, and shapes with their holes.
 
+use crate::iter::{Iter, Numbered};
 use crate::lent::{self, Bound, Counts, Role};
-use crate::{Options, Refusal};
+use crate::lists::Lists;
+use crate::{MAX_LINKS, Options, Refusal};
 
 /// Whether a contour bounds a shape from outside or from inside.
 #[derive(Clone, Copy, Debug, PartialEq, Eq, Hash)]
 pub enum ContourKind {
+    /// From outside.
     Hull,
+    /// From inside.
     Hole,
 }
 
@@ -24,6 +28,7 @@ impl<'a> Contour<'a> {
         self.number
     }
 
+    /// Hull or hole.
     pub fn kind(&self) -> ContourKind {
         self.kind
     }
@@ -42,37 +47,43 @@ impl<'a> Contour<'a> {
 }
 
 /// The kept contours of a graph, hulls and holes, in the order in which they were found.
-#[derive(Clone, Debug, PartialEq, Eq)]
+///
+/// The buffers are as extraction leaves them: past what the counts say they are zero.
+#[derive(Clone, Debug, Default, PartialEq, Eq)]
 pub struct Contours {
-    pub(crate) options: Options,
-    pub(crate) counts: Counts,
-    pub(crate) state: Vec<u8>,
-    pub(crate) points: Vec<[i32; 2]>,
-    pub(crate) first: Vec<u32>,
-    pub(crate) len: Vec<u32>,
-    pub(crate) kind: Vec<u8>,
+    options: Options,
+    counts: Counts,
+    state: Vec<u8>,
+    points: Vec<[i32; 2]>,
+    first: Vec<u32>,
+    len: Vec<u32>,
+    kind: Vec<u8>,
 }
 
 impl Contours {
     /// How many were kept.
     pub fn len(&self) -> usize {
-        self.first.len()
+        self.counts.contours as usize
     }
 
+    /// Whether none was kept.
     pub fn is_empty(&self) -> bool {
-        self.first.is_empty()
+        self.len() == 0
     }
 
     /// The contour with this number.
     pub fn get(&self, number: usize) -> Option<Contour<'_>> {
-        let (&first, &len) = (self.first.get(number)?, self.len.get(number)?);
-        let kind = if self.kind[number] == 1 { ContourKind::Hole } else { ContourKind::Hull };
-        let points = self.points.get(first as usize..)?.get(..len as usize)?;
-        Some(Contour { number, kind, points })
+        (number < self.len()).then(|| self.item(number))
     }
 
-    pub fn iter(&self) -> impl Iterator<Item = Contour<'_>> {
-        (0..self.len()).filter_map(|number| self.get(number))
+    /// All contours, in the order in which they were found.
+    pub fn iter(&self) -> Iter<'_, Self> {
+        Iter::new(self, self.len())
+    }
+
+    /// The points of each contour.
+    pub fn to_vec(&self) -> Vec<Vec<[i32; 2]>> {
+        self.iter().map(|contour| contour.points.to_vec()).collect()
     }
 
     /// Counts and areas, of the rejected walks too.
@@ -85,24 +96,77 @@ impl Contours {
         &self.state
     }
 
+    /// The contour table, without the room past it.
     fn table(&self) -> lent::Table<'_> {
-        lent::Table { points: self.points.as_flattened(), first: &self.first, len: &self.len, kind: &self.kind }
+        let contours = self.len();
+        lent::Table {
+            points: self.points[..self.counts.points as usize].as_flattened(),
+            first: &self.first[..contours],
+            len: &self.len[..contours],
+            kind: &self.kind[..contours],
+        }
     }
 
     /// Finds the shape of every hole: i_overlay's `join_sorted_holes`.
+    ///
+    /// # Errors
+    /// 12: a hole finds no shape. 10 and 11 are not met, since what extraction leaves passes these checks.
     pub fn bind_holes(self) -> Result<Shapes, Refusal> {
-        let mut owner = vec![0; self.len()];
-        let bound = lent::bind(self.table(), self.options.output_direction, &mut owner)?;
-        let is_hull = |number: &usize| self.kind[*number] == 0;
-        let hulls = (0..self.len()).filter(is_hull).collect();
-        Ok(Shapes { contours: self, bound, owner, hulls })
+        let mut shapes = Shapes { contours: self, ..Shapes::default() };
+        shapes.bind()?;
+        Ok(shapes)
+    }
+
+    /// Extracts a graph in the place of what was found before, with the room that the library asks for. A graph with
+    /// too many links is refused before any room is asked for.
+    pub(crate) fn extract(&mut self, lists: Lists<'_>, skipped: &[u8], options: Options) -> Result<(), Refusal> {
+        let links = lists.links().min(MAX_LINKS);
+        self.options = options;
+        self.counts = Counts::default();
+        self.state.clear();
+        self.state.extend_from_slice(skipped);
+        self.points.resize(links, [0; 2]);
+        self.first.resize(links / 3, 0);
+        self.len.resize(links / 3, 0);
+        self.kind.resize(links / 3, 0);
+        let lent = lent::Buffers {
+            state: &mut self.state,
+            points: self.points.as_flattened_mut(),
+            first: &mut self.first,
+            len: &mut self.len,
+            kind: &mut self.kind,
+        };
+        self.counts = lent::extract(lists, options, lent)?;
+        Ok(())
+    }
+
+    fn kind(&self, number: usize) -> ContourKind {
+        if self.kind[number] == 1 { ContourKind::Hole } else { ContourKind::Hull }
+    }
+}
+
+impl Numbered for Contours {
+    type Item<'a> = Contour<'a>;
+
+    fn item(&self, number: usize) -> Contour<'_> {
+        let (first, len) = (self.first[number] as usize, self.len[number] as usize);
+        Contour { number, kind: self.kind(number), points: &self.points[first..first + len] }
+    }
+}
+
+impl<'a> IntoIterator for &'a Contours {
+    type Item = Contour<'a>;
+    type IntoIter = Iter<'a, Contours>;
+
+    fn into_iter(self) -> Self::IntoIter {
+        self.iter()
     }
 }
 
 /// Shapes: each a hull with its holes.
-#[derive(Clone, Debug, PartialEq, Eq)]
+#[derive(Clone, Debug, Default, PartialEq, Eq)]
 pub struct Shapes {
-    contours: Contours,
+    pub(crate) contours: Contours,
     bound: Bound,
     owner: Vec<u16>,
     /// Each shape's hull, by contour number.
@@ -115,17 +179,32 @@ impl Shapes {
         self.hulls.len()
     }
 
+    /// Whether there is none.
     pub fn is_empty(&self) -> bool {
         self.hulls.is_empty()
     }
 
     /// The shape with this number.
     pub fn shape(&self, number: usize) -> Option<Shape<'_>> {
-        (number < self.len()).then_some(Shape { shapes: self, number })
+        (number < self.len()).then(|| self.item(number))
     }
 
-    pub fn iter(&self) -> impl Iterator<Item = Shape<'_>> {
-        (0..self.len()).map(|number| Shape { shapes: self, number })
+    /// All shapes, in the order in which their hulls were found.
+    pub fn iter(&self) -> Iter<'_, Self> {
+        Iter::new(self, self.len())
+    }
+
+    /// The shapes as i_overlay nests them: each the points of its contours, the hull's first. Dropped holes are not
+    /// there.
+    pub fn to_vec(&self) -> Vec<Vec<Vec<[i32; 2]>>> {
+        let mut shapes: Vec<_> = self.iter().map(|shape| vec![shape.hull().points.to_vec()]).collect();
+        let holes = self.contours.iter().filter(|contour| contour.kind == ContourKind::Hole);
+        for hole in holes {
+            if let Some(shape) = shapes.get_mut(self.owner[hole.number] as usize) {
+                shape.push(hole.points.to_vec());
+            }
+        }
+        shapes
     }
 
     /// All contours, in the order in which they were found.
@@ -133,9 +212,15 @@ impl Shapes {
         &self.contours
     }
 
-    /// What a contour is, and to which shape it belongs.
+    /// What a contour is, and to which shape it belongs: what [`lent::lookup`] says. Binding has made the owners, so
+    /// nothing is checked again.
     pub fn role(&self, contour: usize) -> Option<Role> {
-        lent::lookup(self.contours.table(), &self.owner, contour).map(|record| record.role)
+        let owner = *self.owner.get(contour)?;
+        Some(match self.contours.kind(contour) {
+            ContourKind::Hull => Role::Hull(owner),
+            ContourKind::Hole if self.is_empty() => Role::Dropped,
+            ContourKind::Hole => Role::Hole(owner),
+        })
     }
 
     /// Each contour's shape, or 65,535 for a dropped hole.
@@ -144,13 +229,40 @@ impl Shapes {
     }
 
     /// Holes that belong to no shape, since there is none.
-    pub fn dropped_holes(&self) -> impl Iterator<Item = Contour<'_>> {
-        self.contours.iter().filter(|_| self.is_empty())
+    pub fn dropped_holes(&self) -> Iter<'_, Contours> {
+        Iter::new(&self.contours, if self.is_empty() { self.contours.len() } else { 0 })
     }
 
     /// How many shapes there are, and how many holes were dropped.
     pub fn bound(&self) -> Bound {
         self.bound
+    }
+
+    /// Binds the contours, in the place of what was bound before.
+    pub(crate) fn bind(&mut self) -> Result<(), Refusal> {
+        let contours = self.contours.len();
+        self.owner.resize(contours, 0);
+        self.bound = lent::bind(self.contours.table(), self.contours.options.output_direction, &mut self.owner)?;
+        self.hulls.clear();
+        self.hulls.extend((0..contours).filter(|&number| self.contours.kind(number) == ContourKind::Hull));
+        Ok(())
+    }
+}
+
+impl Numbered for Shapes {
+    type Item<'a> = Shape<'a>;
+
+    fn item(&self, number: usize) -> Shape<'_> {
+        Shape { shapes: self, number }
+    }
+}
+
+impl<'a> IntoIterator for &'a Shapes {
+    type Item = Shape<'a>;
+    type IntoIter = Iter<'a, Shapes>;
+
+    fn into_iter(self) -> Self::IntoIter {
+        self.iter()
     }
 }
 
@@ -162,16 +274,18 @@ pub struct Shape<'a> {
 }
 
 impl<'a> Shape<'a> {
+    /// The shape's number: hulls are counted from 0, in the order in which they were found.
     pub fn number(&self) -> usize {
         self.number
     }
 
+    /// The contour that bounds it from outside.
     pub fn hull(&self) -> Contour<'a> {
-        let hull = self.shapes.hulls[self.number];
-        self.shapes.contours.get(hull).expect("every shape has its hull")
+        self.shapes.contours.item(self.shapes.hulls[self.number])
     }
 
-    pub fn holes(&self) -> impl Iterator<Item = Contour<'a>> {
+    /// The contours that bound it from inside, in the order in which they were found.
+    pub fn holes(&self) -> impl Iterator<Item = Contour<'a>> + use<'a> {
         let (shapes, number) = (self.shapes, self.number);
         let is_ours = move |contour: &Contour<'_>| {
             contour.kind() == ContourKind::Hole && shapes.owner[contour.number()] as usize == number

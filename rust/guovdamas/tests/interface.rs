@@ -1,7 +1,9 @@
 //! The safe interface on document 01's examples.
 
 use guovdamas::lent::Role;
-use guovdamas::{ContourDirection, ContourKind, Graph, Link, Options, Segment, Shapes};
+use guovdamas::{
+    ContourDirection, ContourKind, Graph, Link, Lists, Options, Segment, Shapes, UnevenNode, Workspace, lent,
+};
 
 /// A box of four sides, filled inside or outside.
 fn frame([x, y]: [i32; 2], size: i32, filled: bool) -> [Segment; 4] {
@@ -88,4 +90,107 @@ fn refusals_say_what_they_mean() {
     assert_eq!((refusal.number(), refusal.place()), (3, 3));
     assert!(refusal.to_string().starts_with("refused 3 at 3: link 3 has a coordinate out of range"));
     let _: &dyn std::error::Error = &refusal;
+}
+
+#[test]
+fn iterators_have_exact_sizes() {
+    let shapes = two_boxes_with_a_hole();
+    assert_eq!((shapes.iter().len(), shapes.contours().iter().len(), shapes.dropped_holes().len()), (2, 3, 0));
+    let numbers: Vec<usize> = (&shapes).into_iter().map(|shape| shape.number()).collect();
+    assert_eq!(numbers, [0, 1]);
+    let backwards: Vec<usize> = shapes.contours().into_iter().rev().map(|contour| contour.number()).collect();
+    assert_eq!(backwards, [2, 1, 0]);
+    assert_eq!(shapes.contours().iter().nth(1), shapes.contours().get(1));
+    let mut rest = shapes.iter();
+    rest.next();
+    assert_eq!((rest.len(), rest.size_hint()), (1, (1, Some(1))));
+}
+
+#[test]
+fn shapes_nest_as_in_i_overlay() {
+    let shapes = two_boxes_with_a_hole();
+    let hull = |x| vec![[x, 10], [x, 0], [x + 10, 0], [x + 10, 10]];
+    let hole = vec![[22, 2], [22, 6], [26, 6], [26, 2]];
+    assert_eq!(shapes.to_vec(), vec![vec![hull(0)], vec![hull(20), hole.clone()]]);
+    assert_eq!(shapes.contours().to_vec(), [hull(0), hull(20), hole]);
+}
+
+#[test]
+fn roles_are_those_of_lookup() {
+    let shapes = two_boxes_with_a_hole();
+    let contours = shapes.contours().to_vec();
+    let (points, len) = (contours.concat(), [4; 3]);
+    let table = lent::Table { points: points.as_flattened(), first: &[0, 4, 8], len: &len, kind: &[0, 0, 1] };
+    for contour in 0..4 {
+        let found = lent::lookup(table, shapes.owners(), contour).map(|record| record.role);
+        assert_eq!(shapes.role(contour), found);
+    }
+}
+
+#[test]
+fn segments_may_come_either_way_round() {
+    let frames = [frame([0, 0], 10, true), frame([2, 2], 4, false)].concat();
+    let turned = frames.iter().map(|segment| Segment {
+        a: segment.b,
+        b: segment.a,
+        fill_top: !segment.fill_top,
+        skipped: segment.skipped,
+    });
+    assert_eq!(Graph::from_segments(turned), Graph::from_segments(frames.iter().copied()));
+}
+
+#[test]
+fn links_and_their_segments() {
+    let mut graph = Graph::from_segments(frame([0, 0], 4, true));
+    let link = Link { a: [0, 0], b: [0, 4], a_id: 0, b_id: 1, fill_top: false, skipped: false };
+    assert_eq!((graph.link(0), graph.segment_of(0)), (Some(link), Some(1)));
+    assert_eq!((graph.link(1).unwrap().b, graph.segment_of(1)), ([4, 0], Some(0)));
+    assert_eq!((graph.link(4), graph.segment_of(4)), (None, None));
+    graph.push_link(Link { skipped: true, ..link });
+    assert_eq!((graph.link(4).unwrap().skipped, graph.segment_of(4)), (true, Some(4)));
+}
+
+#[test]
+fn a_workspace_is_used_again() {
+    let large = Graph::from_segments([frame([0, 0], 10, true), frame([2, 2], 4, false)].concat());
+    let small = Graph::from_segments(frame([0, 0], 4, true));
+    let mut open = small.clone();
+    open.push_node([]);
+    let options = Options::default();
+    let mut workspace = Workspace::new();
+    for graph in [&small, &large, &open, &small] {
+        let (due, found) = (graph.extract_shapes(options), workspace.extract_shapes(graph, options).cloned());
+        assert_eq!(found, due);
+        let lent: (Lists<'_>, &[u8]) = (graph.lists(), graph.skipped());
+        assert_eq!(workspace.extract_contours(lent, options).cloned(), graph.extract_contours(options));
+    }
+}
+
+#[test]
+fn filled_sides_alternate() {
+    let mut segments = [frame([0, 0], 4, true), frame([4, 4], 4, true)].concat();
+    assert_eq!(Graph::from_segments(segments.iter().copied()).sides_alternate(), Ok(()));
+    segments[1].fill_top = true;
+    let uneven = Graph::from_segments(segments.iter().copied()).sides_alternate().unwrap_err();
+    assert_eq!(uneven, UnevenNode { node: 0, point: [0, 0] });
+    assert_eq!(uneven.to_string(), "filled and empty do not come by turns round node 0 at (0, 0)");
+    // what is skipped does not count, and a cross of two filled corners does not alternate if one of them is turned
+    // round
+    segments[1].fill_top = false;
+    segments[4..].iter_mut().for_each(|segment| segment.skipped = true);
+    assert_eq!(Graph::from_segments(segments.iter().copied()).sides_alternate(), Ok(()));
+}
+
+#[test]
+fn interfaces_cross_threads() {
+    fn is_send_and_sync<T: Send + Sync>() {}
+    is_send_and_sync::<(Graph, Shapes, Workspace, guovdamas::Refusal)>();
+    let graph = Graph::from_segments(frame([0, 0], 4, true));
+    let find = || graph.extract_shapes(Options::default());
+    // binding and extraction fit the stack that is promised, with room for the thread itself
+    let found = std::thread::scope(|scope| {
+        let small = std::thread::Builder::new().stack_size(256 * 1024);
+        small.spawn_scoped(scope, find).expect("a thread is made").join().expect("it ends")
+    });
+    assert_eq!(found, find());
 }
