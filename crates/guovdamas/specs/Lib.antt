@@ -1,2 +1,3 @@
 -- The numbers at the boundary.
 pub mod Numbers
+pub mod Promises

@@ -1,46 +1,36 @@
--- Document 01's numbers and values for each case of each answer, as they stand in the structs that cross the boundary.
+-- The structs that cross the boundary hold document 01's numbers and values for each case of each answer, as extraction, binding and lookup
+-- set them out.
 use Prim.Native.Nat.{ℕ}
 use mathlib.Core.List.{List}
-use lib.IntN.{pos}
 use Rattle.scan.specs.declared.Extraction.{Extraction}
-use Rattle.scan.specs.declared.Extraction.the-variants.{Done, Refused}
+use Rattle.scan.specs.Values.{Values, valuesOf}
 use Rattle.extraction.specs.Extract.{Extracted}
 use Rattle.finish.specs.Finish.{Buffers}
-use Rattle.lookup.specs.Lookups.{roleOwner}
-use Rattle.lookup.specs.declared.records.Role.{Role}
-use Rattle.lookup.specs.declared.records.Role.the-variants.{Hull, Hole, Dropped}
 use Rattle.lookup.specs.declared.records.ContourRecord.{ContourRecord}
 use Rattle.lookup.specs.declared.records.Lookup.{Lookup}
-use Rattle.lookup.specs.declared.records.Lookup.the-variants.{Found, Missing}
+use Rattle.lookup.specs.declared.records.Lookup.the-variants.{Found}
+use Rattle.lookup.specs.Lookups.{LookupValues, valuesOfLookup}
 use Rattle.bind.specs.declared.Binding.{Binding}
-use Rattle.bind.specs.declared.Binding.the-variants.{Bound, Refused as Unbound}
-use Rattle.bind.specs.Outcome.{Outcome}
+use Rattle.bind.specs.Outcome.{Outcome, BindingValues, valuesOfBinding}
 use Rattle.guovdamas.specs.declared.GuovdamasExtraction.{GuovdamasExtraction}
 use Rattle.guovdamas.specs.declared.GuovdamasBinding.{GuovdamasBinding}
 use Rattle.guovdamas.specs.declared.GuovdamasRecord.{GuovdamasRecord}
 
--- ---- extraction: number 0 is done; "After any refusal the counts and totals are 0."
+-- ---- extraction
+abbrev pub extractionWith : Values → GuovdamasExtraction
+extractionWith v = record {
+  number = v .number;
+  place = v .place;
+  contours = v .counts .contours;
+  points = v .counts .points;
+  rejected = v .counts .rejected;
+  walked = v .counts .walked;
+  «kept_area» = v .counts .«kept_area»;
+  «rejected_area» = v .counts .«rejected_area»;
+}
+
 abbrev pub extractionOf : Extraction → GuovdamasExtraction
-extractionOf (Done c) = record {
-  number = 0;
-  place = 0;
-  contours = c .contours;
-  points = c .points;
-  rejected = c .rejected;
-  walked = c .walked;
-  «kept_area» = c .«kept_area»;
-  «rejected_area» = c .«rejected_area»;
-}
-extractionOf (Refused number place) = record {
-  number = number;
-  place = place;
-  contours = 0;
-  points = 0;
-  rejected = 0;
-  walked = 0;
-  «kept_area» = pos 0;
-  «rejected_area» = pos 0;
-}
+extractionOf e = extractionWith (valuesOf e)
 
 -- the answer with the whole of what was lent
 pub record Extracting : Type 0 where
@@ -51,12 +41,14 @@ abbrev pub extracting : GuovdamasExtraction → Buffers → Extracting
 extracting answer lent = record { answer = answer; lent = lent }
 
 abbrev pub numberedExtracted : Extracted → Extracting
-numberedExtracted e = extracting (extractionOf (e .answer)) (e .lent)
+numberedExtracted e = extracting (extractionWith (e .values)) (e .lent)
 
 -- ---- binding
+abbrev pub bindingWith : BindingValues → GuovdamasBinding
+bindingWith v = record { number = v .number; place = v .place; shapes = v .shapes; dropped = v .dropped }
+
 abbrev pub bindingOf : Binding → GuovdamasBinding
-bindingOf (Bound shapes dropped) = record { number = 0; place = 0; shapes = shapes; dropped = dropped }
-bindingOf (Unbound number place) = record { number = number; place = place; shapes = 0; dropped = 0 }
+bindingOf b = bindingWith (valuesOfBinding b)
 
 pub record Binds : Type 0 where
   pub answer : GuovdamasBinding
@@ -66,17 +58,14 @@ abbrev pub binding : GuovdamasBinding → List ℕ → Binds
 binding answer owner = record { answer = answer; owner = owner }
 
 abbrev pub numberedBound : Outcome → Binds
-numberedBound o = binding (bindingOf (o .answer)) (o .owner)
+numberedBound o = binding (bindingWith (o .values)) (o .owner)
 
--- ---- lookup: "hull with its number, hole with its parent's, or dropped hole", or "none"
-abbrev pub roleNumber : Role → ℕ
-roleNumber (Hull shape) = 0
-roleNumber (Hole shape) = 1
-roleNumber Dropped = 2
-
-abbrev pub foundRecord : ContourRecord → GuovdamasRecord
-foundRecord r = record { found = 1; role = roleNumber (r .role); owner = roleOwner (r .role); first = r .first; len = r .len }
+-- ---- lookup
+abbrev pub recordWith : LookupValues → GuovdamasRecord
+recordWith v = record { found = v .found; role = v .role; owner = v .owner; first = v .first; len = v .len }
 
 abbrev pub recordNumbers : Lookup → GuovdamasRecord
-recordNumbers (Found r) = foundRecord r
-recordNumbers Missing = record { found = 0; role = 0; owner = 0; first = 0; len = 0 }
+recordNumbers l = recordWith (valuesOfLookup l)
+
+abbrev pub foundRecord : ContourRecord → GuovdamasRecord
+foundRecord r = recordNumbers (Found r)

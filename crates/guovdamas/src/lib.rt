@@ -7,12 +7,10 @@ use scan::Extraction;
 ghost use mathlib.Core.Path.{_≡_};
 ghost use Rattle.graph.specs.Graph.{Lent, lent};
 ghost use Rattle.finish.specs.Finish.{Buffers, buffers};
-ghost use Rattle.extraction.specs.Extract.{extracted};
 ghost use Rattle.table.specs.Table.{Table, table};
-ghost use Rattle.lookup.specs.Lookups.{roleOwner, lookedUp};
-ghost use Rattle.bind.specs.Outcome.{bound};
-ghost use Rattle.guovdamas.specs.Numbers.{extractionOf, bindingOf, foundRecord, recordNumbers, roleNumber, extracting, numberedExtracted};
-ghost use Rattle.guovdamas.specs.Numbers.{binding, numberedBound};
+ghost use Rattle.lookup.specs.Lookups.{roleNumber, roleOwner};
+ghost use Rattle.guovdamas.specs.Numbers.{extractionOf, bindingOf, foundRecord, recordNumbers};
+ghost use Rattle.guovdamas.specs.Promises.{guovdamas-extract-says, guovdamas-bind-says, guovdamas-lookup-says};
 
 // What extraction answers: document 01's number and place, 0 and 0 when done; the counts and the signed doubled totals, all 0 after a refusal.
 #[repr(C)]
@@ -172,7 +170,7 @@ pub extern "C" fn guovdamas_extract(
         let before : Buffers = buffers (now (state .entry)) (now (points .entry)) (now (first .entry)) (now (len .entry))
         (now (kind .entry)) in
         let after : Buffers = buffers (now (state .exit)) (now (points .exit)) (now (first .exit)) (now (len .exit)) (now (kind .exit)) in
-        extracting r after ≡ numberedExtracted (extracted g (now (top .entry)) clockwise minimum before)) ⌝ }
+        guovdamas-extract-says g (now (top .entry)) clockwise minimum before r after) ⌝ }
 {
     let answer = extract::extract(
         ax,
@@ -206,7 +204,7 @@ pub extern "C" fn guovdamas_bind(
     owner: &mut [u16],
 ) -> GuovdamasBinding
     ensures { λ r. ⌜ (let t : Table = table (now (points .entry)) (now (first .entry)) (now (len .entry)) (now (kind .entry)) in
-        binding r (now (owner .exit)) ≡ numberedBound (bound t clockwise (now (owner .entry)))) ⌝ }
+        guovdamas-bind-says t clockwise (now (owner .entry)) r (now (owner .exit))) ⌝ }
 {
     let answer = bind::bind(points, first, len, kind, clockwise, owner);
     binding_of(answer)
@@ -223,7 +221,7 @@ pub extern "C" fn guovdamas_lookup(
     contour: usize,
 ) -> GuovdamasRecord
     ensures { λ r. ⌜ (let t : Table = table (now (points .entry)) (now (first .entry)) (now (len .entry)) (now (kind .entry)) in
-        r ≡ recordNumbers (lookedUp t (now (owner .entry)) contour)) ⌝ }
+        guovdamas-lookup-says t (now (owner .entry)) contour r) ⌝ }
 {
     record_of(lookup::lookup(points, first, len, kind, owner, contour))
 }

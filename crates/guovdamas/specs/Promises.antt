@@ -1,0 +1,42 @@
+-- What each public function promises, written once: its contract names it, and any two outcomes that it allows are equal.
+use Prim.Native.Nat.{ℕ}
+use mathlib.Core.List.{List}
+use mathlib.Core.Path.{_≡_, refl}
+use mathlib.Core.Bool.{Bool}
+use Rattle.laws.specs.Unique.{Determines, by-equation, same-part}
+use Rattle.graph.specs.Graph.{Lent}
+use Rattle.finish.specs.Finish.{Buffers}
+use Rattle.finish.specs.Promises.{SameBuffers, same-buffers}
+use Rattle.extraction.specs.Extract.{extracted}
+use Rattle.table.specs.Table.{Table}
+use Rattle.lookup.specs.Lookups.{lookedUpValues}
+use Rattle.bind.specs.Outcome.{bound}
+use Rattle.guovdamas.specs.declared.GuovdamasExtraction.{GuovdamasExtraction}
+use Rattle.guovdamas.specs.declared.GuovdamasBinding.{GuovdamasBinding}
+use Rattle.guovdamas.specs.declared.GuovdamasRecord.{GuovdamasRecord}
+use Rattle.guovdamas.specs.Numbers.{Extracting, extracting, numberedExtracted, Binds, binding, numberedBound, recordWith}
+
+abbrev pub guovdamas-extract-says : Lent → List ℕ → Bool → ℕ → Buffers → GuovdamasExtraction → Buffers → Type 0
+guovdamas-extract-says g top clockwise minimum before r after =
+    extracting r after ≡ numberedExtracted (extracted g top clockwise minimum before)
+
+pub guovdamas-extract-once : (g : Lent) (top : List ℕ) (clockwise : Bool) (minimum : ℕ) (before : Buffers) (r s : GuovdamasExtraction) (b c : Buffers)
+    → guovdamas-extract-says g top clockwise minimum before r b → guovdamas-extract-says g top clockwise minimum before s c
+    → (r ≡ s) × (SameBuffers b c)
+guovdamas-extract-once g top clockwise minimum before r s b c p q = (
+  same-part (λ (e : Extracting). e .answer) p q,
+  same-buffers (same-part (λ (e : Extracting). e .lent) p q) refl,
+)
+
+abbrev pub guovdamas-bind-says : Table → Bool → List ℕ → GuovdamasBinding → List ℕ → Type 0
+guovdamas-bind-says t clockwise owner r owner′ = binding r owner′ ≡ numberedBound (bound t clockwise owner)
+
+pub guovdamas-bind-once : (t : Table) (clockwise : Bool) (owner : List ℕ) (r s : GuovdamasBinding) (owner₁ owner₂ : List ℕ)
+    → guovdamas-bind-says t clockwise owner r owner₁ → guovdamas-bind-says t clockwise owner s owner₂ → (r ≡ s) × (owner₁ ≡ owner₂)
+guovdamas-bind-once t clockwise owner r s owner₁ owner₂ p q = (same-part (λ (o : Binds). o .answer) p q, same-part (λ (o : Binds). o .owner) p q)
+
+abbrev pub guovdamas-lookup-says : Table → List ℕ → ℕ → GuovdamasRecord → Type 0
+guovdamas-lookup-says t owner contour r = r ≡ recordWith (lookedUpValues t owner contour)
+
+pub guovdamas-lookup-once : (t : Table) (owner : List ℕ) (contour : ℕ) → Determines (guovdamas-lookup-says t owner contour)
+guovdamas-lookup-once t owner contour = by-equation (recordWith (lookedUpValues t owner contour))
