@@ -50,6 +50,7 @@ pub mod lent;
 mod options;
 mod outline;
 mod refusal;
+pub mod study;
 
 pub use graph::{Graph, Link, Lists, Segment};
 pub use options::{ContourDirection, Options};
