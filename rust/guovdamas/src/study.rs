@@ -1,5 +1,5 @@
-//! A study: a graph with its options, read from the program's file and written to it. docs/FORMAT.md shows the file byte by
-//! byte.
+//! A study: a graph with its options, read from the program's file and written to it. docs/FORMAT.md shows the file
+//! byte by byte.
 //!
 //! ```
 //! use guovdamas::study::Study;
@@ -126,7 +126,8 @@ impl Study {
         Ok(study)
     }
 
-    /// The record at the front of what is left of a file. The limits are judged at its head, whether its body is there or not.
+    /// The record at the front of what is left of a file. The limits are judged at its head, whether its body is there
+    /// or not.
     fn record<'a>(&self, rest: &'a [u8], offset: usize, last_kind: Option<u16>) -> Result<Record<'a>, StudyError> {
         let (head, after) = rest.split_at_checked(HEAD).ok_or(at(offset, Fault::Cut))?;
         let length = u32::from_le_bytes([head[0], head[1], head[2], head[3]]) as usize;

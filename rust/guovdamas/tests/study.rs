@@ -1,4 +1,4 @@
-//! Study files: read and written as the reading does, on every case, every cut of E2's file, limits and generated graphs.
+//! Study files: read and written as the reading does, on every case, every cut of E2's file, limits, generated graphs.
 
 use generators::planar::{FAMILIES, sample};
 use generators::rng::Rng;

@@ -58,8 +58,8 @@ impl Walk {
         if self.hole { 2 } else { 3 }
     }
 
-    /// Goes along a link from a node, marks it, and says which node it comes to. Rule 5: "the beginning, then the point of
-    /// each node left".
+    /// Goes along a link from a node, marks it, and says which node it comes to. Rule 5: "the beginning, then the point
+    /// of each node left".
     fn take(&mut self, graph: &Graph, state: &mut [u8], link: usize, node: usize) -> usize {
         self.points.push(graph.end_at(link, node));
         self.links.push(link);

@@ -1,7 +1,8 @@
 //! Draws a study as i_overlay 9.0.1 reads it: `cargo run -p study --example crate_reading -- study.graph out.svg`.
 //!
-//! The crate's scan moves on after each rejected walk (D1), and its anchor edges are sought at every visit (D2). The crate
-//! cannot be built here; the reading with these two rules answers what the crate's given text does (docs/DIFFERENCES.md).
+//! The crate's scan moves on after each rejected walk (D1), and its anchor edges are sought at every visit (D2). The
+//! crate cannot be built here; the reading with these two rules answers what the crate's given text answers
+//! (docs/DIFFERENCES.md).
 
 use guovdamas::study::Study;
 use reading::bind::{Table, Visits, bind_seeing};

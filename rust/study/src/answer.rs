@@ -1,5 +1,7 @@
-//! What a study answers, as it is shown and drawn: shapes, dropped holes and rejected patches, or a refusal and its place.
+//! What a study answers, as it is shown and drawn: shapes, dropped holes and rejected patches, or a refusal with its
+//! place.
 
+use crate::view::misfits;
 use guovdamas::lent::Counts;
 use guovdamas::study::Study;
 use guovdamas::{Contour, ContourDirection, ContourKind, Contours, Refusal, Shapes};
@@ -67,10 +69,12 @@ impl Found {
         doubled_sum(&self.dropped)
     }
 
-    /// Rejected hulls less rejected holes.
-    pub fn doubled_rejected(&self) -> i128 {
-        let signed = |patch: &Patch| if patch.is_hole { -patch.doubled_area } else { patch.doubled_area };
-        self.rejected.iter().map(signed).sum()
+    /// Rejected hulls, and rejected holes.
+    pub fn doubled_rejected(&self) -> [i128; 2] {
+        [false, true].map(|holes| {
+            let ours = self.rejected.iter().filter(|patch| patch.is_hole == holes);
+            ours.map(|patch| patch.doubled_area).sum()
+        })
     }
 }
 
@@ -80,7 +84,7 @@ pub enum Place {
     /// The graph as a whole.
     Whole,
     Link(usize),
-    Node(usize),
+    Nodes(Vec<usize>),
     Contour(Patch),
 }
 
@@ -108,7 +112,8 @@ fn place(study: &Study, refusal: Refusal) -> Place {
     let at = refusal.place() as usize;
     match refusal.number() {
         3 | 4 | 8 | 9 => Place::Link(at),
-        6 | 7 => Place::Node(at),
+        5 => Place::Nodes(misfits(study)),
+        6 | 7 => Place::Nodes(vec![at]),
         12 => match study.extract_contours().ok().as_ref().and_then(|contours| contours.get(at)) {
             Some(contour) => Place::Contour(Patch::new(at, &contour, study.options.output_direction)),
             None => Place::Whole,
@@ -129,8 +134,8 @@ fn found(study: &Study, shapes: &Shapes) -> Result<Found, String> {
     })
 }
 
-/// The library counts rejected walks and does not hand them out. A rejected walk changes no other (rule 7), so with minimum 0
-/// the same walks come, all of them kept: those below the minimum are the rejected ones.
+/// The library counts rejected walks and does not hand them out. A rejected walk changes no other (rule 7), so with
+/// minimum 0 the same walks come, all of them kept: those below the minimum are the rejected ones.
 fn rejected(study: &Study, counts: Counts) -> Result<Vec<Patch>, String> {
     let mut all = study.clone();
     all.options.min_output_area = 0;

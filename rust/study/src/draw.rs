@@ -4,6 +4,7 @@ use crate::answer::{Answer, Found, Patch, Shape, answer};
 use crate::label::{Item, Labels, Spot};
 use crate::refused;
 use crate::sheet::{Entry, Key, Sheet};
+use crate::show::rejected_words;
 use crate::svg::{Anchor, Edge, Pixel, Svg};
 use crate::units::{count, square_mm};
 use crate::view::{Frame, Link, links};
@@ -12,6 +13,7 @@ use guovdamas::study::Study;
 pub const INK: &str = "#222222";
 const SKIPPED: &str = "fill=\"none\" stroke=\"#888888\" stroke-width=\"1.2\" stroke-dasharray=\"6 4\"";
 const REJECTED: Colours = Colours { fill: [255, 205, 150], line: [190, 80, 0] };
+const REJECTED_HOLE: Colours = Colours { fill: [255, 238, 217], ..REJECTED };
 const DROPPED: Colours = Colours { fill: [236, 236, 236], line: [90, 90, 90] };
 /// So many shapes, rejected patches and dropped holes, of each, have a line in the legend; the others share one.
 const LISTED: usize = 40;
@@ -31,19 +33,22 @@ pub fn found(title: &str, links: &[Link], found: &Found) -> String {
     let heading = format!(
         "{title}: {}, {}, {}",
         sum(found.shapes.len(), "shape", found.doubled_net()),
-        sum(found.rejected.len(), "rejected patch", found.doubled_rejected()),
+        rejected(found),
         sum(found.dropped.len(), "dropped hole", found.doubled_dropped()),
     );
+    // a number and its unit are not parted by the end of a line
+    let heading = heading.replace(" mm²", "\u{a0}mm²");
     let sheet = Sheet::new(Frame::of_links(links), &heading, INK, entries(links, found));
     let mut svg = Svg::default();
     for (number, Shape { hull, holes }) in found.shapes.iter().enumerate() {
         let rings: Vec<Vec<Pixel>> = [hull].into_iter().chain(holes).map(|patch| sheet.ring(&patch.points)).collect();
         svg.path(rings.iter().map(Vec::as_slice), true, &shape_colours(number).style());
     }
-    for (patches, colours) in [(&found.dropped, DROPPED), (&found.rejected, REJECTED)] {
-        for patch in patches {
-            svg.path([&sheet.ring(&patch.points)[..]], true, &colours.style());
-        }
+    for hole in &found.dropped {
+        svg.path([&sheet.ring(&hole.points)[..]], true, &DROPPED.style());
+    }
+    for patch in &found.rejected {
+        svg.path([&sheet.ring(&patch.points)[..]], true, &rejected_colours(patch).style());
     }
     let skipped = skipped_edges(&sheet, links);
     draw_skipped(&mut svg, &skipped);
@@ -54,8 +59,14 @@ pub fn found(title: &str, links: &[Link], found: &Found) -> String {
 fn sum(number: usize, word: &str, doubled: i128) -> String {
     match number {
         0 => format!("no {word}"),
-        // a number and its unit are not parted by the end of a line
-        _ => format!("{} of {}\u{a0}mm²", count(number, word), square_mm(doubled)),
+        _ => format!("{} of {} mm²", count(number, word), square_mm(doubled)),
+    }
+}
+
+fn rejected(found: &Found) -> String {
+    match found.rejected.len() {
+        0 => "no rejected patch".into(),
+        some => count(some, "rejected patch") + &rejected_words(found),
     }
 }
 
@@ -82,19 +93,25 @@ fn entries(links: &[Link], found: &Found) -> Vec<Entry> {
     for (number, shape) in found.shapes.iter().enumerate().take(LISTED) {
         entries.push(entry(shape_colours(number), shape_words(number, shape)));
     }
-    entries.extend(rest(&found.shapes, "shape", Shape::doubled_net));
-    for (patches, what, colours) in [(&found.rejected, "rejected", REJECTED), (&found.dropped, "dropped", DROPPED)] {
+    entries.extend(rest(&found.shapes, "more shape", Shape::doubled_net));
+    let groups = [(&found.rejected, "rejected"), (&found.dropped, "dropped")];
+    for (patches, what) in groups {
         for patch in patches.iter().take(LISTED) {
+            let colours = if what == "dropped" { DROPPED } else { rejected_colours(patch) };
             let area = square_mm(patch.doubled_area);
             entries.push(entry(colours, format!("{what} {}: {area} mm² ({})", patch.number, patch.kind())));
         }
-        entries.extend(rest(patches, what, |patch| patch.doubled_area));
+        entries.extend(rest(patches, &format!("more {what} patch"), |patch| patch.doubled_area));
     }
     entries.extend(skipped_entry(links));
-    let [net, rejected] = [found.doubled_net(), found.doubled_rejected()];
-    let totals = [("net", net), ("rejected", rejected), ("dropped", found.doubled_dropped())];
-    let totals = totals.map(|(what, doubled)| format!("{what} {} mm²", square_mm(doubled)));
-    entries.push(Entry { key: Key::Nothing, words: format!("in all: {}", totals.join(", ")) });
+    let mut totals = vec![format!("net in all: {} mm²", square_mm(found.doubled_net()))];
+    if !found.rejected.is_empty() {
+        totals.push(format!("rejected in all:{}", rejected_words(found).trim_start_matches(" of")));
+    }
+    if !found.dropped.is_empty() {
+        totals.push(format!("dropped in all: {} mm²", square_mm(found.doubled_dropped())));
+    }
+    entries.extend(totals.into_iter().map(|words| Entry { key: Key::Nothing, words }));
     entries
 }
 
@@ -119,7 +136,7 @@ fn shape_words(number: usize, shape: &Shape) -> String {
 fn rest<T>(all: &[T], what: &str, doubled: impl Fn(&T) -> i128) -> Option<Entry> {
     let others = all.get(LISTED..).filter(|others| !others.is_empty())?;
     let area = square_mm(others.iter().map(doubled).sum());
-    Some(Entry { key: Key::Nothing, words: format!("{} more of {what}: {area} mm² in all", others.len()) })
+    Some(Entry { key: Key::Nothing, words: format!("{}: {area} mm² in all", count(others.len(), what)) })
 }
 
 fn draw_labels(svg: &mut Svg, sheet: &Sheet, found: &Found, skipped: Vec<Edge>) {
@@ -186,8 +203,12 @@ fn hexadecimal([red, green, blue]: [u8; 3]) -> String {
     format!("#{red:02x}{green:02x}{blue:02x}")
 }
 
-/// A hue of its own for each shape, none near the orange of rejected patches or the red of a refusal's place: each is the
-/// golden section of the range on from the last, so that neighbours differ.
+fn rejected_colours(patch: &Patch) -> Colours {
+    if patch.is_hole { REJECTED_HOLE } else { REJECTED }
+}
+
+/// A hue of its own for each shape, none near the orange of rejected patches or the red of a refusal's place: each is
+/// the golden section of the range on from the last, so that neighbours differ.
 fn shape_colours(number: usize) -> Colours {
     let part = (0.55 + number as f64 * 0.618_034).fract();
     let hue = 80.0 + 230.0 * part;

@@ -1,4 +1,5 @@
-//! Where labels go: inside what they name where there is room, else beside it with a leader line, and never over one another.
+//! Where labels go: inside what they name where there is room, else beside it with a leader line, and never over one
+//! another.
 
 use crate::svg::{Edge, LINE, Pixel, Rect, distance, lines_width};
 
@@ -8,11 +9,11 @@ pub const SMALL: f64 = 10.5;
 /// Clear room round a label.
 const CLEAR: f64 = 2.5;
 /// How far from what it names a label with a leader line may stand.
-const FAR: [f64; 10] = [16.0, 26.0, 38.0, 52.0, 70.0, 95.0, 130.0, 170.0, 220.0, 280.0];
+const FAR: [f64; 8] = [16.0, 26.0, 38.0, 52.0, 70.0, 95.0, 130.0, 170.0];
 /// And one without.
 const CLOSE: [f64; 3] = [5.0, 8.0, 12.0];
 /// So many labels with leader lines at the most: with more of them nothing could be told apart.
-const LED: usize = 60;
+const LED: usize = 24;
 
 /// What is to be labelled: a ring of points, the lines of its label, and one word for where there is little room.
 pub struct Item {
@@ -159,6 +160,7 @@ impl Labels {
             self.is_free(rect)
                 && !self.edges.iter().chain(&self.leaders).any(|&edge| rect.grown(CLEAR).meets(edge))
                 && !self.taken.iter().any(|other| other.meets(leader))
+                && !self.leaders.iter().any(|&other| cross(other, leader))
         };
         let is_blank = |rect: &&Rect| !self.rings.iter().any(|ring| ring.holds(rect.centre()));
         let rect = *rects.iter().filter(is_clear).find(is_blank).or_else(|| rects.iter().find(is_clear))?;
@@ -184,6 +186,13 @@ fn rects_round(from: Pixel, far: f64, room: [f64; 2]) -> impl Iterator<Item = Re
     let directions = parts.into_iter().flat_map(|part| [[1.0, part], [-1.0, part], [part, -1.0], [part, 1.0]]);
     let centre = move |direction: Pixel| [0, 1].map(|axis| from[axis] + direction[axis] * (far + room[axis] / 2.0));
     directions.map(move |direction| Rect::around(centre(direction), room))
+}
+
+/// Whether each edge has the other's ends on both of its sides.
+fn cross(p: Edge, q: Edge) -> bool {
+    let side = |[a, b]: Edge, c: Pixel| (b[0] - a[0]) * (c[1] - a[1]) - (b[1] - a[1]) * (c[0] - a[0]);
+    let parts = |edge: Edge, other: Edge| side(edge, other[0]) * side(edge, other[1]) < 0.0;
+    parts(p, q) && parts(q, p)
 }
 
 /// The point of a box that is nearest to a point.

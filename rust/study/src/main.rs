@@ -10,7 +10,7 @@ use study::{draw, show, text};
 const HELP: &str = "\
 study: shows, draws, dumps and makes studies, the files that the program reads (docs/FORMAT.md)
 
-  study show FILE [--json]     what is in it, and what is answered: shapes, rejected patches, dropped holes, or a refusal
+  study show FILE [--json]     what is in it and what is answered: shapes, rejected patches, dropped holes, or a refusal
   study draw FILE OUT.svg      a picture of it; a study that is refused is drawn too, with the place in red
   study dump FILE              its text form, on standard output
   study make TEXT OUT.graph    the study of a text

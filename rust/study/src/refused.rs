@@ -5,10 +5,10 @@ use crate::draw::{INK, draw_skipped, draw_spot, skipped_edges, skipped_entry};
 use crate::label::{Item, Labels};
 use crate::sheet::{Entry, Key, Sheet};
 use crate::show::place_words;
+use crate::stuck::{Stuck, stuck_walk};
 use crate::svg::{Edge, Pixel, Svg, length};
-use crate::view::{Frame, Link, links, loose_ends, nodes, points_at};
+use crate::view::{Frame, Link, links, nodes, points_at};
 use guovdamas::study::Study;
-use reading::walk::{Scan, Walk, walks_or_stuck};
 
 const RED: &str = "#cc0000";
 const PLACE: &str = "fill=\"none\" stroke=\"#cc0000\" stroke-width=\"2.5\"";
@@ -41,65 +41,37 @@ pub fn picture(title: &str, study: &Study, refused: &Refused) -> Result<String, 
         svg.path([&sheet.ring(&marks.contour)[..]], true, HOLE);
     }
     if let Some(walk) = &walk {
-        draw_walk(&mut svg, &sheet.ring(&way(walk, &links)));
+        draw_walk(&mut svg, &sheet.ring(&walk.points));
     }
     draw_links(&mut svg, &sheet, &links, &marks);
-    draw_names(&mut svg, &sheet, &links, refused, &marks);
+    draw_names(&mut svg, &sheet, &links, refused);
     Ok(sheet.finish(svg))
-}
-
-/// The walk that was refused with 8 or 9, as far as it came, by the reading in plain Rust: the library hands out none.
-fn stuck_walk(study: &Study, refused: &Refused) -> Result<Option<Walk>, String> {
-    if !matches!(refused.refusal.number(), 8 | 9) {
-        return Ok(None);
-    }
-    let file = study.encode().map_err(|error| error.to_string())?;
-    let read = reading::file::parse(&file).map_err(|refusal| format!("the reading answers {refusal:?}"))?;
-    let stuck = walks_or_stuck(&read.graph, &read.state, read.settings, Scan::Stays).err();
-    let refusal = |stuck: &reading::walk::Stuck| (stuck.refusal.number, stuck.refusal.place);
-    match stuck.filter(|stuck| refusal(stuck) == (refused.refusal.number(), refused.refusal.place())) {
-        Some(stuck) => Ok(Some(stuck.walk).filter(|walk| !walk.links.is_empty())),
-        None => Err(format!("the reading does not say {}", refused.refusal)),
-    }
-}
-
-/// The points that a walk passed, the last link's other end too.
-fn way(walk: &Walk, links: &[Link]) -> Vec<Point> {
-    let mut points: Vec<Point> = walk.points.iter().map(|point| [point.x, point.y]).collect();
-    if let (Some(&link), Some(&left)) = (walk.links.last(), points.last()) {
-        let [a, b] = links[link].ends;
-        points.push(if left == a { b } else { a });
-    }
-    points
 }
 
 fn marks(study: &Study, links: &[Link], refused: &Refused) -> Marks {
     let mut marks = Marks { links: Vec::new(), points: Vec::new(), contour: Vec::new() };
     match &refused.place {
-        Place::Whole => marks.points = loose_ends(links),
+        Place::Whole => {}
         Place::Link(link) => marks.links = vec![*link],
-        Place::Node(node) => {
-            marks.links = nodes(study)[*node].iter().map(|&entry| entry as usize).collect();
-            marks.points = points_at(study, *node);
+        Place::Nodes(at) => {
+            marks.points = at.iter().flat_map(|&node| points_at(links, node)).collect();
+            // of a list that does not fit no link is to be trusted
+            if refused.refusal.number() != 5 {
+                marks.links = at.iter().flat_map(|&node| nodes(study)[node]).map(|&entry| entry as usize).collect();
+            }
         }
         Place::Contour(patch) => marks.contour = patch.points.clone(),
     }
     marks
 }
 
-fn entries(study: &Study, links: &[Link], refused: &Refused, walk: Option<&Walk>) -> Vec<Entry> {
+fn entries(study: &Study, links: &[Link], refused: &Refused, walk: Option<&Stuck>) -> Vec<Entry> {
     let entry = |style: &str, words: &str| Entry { key: Key::Line(style.into()), words: words.into() };
     let mut entries = vec![entry(LINKS, "link"), entry(TICKS, "its filled side")];
     entries.extend(skipped_entry(links));
-    let place = place_words(study, &refused.place);
-    let is_loose = refused.place == Place::Whole && !loose_ends(links).is_empty();
-    match place.trim() {
-        "" if is_loose => entries.push(entry(PLACE, "only one link ends here")),
-        "" => {}
-        place => entries.push(entry(PLACE, place)),
-    }
+    entries.extend(place_words(study, &refused.place).lines().map(|line| entry(PLACE, line.trim())));
     if let Some(walk) = walk {
-        let kind = if walk.hole { "hole" } else { "hull" };
+        let kind = if walk.is_hole { "hole" } else { "hull" };
         entries.push(entry(WALK, &format!("the walk of a {kind}, from the dot to the ring, where it stuck")));
     }
     entries
@@ -122,6 +94,10 @@ fn direction(p: Pixel, q: Pixel) -> Pixel {
     [(q[0] - p[0]) / length, (q[1] - p[1]) / length]
 }
 
+fn middle([p, q]: Edge) -> Pixel {
+    [(p[0] + q[0]) / 2.0, (p[1] + q[1]) / 2.0]
+}
+
 /// A head of an arrow, two thirds of the way.
 fn arrow(p: Pixel, q: Pixel) -> [Pixel; 3] {
     let [x, y] = direction(p, q);
@@ -130,13 +106,13 @@ fn arrow(p: Pixel, q: Pixel) -> [Pixel; 3] {
     [tip, back(1.0), back(-1.0)]
 }
 
-/// From the middle of a link to its filled side: its left if its top is 1. On the picture, whose y points downward, the left
-/// of x, y is y, -x.
+/// From the middle of a link to its filled side: its left if its top is 1. On the picture, whose y points downward, the
+/// left of x, y is y, -x.
 fn tick(link: &Link, [p, q]: Edge) -> Edge {
     let [x, y] = direction(p, q);
     let side = if link.top == 1 { TICK } else { -TICK };
-    let middle = [(p[0] + q[0]) / 2.0, (p[1] + q[1]) / 2.0];
-    [middle, [middle[0] + side * y, middle[1] - side * x]]
+    let from = middle([p, q]);
+    [from, [from[0] + side * y, from[1] - side * x]]
 }
 
 fn draw_links(svg: &mut Svg, sheet: &Sheet, links: &[Link], marks: &Marks) {
@@ -159,23 +135,31 @@ fn draw_edges(svg: &mut Svg, edges: Vec<Edge>, style: &str) {
 }
 
 /// The place's name with a leader line, then the links' numbers as far as there is room.
-fn draw_names(svg: &mut Svg, sheet: &Sheet, links: &[Link], refused: &Refused, marks: &Marks) {
-    let middle = |[p, q]: Edge| [(p[0] + q[0]) / 2.0, (p[1] + q[1]) / 2.0];
+fn draw_names(svg: &mut Svg, sheet: &Sheet, links: &[Link], refused: &Refused) {
     let lines = links.iter().filter_map(|link| sheet.edge(link).map(|edge| [edge, tick(link, edge)])).flatten();
     let mut labels = Labels::new(sheet.area(), &[] as &[Item], lines.collect());
-    let number = refused.refusal.place();
-    let named = match &refused.place {
-        Place::Whole => None,
-        Place::Link(k) => links.get(*k).and_then(|link| Some((middle(sheet.edge(link)?), format!("link {number}")))),
-        Place::Node(_) => marks.points.first().map(|&point| (sheet.at(point), format!("node {number}"))),
-        Place::Contour(patch) => patch.points.first().map(|&point| (sheet.at(point), format!("contour {number}"))),
-    };
-    if let Some((from, name)) = named {
+    for (from, name) in names(sheet, links, &refused.place) {
         draw_spot(svg, labels.beside(from, &name).as_ref(), RED);
     }
     for (k, link) in links.iter().enumerate().filter(|_| links.len() <= NUMBERED) {
         if let Some(edge) = sheet.edge(link).filter(|_| refused.place != Place::Link(k)) {
             draw_spot(svg, labels.close(middle(edge), &k.to_string()).as_ref(), INK);
         }
+    }
+}
+
+/// What the refusal speaks of, by name, and where on the picture it is.
+fn names(sheet: &Sheet, links: &[Link], place: &Place) -> Vec<(Pixel, String)> {
+    let at = |point: Option<&Point>, name: String| point.map(|&point| (sheet.at(point), name));
+    match place {
+        Place::Whole => Vec::new(),
+        Place::Link(k) => {
+            let edge = links.get(*k).and_then(|link| sheet.edge(link));
+            edge.map(|edge| (middle(edge), format!("link {k}"))).into_iter().collect()
+        }
+        Place::Nodes(nodes) => {
+            nodes.iter().filter_map(|&node| at(points_at(links, node).first(), format!("node {node}"))).collect()
+        }
+        Place::Contour(patch) => at(patch.points.first(), format!("contour {}", patch.number)).into_iter().collect(),
     }
 }

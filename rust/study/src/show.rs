@@ -2,14 +2,18 @@
 
 use crate::answer::{Answer, Found, Patch, Place, Point, Refused, Shape, answer};
 use crate::json::Json;
+use crate::stuck::stuck_walk;
 use crate::units::{count, mm, square_mm};
 use crate::view::{Frame, Link, links, nodes, points_at};
 use guovdamas::study::{Study, StudyError};
 
+/// So many nodes that a refusal speaks of are told.
+const NODES: usize = 6;
+
 /// The words for a file.
 pub fn words(file: &[u8]) -> Result<String, String> {
     match Study::parse(file) {
-        Ok(study) => Ok(content(&study) + &answered(&study, &answer(&study)?)),
+        Ok(study) => Ok(content(&study) + &answered(&study, &answer(&study)?)?),
         Err(error) => Ok(format!("{error}\n")),
     }
 }
@@ -19,7 +23,7 @@ pub fn json(file: &[u8]) -> Result<String, String> {
     let json = match Study::parse(file) {
         Ok(study) => {
             let mut members = content_json(&study);
-            members.extend(answer_json(&study, &answer(&study)?));
+            members.extend(answer_json(&study, &answer(&study)?)?);
             Json::Object(members)
         }
         Err(error) => Json::Object(vec![("refused", form_json(&error))]),
@@ -51,22 +55,31 @@ fn content(study: &Study) -> String {
             format!("x {}, y {} mm: {size}", axis(0), axis(1))
         }
     };
-    format!(
-        "links      {}, {} skipped\nnodes      {}, {}\ndirection  {}\nminimum    {minimum} units² ({} mm²)\nframe      {frame}\n",
-        links.len(),
-        skipped(&links),
-        nodes(study).len(),
-        count(crosses(study), "cross"),
-        direction(study),
-        square_mm(i128::from(minimum) * 2),
-    )
+    let lines = [
+        format!("links      {}, {} skipped", links.len(), skipped(&links)),
+        format!("nodes      {}, {}", nodes(study).len(), count(crosses(study), "cross")),
+        format!("direction  {}", direction(study)),
+        format!("minimum    {minimum} units² ({} mm²)", square_mm(i128::from(minimum) * 2)),
+        format!("frame      {frame}"),
+    ];
+    lines.join("\n") + "\n"
 }
 
-fn answered(study: &Study, answer: &Answer) -> String {
-    match answer {
-        Answer::Found(found) => found_words(found),
-        Answer::Refused(refused) => format!("{}\n{}", refused.refusal, place_words(study, &refused.place)),
-    }
+fn answered(study: &Study, answer: &Answer) -> Result<String, String> {
+    let refused = match answer {
+        Answer::Found(found) => return Ok(found_words(found)),
+        Answer::Refused(refused) => refused,
+    };
+    let walk = stuck_walk(study, refused)?.map_or(String::new(), |walk| {
+        let kind = if walk.is_hole { "hole" } else { "hull" };
+        let points: Vec<String> = walk.points.iter().map(|&point| point_words(point)).collect();
+        format!("  the walk of a {kind}, links {}: {}, where it stuck\n", joined(&walk.links), points.join(" "))
+    });
+    Ok(format!("{}\n{}{walk}", refused.refusal, place_words(study, &refused.place)))
+}
+
+fn joined(numbers: &[impl ToString]) -> String {
+    numbers.iter().map(ToString::to_string).collect::<Vec<_>>().join(" ")
 }
 
 fn found_words(found: &Found) -> String {
@@ -75,15 +88,24 @@ fn found_words(found: &Found) -> String {
         lines.push(shape_words(number, shape));
         lines.extend(shape.holes.iter().map(|hole| patch_words("hole", hole)));
     }
-    let group = |name: &str, patches: &[Patch], sum: i128| {
-        let sum = if patches.is_empty() { String::new() } else { format!(", {} mm²", square_mm(sum)) };
-        format!("{name:<10} {}{sum}", patches.len())
-    };
-    lines.push(group("rejected", &found.rejected, found.doubled_rejected()));
+    lines.push(format!("rejected   {}{}", count(found.rejected.len(), "patch"), rejected_words(found)));
     lines.extend(found.rejected.iter().map(|patch| patch_words(&format!("{}, rejected", patch.kind()), patch)));
-    lines.push(group("dropped", &found.dropped, found.doubled_dropped()));
+    let dropped = square_mm(found.doubled_dropped());
+    lines.push(format!("dropped    {} of {dropped} mm²", count(found.dropped.len(), "hole")));
     lines.extend(found.dropped.iter().map(|hole| patch_words("dropped hole", hole)));
     lines.join("\n") + "\n"
+}
+
+/// How much was rejected, hulls and holes by themselves.
+pub fn rejected_words(found: &Found) -> String {
+    let [hulls, holes] = found.doubled_rejected().map(|doubled| format!("{} mm²", square_mm(doubled)));
+    let is_there = |is_hole: bool| found.rejected.iter().any(|patch| patch.is_hole == is_hole);
+    match (is_there(false), is_there(true)) {
+        (false, false) => String::new(),
+        (true, false) => format!(" of {hulls}"),
+        (false, true) => format!(" of {holes} (holes)"),
+        (true, true) => format!(" of {hulls} (hulls) and {holes} (holes)"),
+    }
 }
 
 fn shape_words(number: usize, shape: &Shape) -> String {
@@ -109,7 +131,7 @@ fn point_words([x, y]: Point) -> String {
     format!("({x}, {y})")
 }
 
-/// The line that says where a refusal's place lies.
+/// The lines that say where a refusal's place lies.
 pub fn place_words(study: &Study, place: &Place) -> String {
     match place {
         Place::Whole => String::new(),
@@ -118,13 +140,16 @@ pub fn place_words(study: &Study, place: &Place) -> String {
             let [a_id, b_id] = link.ids;
             format!("  link {k}: {a} to {b}, nodes {a_id} and {b_id}, top {}, state {}\n", link.top, link.state)
         }),
-        Place::Node(node) => {
-            let points: Vec<String> = points_at(study, *node).into_iter().map(point_words).collect();
-            let entries: Vec<String> = nodes(study)[*node].iter().map(u32::to_string).collect();
-            format!("  node {node}: at {}, links {}\n", points.join(" and "), entries.join(" "))
-        }
+        Place::Nodes(at) => at.iter().take(NODES).map(|&node| node_words(study, node)).collect(),
         Place::Contour(patch) => patch_words(&format!("{} without a shape", patch.kind()), patch) + "\n",
     }
+}
+
+fn node_words(study: &Study, node: usize) -> String {
+    let points: Vec<String> = points_at(&links(study), node).into_iter().map(point_words).collect();
+    let at = if points.is_empty() { "no link's end".into() } else { points.join(" and ") };
+    let list = joined(nodes(study)[node]);
+    format!("  node {node}: at {at}, links {}\n", if list.is_empty() { "none" } else { &list })
 }
 
 fn content_json(study: &Study) -> Vec<(&'static str, Json)> {
@@ -145,21 +170,22 @@ fn content_json(study: &Study) -> Vec<(&'static str, Json)> {
     ]
 }
 
-fn answer_json(study: &Study, answer: &Answer) -> Vec<(&'static str, Json)> {
+fn answer_json(study: &Study, answer: &Answer) -> Result<Vec<(&'static str, Json)>, String> {
     let found = match answer {
-        Answer::Refused(refused) => return vec![("refused", refused_json(study, refused))],
+        Answer::Refused(refused) => return Ok(vec![("refused", refused_json(study, refused)?)]),
         Answer::Found(found) => found,
     };
     let area = |doubled| Json::Number(square_mm(doubled));
-    vec![
+    Ok(vec![
         ("refused", Json::Null),
         ("shapes", Json::list(found.shapes.iter().enumerate(), |(number, shape)| shape_json(number, shape))),
         ("rejected", Json::list(&found.rejected, patch_json)),
         ("dropped", Json::list(&found.dropped, patch_json)),
         ("net_mm2", area(found.doubled_net())),
-        ("rejected_mm2", area(found.doubled_rejected())),
+        ("rejected_hulls_mm2", area(found.doubled_rejected()[0])),
+        ("rejected_holes_mm2", area(found.doubled_rejected()[1])),
         ("dropped_mm2", area(found.doubled_dropped())),
-    ]
+    ])
 }
 
 fn shape_json(number: usize, shape: &Shape) -> Json {
@@ -184,21 +210,23 @@ fn points_json(points: &[Point]) -> Json {
     Json::list(points, |point| Json::list(point, Json::number))
 }
 
-fn refused_json(study: &Study, refused: &Refused) -> Json {
+fn refused_json(study: &Study, refused: &Refused) -> Result<Json, String> {
     let refusal = refused.refusal;
+    let walk = stuck_walk(study, refused)?;
     let (what, points) = match &refused.place {
         Place::Whole => ("graph", Vec::new()),
         Place::Link(k) => ("link", links(study).get(*k).map_or(Vec::new(), |link| link.ends.to_vec())),
-        Place::Node(node) => ("node", points_at(study, *node)),
+        Place::Nodes(at) => ("node", at.iter().flat_map(|&node| points_at(&links(study), node)).collect()),
         Place::Contour(patch) => ("contour", patch.points.clone()),
     };
-    Json::Object(vec![
+    Ok(Json::Object(vec![
         ("number", Json::number(refusal.number())),
         ("place", Json::number(refusal.place())),
         ("of", Json::Text(what.into())),
         ("points", points_json(&points)),
         ("reason", Json::Text(refusal.to_string())),
-    ])
+        ("walk", walk.map_or(Json::Null, |walk| points_json(&walk.points))),
+    ]))
 }
 
 /// A file that is not of the right form, or passes its limits.

@@ -48,11 +48,8 @@ impl Svg {
         for (at, line) in lines.iter().enumerate() {
             let y = within.top + (LINE * at as f64 + BASE) * size;
             let (x, y, size, line) = (px(x), px(y), px(size), escaped(line));
-            writeln!(
-                self.body,
-                "<text x=\"{x}\" y=\"{y}\" font-size=\"{size}\"{attribute} fill=\"{colour}\">{line}</text>"
-            )
-            .expect("strings take all");
+            let place = format!("x=\"{x}\" y=\"{y}\" font-size=\"{size}\"{attribute}");
+            writeln!(self.body, "<text {place} fill=\"{colour}\">{line}</text>").expect("strings take all");
         }
     }
 

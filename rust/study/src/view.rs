@@ -32,22 +32,29 @@ pub fn nodes(study: &Study) -> Vec<&[u32]> {
     start.windows(2).map(|ends| &list[ends[0] as usize..ends[1] as usize]).collect()
 }
 
+/// The links that name a node, as its list should: once for each such end.
+fn due_at(links: &[Link], node: usize) -> impl Iterator<Item = (u32, Point)> {
+    let ends = move |(k, link): (u32, &Link)| [0, 1].map(|end| (link.ids[end], k, link.ends[end]));
+    (0..).zip(links).flat_map(ends).filter(move |(id, ..)| *id as usize == node).map(|(_, k, point)| (k, point))
+}
+
 /// The points of the ends that meet at a node, each once: one point in a graph that passes check 6.
-pub fn points_at(study: &Study, node: usize) -> Vec<Point> {
-    let links = links(study);
-    let entries = nodes(study)[node].iter().filter_map(|&entry| links.get(entry as usize));
-    let ends = entries.flat_map(|link| (0..2).filter(|&end| link.ids[end] as usize == node).map(|end| link.ends[end]));
-    let mut points: Vec<Point> = ends.collect();
+pub fn points_at(links: &[Link], node: usize) -> Vec<Point> {
+    let mut points: Vec<Point> = due_at(links, node).map(|(_, point)| point).collect();
     points.sort();
     points.dedup();
     points
 }
 
-/// Points at which a single link ends: no walk can pass there.
-pub fn loose_ends(links: &[Link]) -> Vec<Point> {
-    let mut ends: Vec<Point> = links.iter().flat_map(|link| link.ends).collect();
-    ends.sort();
-    ends.chunk_by(|p, q| p == q).filter(|met| met.len() == 1).map(|met| met[0]).collect()
+/// The nodes that check 5 finds fault with: under two entries, or a list that is not of the links that end there.
+pub fn misfits(study: &Study) -> Vec<usize> {
+    let (links, nodes) = (links(study), nodes(study));
+    let is_misfit = |&node: &usize| {
+        let mut list = nodes[node].to_vec();
+        list.sort();
+        list.len() < 2 || !due_at(&links, node).map(|(link, _)| link).eq(list)
+    };
+    (0..nodes.len()).filter(is_misfit).collect()
 }
 
 /// The least box round points, sides upright.

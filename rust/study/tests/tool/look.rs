@@ -48,7 +48,7 @@ impl Tag<'_> {
     }
 }
 
-/// The tags of a picture, if they close one another as they should and nothing stands between them but the text of texts.
+/// The tags of a picture, which close one another as they should, with no text between them but that of texts.
 pub fn tags(svg: &str) -> Vec<Tag<'_>> {
     let mut open = Vec::new();
     let mut tags = Vec::new();

@@ -131,7 +131,7 @@ fn many_shapes_are_drawn() {
     let study = text::make(&lines.collect::<String>()).expect("it is right");
     let svg = draw::study("many", &study).expect("it is drawn");
     let texts = texts(&svg);
-    assert!(texts.iter().any(|(words, _)| words == "1325 more of shape: 4.24 mm² in all"), "{texts:?}");
+    assert!(texts.iter().any(|(words, _)| words == "1325 more shapes: 4.24 mm² in all"), "{texts:?}");
 }
 
 fn triangle(x: i32, y: i32) -> [[i32; 5]; 3] {
@@ -142,21 +142,26 @@ fn triangle(x: i32, y: i32) -> [[i32; 5]; 3] {
 fn the_incident_shows_both_rejected_patches() {
     let words = show::words(&case("e8")).expect("it is shown");
     assert!(
-        words.contains("rejected   2, 0.0002 mm²\n    0 hull, rejected: 0.0001 mm², 3 points from (2, 2)\n"),
+        words.contains("rejected   2 patches of 0.0002 mm²\n    0 hull, rejected: 0.0001 mm², 3 points from (2, 2)\n"),
         "{words}"
     );
     assert!(words.contains("    1 hull, rejected: 0.0001 mm², 3 points from (2, 0)\n"), "{words}");
     assert!(words.contains("  shape 0: 0.005 mm², contour 0, 3 points from (10, -10)\n"), "{words}");
     let svg = draw::study("e8", &Study::parse(&case("e8")).expect("it is right")).expect("it is drawn");
-    let rejected: Vec<String> =
-        texts(&svg).into_iter().map(|(words, _)| words).filter(|words| words.starts_with("rejected ")).collect();
-    assert_eq!(rejected.len(), 4, "each beside itself and in the legend: {rejected:?}");
+    let texts: Vec<String> = texts(&svg).into_iter().map(|(words, _)| words).collect();
+    for number in 0..2 {
+        let name = format!("rejected {number}");
+        let named = texts.iter().filter(|words| words.starts_with(&name)).count();
+        assert_eq!(named, 2, "{name}, beside itself and in the legend: {texts:?}");
+    }
     let patches = tags(&svg).iter().filter(|tag| tag.attribute("fill") == Some("#ffcd96")).count();
     assert_eq!(patches, 4, "each as itself and as the legend's key");
 }
 
 #[test]
 fn a_refused_walk_is_drawn_as_far_as_it_came() {
+    let words = show::words(&case("e7")).expect("it is shown");
+    assert!(words.ends_with("\n  the walk of a hull, links 1: (0, 4) (0, 0), where it stuck\n"), "{words}");
     for (name, points) in [("e7", 2), ("9", 5)] {
         let svg = draw::study(name, &Study::parse(&case(name)).expect("it is right")).expect("it is drawn");
         let tags = tags(&svg);
