@@ -15,6 +15,7 @@ mod options;
 mod outline;
 mod refusal;
 mod sides;
+pub mod study;
 mod workspace;
 
 pub use graph::{Graph, Link, Segment};

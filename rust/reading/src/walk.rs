@@ -57,6 +57,15 @@ impl Walk {
     pub fn state(&self) -> u8 {
         if self.hole { 2 } else { 3 }
     }
+
+    /// Goes along a link from a node, marks it, and says which node it comes to. Rule 5: "the beginning, then the point
+    /// of each node left".
+    fn take(&mut self, graph: &Graph, state: &mut [u8], link: usize, node: usize) -> usize {
+        self.points.push(graph.end_at(link, node));
+        self.links.push(link);
+        state[link] = self.state();
+        graph.other_node(link, node)
+    }
 }
 
 /// Extraction: the checks, the walks, and every lent buffer written as document 01 says.
@@ -111,8 +120,20 @@ pub enum Scan {
     MovesOn,
 }
 
+/// A walk that was refused, as far as it came: with no link where not even the first could be taken.
+#[derive(Clone, Debug, PartialEq, Eq)]
+pub struct Stuck {
+    pub refusal: Refusal,
+    pub walk: Walk,
+}
+
 /// The scan over a graph that passed checks 1 to 7: all its walks, or 8 or 9 at the link the scan stands at.
 pub fn walks(graph: &Graph, state: &[u8], settings: Settings, scan: Scan) -> Result<Vec<Walk>, Refusal> {
+    walks_or_stuck(graph, state, settings, scan).map_err(|stuck| stuck.refusal)
+}
+
+/// The same, with the walk that stuck.
+pub fn walks_or_stuck(graph: &Graph, state: &[u8], settings: Settings, scan: Scan) -> Result<Vec<Walk>, Stuck> {
     let mut state = state.to_vec();
     let mut walks = Vec::new();
     let mut k = 0;
@@ -122,7 +143,10 @@ pub fn walks(graph: &Graph, state: &[u8], settings: Settings, scan: Scan) -> Res
             k += 1;
             continue;
         }
-        let walk = one_walk(graph, &mut state, k, settings).map_err(|number| Refusal { number, place: k as u32 })?;
+        let mut walk = Walk { scan: k, hole: false, links: Vec::new(), points: Vec::new(), kept: false };
+        if let Err(number) = one_walk(graph, &mut state, settings, &mut walk) {
+            return Err(Stuck { refusal: Refusal { number, place: k as u32 }, walk });
+        }
         if !walk.kept && scan == Scan::MovesOn {
             k += 1;
         }
@@ -131,39 +155,32 @@ pub fn walks(graph: &Graph, state: &[u8], settings: Settings, scan: Scan) -> Res
     Ok(walks)
 }
 
-/// One walk from the scan's link `k`, marking its links; refused by its number.
-fn one_walk(graph: &Graph, state: &mut [u8], k: usize, settings: Settings) -> Result<Walk, u32> {
+/// One walk from the scan's link, marking its links; refused by its number.
+fn one_walk(graph: &Graph, state: &mut [u8], settings: Settings, walk: &mut Walk) -> Result<(), u32> {
     let unvisited = |state: &[u8], named: Option<usize>| named.filter(|&link| state[link] == UNVISITED).ok_or(8u32);
 
-    let first = unvisited(state, Some(first_link(graph, state, k)))?;
+    let first = unvisited(state, Some(first_link(graph, state, walk.scan)))?;
     // Rule 2: "The first link's top decides: 1 hole (state 2), 0 hull (state 3). Sense = (hole equals clockwise output)."
-    let hole = graph.top[first] == 1;
-    let sense = hole == settings.clockwise;
+    walk.hole = graph.top[first] == 1;
+    let sense = walk.hole == settings.clockwise;
     // "If the sense is true, the walk begins at b and goes to a; else at a and goes to b."
     let beginning = if sense { graph.b_id[first] } else { graph.a_id[first] } as usize;
-    let mut walk =
-        Walk { scan: k, hole, links: vec![first], points: vec![graph.end_at(first, beginning)], kept: false };
-    state[first] = walk.state();
+    let mut node = walk.take(graph, state, first, beginning);
 
     // Rule 4: "The last link is the next link at the beginning's node under the opposite sense, fixed once the first link
     // is marked. The walk stops on marking it."
     let last = unvisited(state, next_link(graph, state, first, beginning, !sense))?;
     let mut link = first;
-    let mut node = graph.other_node(first, beginning);
     while link != last {
         link = unvisited(state, next_link(graph, state, link, node, sense))?;
-        // Rule 5: "the beginning, then the point of each node left".
-        walk.points.push(graph.end_at(link, node));
-        walk.links.push(link);
-        state[link] = walk.state();
-        node = graph.other_node(link, node);
+        node = walk.take(graph, state, link, node);
     }
     // 9: "the last link is reached but the walk is not back at its starting node".
     if node != beginning {
         return Err(9);
     }
-    walk.kept = is_kept(&walk, settings.minimum);
-    Ok(walk)
+    walk.kept = is_kept(walk, settings.minimum);
+    Ok(())
 }
 
 /// Rule 1's first link at k's a node.

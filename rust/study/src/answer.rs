@@ -1,0 +1,152 @@
+//! What a study answers, as it is shown and drawn: shapes, dropped holes and rejected patches, or a refusal with its
+//! place.
+
+use crate::view::misfits;
+use guovdamas::lent::Counts;
+use guovdamas::study::Study;
+use guovdamas::{Contour, ContourDirection, ContourKind, Contours, Refusal, Shapes};
+
+pub type Point = [i32; 2];
+
+/// A walk that closed: a contour, or a patch that was rejected.
+#[derive(Clone, Debug, PartialEq, Eq)]
+pub struct Patch {
+    /// In the order found: among the contours, or among the rejected patches.
+    pub number: usize,
+    pub is_hole: bool,
+    pub points: Vec<Point>,
+    /// Doubled; positive if it runs as the output direction asks of its kind.
+    pub doubled_area: i128,
+}
+
+impl Patch {
+    pub fn new(number: usize, contour: &Contour<'_>, direction: ContourDirection) -> Self {
+        let is_hole = contour.kind() == ContourKind::Hole;
+        let area = i128::from(contour.doubled_area());
+        let doubled_area = if is_hole == direction.is_clockwise() { area } else { -area };
+        Self { number, is_hole, points: contour.points().to_vec(), doubled_area }
+    }
+
+    pub fn kind(&self) -> &'static str {
+        if self.is_hole { "hole" } else { "hull" }
+    }
+}
+
+#[derive(Clone, Debug, PartialEq, Eq)]
+pub struct Shape {
+    pub hull: Patch,
+    pub holes: Vec<Patch>,
+}
+
+impl Shape {
+    /// The hull less its holes.
+    pub fn doubled_net(&self) -> i128 {
+        self.hull.doubled_area - doubled_sum(&self.holes)
+    }
+}
+
+fn doubled_sum(patches: &[Patch]) -> i128 {
+    patches.iter().map(|patch| patch.doubled_area).sum()
+}
+
+/// An answer that is no refusal.
+#[derive(Clone, Debug, Default, PartialEq, Eq)]
+pub struct Found {
+    pub shapes: Vec<Shape>,
+    /// Holes without a shape, since there is none.
+    pub dropped: Vec<Patch>,
+    /// Walks below the minimum.
+    pub rejected: Vec<Patch>,
+}
+
+impl Found {
+    /// All shapes, each less its holes.
+    pub fn doubled_net(&self) -> i128 {
+        self.shapes.iter().map(Shape::doubled_net).sum()
+    }
+
+    pub fn doubled_dropped(&self) -> i128 {
+        doubled_sum(&self.dropped)
+    }
+
+    /// Rejected hulls, and rejected holes.
+    pub fn doubled_rejected(&self) -> [i128; 2] {
+        [false, true].map(|holes| {
+            let ours = self.rejected.iter().filter(|patch| patch.is_hole == holes);
+            ours.map(|patch| patch.doubled_area).sum()
+        })
+    }
+}
+
+/// What a refusal speaks of.
+#[derive(Clone, Debug, PartialEq, Eq)]
+pub enum Place {
+    /// The graph as a whole.
+    Whole,
+    Link(usize),
+    Nodes(Vec<usize>),
+    Contour(Patch),
+}
+
+#[derive(Clone, Debug, PartialEq, Eq)]
+pub struct Refused {
+    pub refusal: Refusal,
+    pub place: Place,
+}
+
+#[derive(Clone, Debug, PartialEq, Eq)]
+pub enum Answer {
+    Found(Found),
+    Refused(Refused),
+}
+
+/// Asks the library. The error, in words, is one of this tool or of the library, and of no study.
+pub fn answer(study: &Study) -> Result<Answer, String> {
+    match study.extract_shapes() {
+        Ok(shapes) => found(study, &shapes).map(Answer::Found),
+        Err(refusal) => Ok(Answer::Refused(Refused { refusal, place: place(study, refusal) })),
+    }
+}
+
+fn place(study: &Study, refusal: Refusal) -> Place {
+    let at = refusal.place() as usize;
+    match refusal.number() {
+        3 | 4 | 8 | 9 => Place::Link(at),
+        5 => Place::Nodes(misfits(study)),
+        6 | 7 => Place::Nodes(vec![at]),
+        12 => match study.extract_contours().ok().as_ref().and_then(|contours| contours.get(at)) {
+            Some(contour) => Place::Contour(Patch::new(at, &contour, study.options.output_direction)),
+            None => Place::Whole,
+        },
+        _ => Place::Whole,
+    }
+}
+
+fn found(study: &Study, shapes: &Shapes) -> Result<Found, String> {
+    let patch = |contour: Contour<'_>| Patch::new(contour.number(), &contour, study.options.output_direction);
+    Ok(Found {
+        shapes: shapes
+            .iter()
+            .map(|shape| Shape { hull: patch(shape.hull()), holes: shape.holes().map(patch).collect() })
+            .collect(),
+        dropped: shapes.dropped_holes().map(patch).collect(),
+        rejected: rejected(study, shapes.contours().counts())?,
+    })
+}
+
+/// The library counts rejected walks and does not hand them out. A rejected walk changes no other (rule 7), so with
+/// minimum 0 the same walks come, all of them kept: those below the minimum are the rejected ones.
+fn rejected(study: &Study, counts: Counts) -> Result<Vec<Patch>, String> {
+    let mut all = study.clone();
+    all.options.min_output_area = 0;
+    let all: Contours = all.extract_contours().map_err(|refusal| format!("with minimum 0: {refusal}"))?;
+    let minimum = study.options.min_output_area;
+    let below: Vec<Contour<'_>> =
+        all.iter().filter(|contour| contour.doubled_area().unsigned_abs() / 2 < minimum).collect();
+    let area: i64 = below.iter().map(Contour::doubled_area).sum();
+    if (below.len(), area) != (counts.rejected as usize, counts.rejected_area) {
+        return Err(format!("{} walks of doubled area {area} are below the minimum; counted: {counts:?}", below.len()));
+    }
+    let direction = study.options.output_direction;
+    Ok(below.iter().enumerate().map(|(number, contour)| Patch::new(number, contour, direction)).collect())
+}

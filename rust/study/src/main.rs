@@ -1,0 +1,70 @@
+//! `study`: shows, draws, dumps and makes studies. `study --help` says how.
+
+use guovdamas::study::Study;
+use std::fs;
+use std::io::Write;
+use std::path::Path;
+use std::process::ExitCode;
+use study::{draw, show, text};
+
+const HELP: &str = "\
+study: shows, draws, dumps and makes studies, the files that the program reads (docs/FORMAT.md)
+
+  study show FILE [--json]     what is in it and what is answered: shapes, rejected patches, dropped holes, or a refusal
+  study draw FILE OUT.svg      a picture of it; a study that is refused is drawn too, with the place in red
+  study dump FILE              its text form, on standard output
+  study make TEXT OUT.graph    the study of a text
+  study --help                 this
+
+The status is 0 if that was done, also for a study that is refused, and 1 if not; then standard error says why.
+Coordinates are units of 0.01 mm, and y points upward. Areas are in mm², a shape's less its holes.
+
+";
+
+fn main() -> ExitCode {
+    let arguments: Vec<String> = std::env::args().skip(1).collect();
+    let words: Vec<&str> = arguments.iter().map(String::as_str).collect();
+    let done = match words[..] {
+        ["--help" | "-h" | "help"] => say(&format!("{HELP}{}", text::FORM)),
+        ["show", file] => read(file).and_then(|bytes| say(&show::words(&bytes)?)),
+        ["show", file, "--json"] | ["show", "--json", file] => read(file).and_then(|bytes| say(&show::json(&bytes)?)),
+        ["draw", file, out] => picture(file).and_then(|svg| write(out, svg.as_bytes())),
+        ["dump", file] => parse(file).and_then(|study| say(&text::dump(&study))),
+        ["make", text, out] => make(text).and_then(|bytes| write(out, &bytes)),
+        _ => Err("these words are not understood; `study --help` says which are".into()),
+    };
+    match done {
+        Ok(()) => ExitCode::SUCCESS,
+        Err(error) => {
+            eprintln!("study: {error}");
+            ExitCode::FAILURE
+        }
+    }
+}
+
+fn say(words: &str) -> Result<(), String> {
+    std::io::stdout().write_all(words.as_bytes()).map_err(|error| format!("standard output: {error}"))
+}
+
+fn read(file: &str) -> Result<Vec<u8>, String> {
+    fs::read(file).map_err(|error| format!("{file}: {error}"))
+}
+
+fn write(file: &str, bytes: &[u8]) -> Result<(), String> {
+    fs::write(file, bytes).map_err(|error| format!("{file}: {error}"))
+}
+
+fn parse(file: &str) -> Result<Study, String> {
+    Study::parse(&read(file)?).map_err(|error| format!("{file}: {error}"))
+}
+
+fn picture(file: &str) -> Result<String, String> {
+    let title = Path::new(file).file_stem().unwrap_or_default().to_string_lossy();
+    draw::study(&title, &parse(file)?)
+}
+
+fn make(file: &str) -> Result<Vec<u8>, String> {
+    let text = String::from_utf8(read(file)?).map_err(|_| format!("{file}: it is no text"))?;
+    let study = text::make(&text).map_err(|error| format!("{file}: {error}"))?;
+    study.encode().map_err(|error| format!("{file}: {error}"))
+}

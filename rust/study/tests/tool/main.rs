@@ -1,0 +1,190 @@
+//! The tool over every case of tests/cases, and its pictures as they are stored.
+
+#[path = "../../examples/crate_reading.rs"]
+#[allow(dead_code)]
+mod crate_reading;
+mod look;
+mod program;
+
+use guovdamas::study::Study;
+use look::{bytes, cases, file, tags, texts};
+use study::{draw, show, text};
+
+fn case(name: &str) -> Vec<u8> {
+    bytes(&format!("cases/{name}.graph"))
+}
+
+/// What the program answers to a case.
+fn out(name: &str) -> String {
+    String::from_utf8(bytes(&format!("cases/{name}.out"))).expect("an answer is text")
+}
+
+/// Every case of right form.
+fn studies() -> Vec<(String, Study)> {
+    cases().into_iter().filter_map(|name| Study::parse(&case(&name)).ok().map(|study| (name, study))).collect()
+}
+
+#[test]
+fn shown_as_the_program_answers() {
+    for name in cases() {
+        let (words, due) = (show::words(&case(&name)).expect("it is shown"), out(&name));
+        let first = due.lines().next().expect("an answer has a line");
+        if first.starts_with("refused") {
+            assert!(words.lines().any(|line| line.starts_with(&format!("{first}: "))), "{name}: {words}");
+            continue;
+        }
+        let counts: Vec<&str> = first.split(' ').collect();
+        assert!(words.contains(&format!("\nshapes     {}, net ", counts[3])), "{name}: {words}");
+        let dropped = words.lines().filter(|line| line.contains(" dropped hole: ")).count();
+        assert_eq!(dropped.to_string(), counts[7], "{name}: {words}");
+        let contours = ["  shape ", " hole: "].map(|word| words.lines().filter(|line| line.contains(word)).count());
+        assert_eq!((contours[0] + contours[1]).to_string(), counts[1], "{name}: {words}");
+    }
+}
+
+#[test]
+fn json_is_well_formed() {
+    for name in cases() {
+        let json = show::json(&case(&name)).expect("it is shown");
+        let mut rest = json.as_str();
+        skip_value(&mut rest);
+        assert_eq!(rest, "\n", "{name}: {json}");
+        assert_eq!(json.contains("\"refused\": null"), !out(&name).starts_with("refused"), "{name}: {json}");
+    }
+}
+
+/// Takes one JSON value off the front.
+fn skip_value(rest: &mut &str) {
+    let closes = match rest.chars().next().expect("a value") {
+        '{' => '}',
+        '[' => ']',
+        '"' => return skip_text(rest),
+        _ => {
+            let end = rest.find([',', '}', ']', '\n']).expect("a number ends");
+            let is_number = rest[..end].parse::<f64>().is_ok();
+            assert!(is_number || &rest[..end] == "null", "{}", &rest[..end]);
+            return *rest = &rest[end..];
+        }
+    };
+    *rest = &rest[1..];
+    while !rest.starts_with(closes) {
+        if closes == '}' {
+            skip_text(rest);
+            *rest = rest.strip_prefix(": ").expect("a name has a value");
+        }
+        skip_value(rest);
+        let more = rest.strip_prefix(", ");
+        assert!(more.is_some() || rest.starts_with(closes), "{rest}");
+        *rest = more.unwrap_or(rest);
+    }
+    *rest = &rest[1..];
+}
+
+fn skip_text(rest: &mut &str) {
+    let inner = rest.strip_prefix('"').expect("a text");
+    *rest = &inner[inner.find('"').expect("a text ends") + 1..];
+}
+
+#[test]
+fn what_is_dumped_is_made_again() {
+    for (name, study) in studies() {
+        let dumped = text::dump(&study);
+        let made = text::make(&dumped).unwrap_or_else(|error| panic!("{name}: {error}"));
+        assert_eq!(made, study, "{name}: {dumped}");
+        assert_eq!(made.encode().expect("it is written"), case(&name), "{name}: {dumped}");
+    }
+}
+
+#[test]
+fn a_text_by_hand() {
+    let square = "# E2\nlink 0 0 4 0 1\n  link 0 0 0 4 0\nlink 0 4 4 4 0\n\nlink 4 0 4 4 1\n";
+    assert_eq!(text::make(square).expect("it is right").encode().expect("it is written"), case("e2"));
+    let with =
+        |line: &str| text::make(&format!("{square}{line}\n")).map(|study| study.encode().expect("it is written"));
+    assert_eq!(with("skip 0"), Ok(case("e7")));
+    assert_eq!(with("direction clockwise"), Ok(case("e3")));
+    assert_eq!(with("minimum 17"), Ok(case("e5")));
+    assert_eq!(with("minimum -1"), Err("line 7: -1 is no such number as is wanted there".into()));
+    assert_eq!(with("link 1 2 3 4"), Err("line 7: this is no line of a study: link 1 2 3 4".into()));
+    assert_eq!(with("skip 4"), Err("line 7: there is no link 4".into()));
+    assert_eq!(with("set state 0 256"), Err("line 7: a state is one byte".into()));
+}
+
+#[test]
+fn pictures_are_well_formed_and_labels_apart() {
+    for (name, study) in studies() {
+        let svg = draw::study(&name, &study).unwrap_or_else(|error| panic!("{name}: {error}"));
+        let texts = texts(&svg);
+        assert!(texts.iter().any(|(words, _)| words.starts_with(&format!("{name}: "))), "{name}");
+        if let Some(refused) = out(&name).strip_suffix('\n').filter(|answer| answer.starts_with("refused")) {
+            assert!(texts.iter().any(|(words, _)| words.contains(refused)), "{name}: {refused}");
+        }
+    }
+}
+
+/// 1,365 triangles in 35 rows: more than can be labelled or listed.
+#[test]
+fn many_shapes_are_drawn() {
+    let mut links: Vec<[i32; 5]> = (0..1365).flat_map(|at| triangle(at % 40 * 10, at / 40 * 10)).collect();
+    links.sort();
+    let lines = links.iter().map(|[ax, ay, bx, by, top]| format!("link {ax} {ay} {bx} {by} {top}\n"));
+    let study = text::make(&lines.collect::<String>()).expect("it is right");
+    let svg = draw::study("many", &study).expect("it is drawn");
+    let texts = texts(&svg);
+    assert!(texts.iter().any(|(words, _)| words == "1325 more shapes: 4.24 mm² in all"), "{texts:?}");
+}
+
+fn triangle(x: i32, y: i32) -> [[i32; 5]; 3] {
+    [[x, y, x, y + 8, 0], [x, y, x + 8, y, 1], [x, y + 8, x + 8, y, 0]]
+}
+
+#[test]
+fn the_incident_shows_both_rejected_patches() {
+    let words = show::words(&case("e8")).expect("it is shown");
+    assert!(
+        words.contains("rejected   2 patches of 0.0002 mm²\n    0 hull, rejected: 0.0001 mm², 3 points from (2, 2)\n"),
+        "{words}"
+    );
+    assert!(words.contains("    1 hull, rejected: 0.0001 mm², 3 points from (2, 0)\n"), "{words}");
+    assert!(words.contains("  shape 0: 0.005 mm², contour 0, 3 points from (10, -10)\n"), "{words}");
+    let svg = draw::study("e8", &Study::parse(&case("e8")).expect("it is right")).expect("it is drawn");
+    let texts: Vec<String> = texts(&svg).into_iter().map(|(words, _)| words).collect();
+    for number in 0..2 {
+        let name = format!("rejected {number}");
+        let named = texts.iter().filter(|words| words.starts_with(&name)).count();
+        assert_eq!(named, 2, "{name}, beside itself and in the legend: {texts:?}");
+    }
+    let patches = tags(&svg).iter().filter(|tag| tag.attribute("fill") == Some("#ffcd96")).count();
+    assert_eq!(patches, 4, "each as itself and as the legend's key");
+}
+
+#[test]
+fn a_refused_walk_is_drawn_as_far_as_it_came() {
+    let words = show::words(&case("e7")).expect("it is shown");
+    assert!(words.ends_with("\n  the walk of a hull, links 1: (0, 4) (0, 0), where it stuck\n"), "{words}");
+    for (name, points) in [("e7", 2), ("9", 5)] {
+        let svg = draw::study(name, &Study::parse(&case(name)).expect("it is right")).expect("it is drawn");
+        let tags = tags(&svg);
+        let walk = tags.iter().find(|tag| tag.attribute("stroke-width") == Some("6")).expect("a walk");
+        assert_eq!(walk.attribute("d").expect("a path").split(['M', 'L']).count() - 1, points, "{name}");
+    }
+}
+
+/// Stored pictures are made anew by `study draw`, and that of the crate's reading by the example `crate_reading`.
+#[test]
+fn pictures_are_as_stored() {
+    let drawn = |title: &str, file: &[u8]| draw::study(title, &Study::parse(file).expect("it is right"));
+    let pictures = [
+        ("study", drawn("study", &bytes("rust-data/study.graph")).expect("it is drawn")),
+        ("e8", drawn("e8", &case("e8")).expect("it is drawn")),
+        ("e8-crate", crate_reading::picture(&case("e8")).expect("it is drawn")),
+    ];
+    for (name, svg) in pictures {
+        let stored = String::from_utf8(bytes(&format!("rust-data/{name}.svg"))).expect("a picture is text");
+        texts(&svg);
+        for (at, (ours, due)) in (1..).zip(svg.lines().zip(stored.lines())) {
+            assert_eq!(ours, due, "{name}.svg, line {at}");
+        }
+        assert_eq!(svg, stored, "{}", file(&format!("rust-data/{name}.svg")).display());
+    }
+}
