@@ -4,6 +4,7 @@ use mathlib.Core.Path.{_≡_, sym, _∙_}
 use native.Mathlib.Omega.{arith}
 use borrow.Author.Count.{below-none, below-more}
 use lib.ListN.{length}
+use Rattle.turn.specs.Refusals.{tells}
 use Rattle.laws.specs.Lowest.{None}
 use Rattle.table.specs.Table.{table}
 use Rattle.anchor.specs.AnchorChecks.{holeBefore, badAnchor}
@@ -27,8 +28,8 @@ anchor-fault-requires c κs = (c .before .before .before .before .before .pre, c
 returns : tie.Need-returns Inv-loop μ-loop
 returns c =
     let l = c .before .before .before .loop in
-    anchors-bad _ (c .before .before .before .before .before .before .before .args .clockwise) (l .c) (c .before .before .loop-test .taken)
-    (l .inv .2) (sym (c .before .anchor-fault .ensures) ∙ c .if1 .taken)
+    tells (anchors-bad _ (c .before .before .before .before .before .before .before .args .clockwise) (l .c) (c .before .before .loop-test .taken)
+    (l .inv .2) (sym (c .before .anchor-fault .ensures) ∙ c .if1 .taken))
 
 shared-slice-read-hole-up-to : tie.Need-shared-slice-read-hole-up-to Inv-loop μ-loop
 shared-slice-read-hole-up-to c =
@@ -56,7 +57,8 @@ loop-again c =
     )
 
 returns-2 : tie.Need-returns-2 Inv-loop μ-loop
-returns-2 c = let l = c .before .loop in anchors-fine _ (c .before .before .before .before .before .args .clockwise) (λ k m. l .inv .2 k (omega arith))
+returns-2 c = let l = c .before .loop in
+    tells (anchors-fine _ (c .before .before .before .before .before .args .clockwise) (λ k m. l .inv .2 k (omega arith)))
 
 pub check-anchors-spec : {M : Type 1} → statement M
 check-anchors-spec = tie.close (tie.spec Inv-loop μ-loop loop-holds anchor-fault-requires returns

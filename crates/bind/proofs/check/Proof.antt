@@ -19,7 +19,7 @@ enum-told c = search needs
 check-anchors-requires : tie.Need-check-anchors-requires
 check-anchors-requires c κs =
     let s = c .before .before .before .before .before .before in
-    passes-sound (t s) (s .args .owners) .to (sym (c .before .before .check-table .ensures) ∙ c .enum-told .given .1) .0
+    passes-sound (t s) (s .args .owners) .to (sym (c .before .before .check-table .ensures .2) ∙ c .enum-told .given .1) .0
 
 enum-known-number : tie.Need-enum-known-number
 enum-known-number c = search needs
@@ -27,13 +27,13 @@ enum-known-number c = search needs
 returns : tie.Need-returns
 returns c =
     let s = c .before .before .before .before .before .before .before in
-    both-fine (t s) (s .args .owners) (s .args .clockwise) _ (sym (c .before .before .before .check-table .ensures) ∙ c .before .enum-told .given .1)
-    (c .check-anchors .ensures)
+    both-fine (t s) (s .args .owners) (s .args .clockwise) _ (sym (c .before .before .before .check-table .ensures .2) ∙ c .before .enum-told .given .1)
+    (c .check-anchors .ensures .2)
 
 returns-2 : tie.Need-returns-2
 returns-2 c =
     let s = c .before .before .before .before .before .before .before in
-    both-at (t s) (s .args .owners) (s .args .clockwise) _ _ (sym (c .before .before .before .check-table .ensures) ∙ c .before .number .given .1)
+    both-at (t s) (s .args .owners) (s .args .clockwise) _ _ (sym (c .before .before .before .check-table .ensures .2) ∙ c .before .number .given .1)
 
 pub check-spec : {M : Type 1} → statement M
 check-spec = tie.close (tie.spec check-table-requires enum-told check-anchors-requires enum-known-number returns

@@ -30,7 +30,7 @@ record-at-requires : tie.Need-record-at-requires
 record-at-requires c κs =
     let s = c .before .before .before .before .before .before .before .before in
     let t = t-of s in
-    let e = sym (c .before .before .check-table .ensures) ∙ c .enum-told .given .1 in
+    let e = sym (c .before .before .check-table .ensures .2) ∙ c .enum-told .given .1 in
     let h = passes-sound t (length (now (s .args .owner))) .to e in
     let l : s .args .contour < length (t .first) = c .before .before .before .if1 .left in
     (l, omega (arith, h .0 .len-long), omega (arith, h .0 .kind-long), omega (arith, h .1))
@@ -43,13 +43,13 @@ returns-2 c =
     let s = c .before .before .before .before .before .before .before .before .before in
     lookup-keeps (t-of s) (now (s .args .owner)) (s .args .contour) _
     (lookup-found (t-of s) (now (s .args .owner)) (s .args .contour) _ (c .before .before .before .before .if1 .left)
-    (sym (sym (c .before .before .before .check-table .ensures) ∙ c .before .enum-told .given .1)) (c .record-at .ensures))
+    (sym (sym (c .before .before .before .check-table .ensures .2) ∙ c .before .enum-told .given .1)) (c .record-at .ensures))
 
 returns-3 : tie.Need-returns-3
 returns-3 c =
     let s = c .before .before .before .before .before .before .before .before in
     lookup-keeps (t-of s) (now (s .args .owner)) (s .args .contour) _
-    (lookup-refused (t-of s) (now (s .args .owner)) (s .args .contour) _ _ (sym (sym (c .before .before .check-table .ensures) ∙ c .enum-told2 .given .1)))
+    (lookup-refused (t-of s) (now (s .args .owner)) (s .args .contour) _ _ (sym (sym (c .before .before .check-table .ensures .2) ∙ c .enum-told2 .given .1)))
 
 pub lookup-spec : {M : Type 1} → statement M
 lookup-spec = tie.close (tie.spec returns check-table-requires enum-told record-at-requires enum-told-2 returns-2

@@ -4,6 +4,7 @@ use denote.Ref.{now}
 use mathlib.Core.Bool.{false}
 use lib.ListN.{length}
 use borrow.Author.Needs.{needs}
+use Rattle.turn.specs.Refusals.{tells}
 use Rattle.table.specs.Table.{table}
 use Rattle.table.specs.Tests.{fitting}
 use Rattle.table.proofs.Answers.{fit, table-misfit, table-unended, table-bad, table-fine}
@@ -14,7 +15,7 @@ misfit-requires : tie.Need-misfit-requires
 misfit-requires c κs = search needs
 
 returns : tie.Need-returns
-returns c = table-misfit _ _ (sym (c .before .misfit .ensures) ∙ c .if1 .taken)
+returns c = tells (table-misfit _ _ (sym (c .before .misfit .ensures) ∙ c .if1 .taken))
 
 fitted :
     (c : tie.Else1) →
@@ -35,23 +36,23 @@ ranges-end-requires c κs = lengths c .0
 
 returns-2 : tie.Need-returns-2
 returns-2 c =
-    table-unended _ (c .before .before .before .before .before .before .before .args .owners) _ (fitted (c .before .before))
-    (c .before .ranges-end .ensures) (c .if2 .taken)
+    tells (table-unended _ (c .before .before .before .before .before .before .before .args .owners) _ (fitted (c .before .before))
+    (c .before .ranges-end .ensures) (c .if2 .taken))
 
 bad-contour-requires : tie.Need-bad-contour-requires
 bad-contour-requires c κs = (lengths (c .before .before) .0, lengths (c .before .before) .1)
 
 returns-3 : tie.Need-returns-3
 returns-3 c =
-    table-bad _ (c .before .before .before .before .before .before .before .before .before .args .owners) _ _
+    tells (table-bad _ (c .before .before .before .before .before .before .before .before .before .args .owners) _ _
     (fitted (c .before .before .before .before)) (c .before .before .before .ranges-end .ensures) (c .before .before .if2 .left)
-    (c .before .bad-contour .ensures) (c .if3 .taken)
+    (c .before .bad-contour .ensures) (c .if3 .taken))
 
 returns-4 : tie.Need-returns-4
 returns-4 c =
-    table-fine _ (c .before .before .before .before .before .before .before .before .before .args .owners) _ _
+    tells (table-fine _ (c .before .before .before .before .before .before .before .before .before .args .owners) _ _
     (fitted (c .before .before .before .before)) (c .before .before .before .ranges-end .ensures) (c .before .before .if2 .left)
-    (c .before .bad-contour .ensures) (c .if3 .left)
+    (c .before .bad-contour .ensures) (c .if3 .left))
 
 pub check-table-spec : {M : Type 1} → statement M
 check-table-spec = tie.close (tie.spec misfit-requires returns ranges-end-requires returns-2 bad-contour-requires
