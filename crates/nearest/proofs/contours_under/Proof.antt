@@ -45,7 +45,7 @@ nearest-edges-requires c κs =
     let s = c .before .before .before .before .before .before .before .before .before .before .before .before .before in
     let l = c .before .before .before .before .before .list-edges in let p = s .pre .1 in (
       (
-        fit (t s) (s .pre .0) (l .last .1 .1 .0) (l .last .1 .1 .1 .0) (l .ensures .round) (right s) (omega (arith, l .kept .1 .1 .0))
+        fit (t s) (s .pre .0) (l .last .1 .1 .0) (l .last .1 .1 .1 .0) (l .ensures .round) _ (omega (arith, l .kept .1 .1 .0))
             (omega (arith, l .kept .1 .1 .1 .0)),
         s .pre .0 .few,
         flags (t s) (s .pre .0) (l .last .1 .1 .0) (l .last .1 .1 .1 .0) (l .ensures .round) (s .args .mute .now) (p .0 .0),
@@ -71,7 +71,7 @@ name-contours-requires c κs =
         omega (arith, e .kept .1 .1 .1 .1 .1 .1 .1 .1 .1 .1 .1 .1 .0, p .0 .1),
         p .0 .2,
         best-numbers (t s) (s .pre .0) (l .last .1 .1 .0)
-            (l .last .1 .1 .1 .0) (l .ensures .round) (right s) (s .args .mute .now) (h s) (s .args .m) (e .last .1 .1 .1 .1 .1 .1 .1 .1 .1 .1 .1 .1 .0)
+            (l .last .1 .1 .1 .0) (l .ensures .round) _ (s .args .mute .now) (h s) (s .args .m) (e .last .1 .1 .1 .1 .1 .1 .1 .1 .1 .1 .1 .1 .0)
             (e .ensures),
       ),
     )
