@@ -187,7 +187,7 @@ fn the_incident_shows_both_rejected_patches() {
 #[test]
 fn a_refused_walk_is_drawn_as_far_as_it_came() {
     let words = show::words(&case("e7")).expect("it is shown");
-    assert!(words.ends_with("\n  the walk of a hull, links 1: (0, 4) (0, 0), where it stuck\n"), "{words}");
+    assert!(words.ends_with("\n  the walk of a hull, links 1: (0, 4) (0, 0), and no farther\n"), "{words}");
     for (name, points) in [("e7", 2), ("9", 5)] {
         let svg = draw::study(name, &Study::parse(&case(name)).expect("it is right")).expect("it is drawn");
         let tags = tags(&svg);
