@@ -237,5 +237,6 @@ fn form_json(error: &StudyError) -> Json {
         ("of", Json::Text("file".into())),
         ("points", Json::List(Vec::new())),
         ("reason", Json::Text(error.to_string())),
+        ("walk", Json::Null),
     ])
 }
