@@ -1,8 +1,11 @@
 //! The given text against the reading (and, with the feature `library`, the library): its stored answers, and, where the text is
 //! at hand, generated graphs. The program `differential` compares many more.
 
+use differential::compare::ask_text;
 use differential::{stored, tally};
+use generators::Sample;
 use generators::planar::FAMILIES;
+use reading::walk::{Scan, walks};
 
 /// The sample of the text's answers, made by `differential --store 160`.
 const STORED: &str = include_str!("../../../tests/rust-data/text-answers.txt");
@@ -37,6 +40,25 @@ fn stored_answers_are_the_texts() {
     } else {
         println!("the text is not at hand: its stored answers were not asked for again");
     }
+}
+
+/// E8: the text calls the one contour that it keeps a hole, and drops it (D1). tests/rust-data/e8-crate.svg shows this.
+#[test]
+fn the_text_drops_the_hull_of_the_incident() {
+    let file = include_bytes!("../../../tests/cases/e8.graph");
+    let reading::file::Study { settings, graph, state } = reading::file::parse(file).expect("E8 is well formed");
+    let walks = walks(&graph, &state, settings, Scan::MovesOn).expect("E8 is walked");
+    let kept: Vec<_> = walks.into_iter().filter(|walk| walk.kept).collect();
+    assert_eq!(kept.iter().map(|walk| walk.hole).collect::<Vec<_>>(), [true]);
+    if !text::AT_HAND {
+        println!("the text is not at hand: it was not asked about E8");
+        return;
+    }
+    let answer = ask_text(&Sample { graph, state }, settings, 0);
+    assert_eq!(answer.contours, [kept[0].points.clone()]);
+    assert_eq!(kept[0].links.iter().map(|&link| answer.states[link]).collect::<Vec<_>>(), [2; 3]);
+    // a debug assertion of the text sees that the hole's anchor is not its least point
+    assert_eq!(answer.shapes, if cfg!(debug_assertions) { None } else { Some(Vec::new()) });
 }
 
 #[test]

@@ -13,8 +13,9 @@
 //! ]);
 //! let study = Study::new(graph, Options::default());
 //! let file = study.encode()?;
-//! assert_eq!(Study::parse(&file)?, study);
-//! assert_eq!(study.extract_shapes().unwrap().len(), 1);
+//! let read = Study::parse(&file)?;
+//! assert_eq!(read.encode()?, file);
+//! assert_eq!(read.extract_shapes().unwrap().len(), 1);
 //! # Ok::<(), guovdamas::study::StudyError>(())
 //! ```
 

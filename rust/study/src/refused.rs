@@ -2,9 +2,9 @@
 
 use crate::answer::{Place, Point, Refused};
 use crate::draw::{INK, draw_skipped, draw_spot, skipped_edges, skipped_entry};
-use crate::label::{Item, Labels};
+use crate::label::Labels;
 use crate::sheet::{Entry, Key, Sheet};
-use crate::show::place_words;
+use crate::show::{NODES, place_words};
 use crate::stuck::{Stuck, stuck_walk};
 use crate::svg::{Edge, Pixel, Svg, length};
 use crate::view::{Frame, Link, links, nodes, points_at};
@@ -71,8 +71,8 @@ fn entries(study: &Study, links: &[Link], refused: &Refused, walk: Option<&Stuck
     entries.extend(skipped_entry(links));
     entries.extend(place_words(study, &refused.place).lines().map(|line| entry(PLACE, line.trim())));
     if let Some(walk) = walk {
-        let kind = if walk.is_hole { "hole" } else { "hull" };
-        entries.push(entry(WALK, &format!("the walk of a {kind}, from the dot to the ring, where it stuck")));
+        let words = format!("the walk of a {}, from the dot to the ring and no farther", walk.kind());
+        entries.push(entry(WALK, &words));
     }
     entries
 }
@@ -137,7 +137,7 @@ fn draw_edges(svg: &mut Svg, edges: Vec<Edge>, style: &str) {
 /// The place's name with a leader line, then the links' numbers as far as there is room.
 fn draw_names(svg: &mut Svg, sheet: &Sheet, links: &[Link], refused: &Refused) {
     let lines = links.iter().filter_map(|link| sheet.edge(link).map(|edge| [edge, tick(link, edge)])).flatten();
-    let mut labels = Labels::new(sheet.area(), &[] as &[Item], lines.collect());
+    let mut labels = Labels::new(sheet.area(), &[], lines.collect());
     for (from, name) in names(sheet, links, &refused.place) {
         draw_spot(svg, labels.beside(from, &name).as_ref(), RED);
     }
@@ -158,7 +158,8 @@ fn names(sheet: &Sheet, links: &[Link], place: &Place) -> Vec<(Pixel, String)> {
             edge.map(|edge| (middle(edge), format!("link {k}"))).into_iter().collect()
         }
         Place::Nodes(nodes) => {
-            nodes.iter().filter_map(|&node| at(points_at(links, node).first(), format!("node {node}"))).collect()
+            let name = |&node: &usize| at(points_at(links, node).first(), format!("node {node}"));
+            nodes.iter().take(NODES).filter_map(name).collect()
         }
         Place::Contour(patch) => at(patch.points.first(), format!("contour {}", patch.number)).into_iter().collect(),
     }

@@ -8,7 +8,7 @@ use crate::view::{Frame, Link, links, nodes, points_at};
 use guovdamas::study::{Study, StudyError};
 
 /// So many nodes that a refusal speaks of are told.
-const NODES: usize = 6;
+pub const NODES: usize = 6;
 
 /// The words for a file.
 pub fn words(file: &[u8]) -> Result<String, String> {
@@ -71,9 +71,9 @@ fn answered(study: &Study, answer: &Answer) -> Result<String, String> {
         Answer::Refused(refused) => refused,
     };
     let walk = stuck_walk(study, refused)?.map_or(String::new(), |walk| {
-        let kind = if walk.is_hole { "hole" } else { "hull" };
         let points: Vec<String> = walk.points.iter().map(|&point| point_words(point)).collect();
-        format!("  the walk of a {kind}, links {}: {}, where it stuck\n", joined(&walk.links), points.join(" "))
+        let links = joined(&walk.links);
+        format!("  the walk of a {}, links {links}: {}, and no farther\n", walk.kind(), points.join(" "))
     });
     Ok(format!("{}\n{}{walk}", refused.refusal, place_words(study, &refused.place)))
 }
@@ -237,5 +237,6 @@ fn form_json(error: &StudyError) -> Json {
         ("of", Json::Text("file".into())),
         ("points", Json::List(Vec::new())),
         ("reason", Json::Text(error.to_string())),
+        ("walk", Json::Null),
     ])
 }

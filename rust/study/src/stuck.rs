@@ -9,8 +9,14 @@ use reading::walk::{Scan, Walk, walks_or_stuck};
 pub struct Stuck {
     pub is_hole: bool,
     pub links: Vec<usize>,
-    /// From where it began to where it stuck: one more than its links.
+    /// From where it began to where it came: one more than its links.
     pub points: Vec<Point>,
+}
+
+impl Stuck {
+    pub fn kind(&self) -> &'static str {
+        if self.is_hole { "hole" } else { "hull" }
+    }
 }
 
 /// By the reading in plain Rust, since the library hands out no walk that it refuses; none if it took no link, or if

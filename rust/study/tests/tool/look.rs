@@ -3,18 +3,19 @@
 use std::path::{Path, PathBuf};
 use study::svg::{LINE, Rect, text_width};
 
-pub fn file(path: &str) -> PathBuf {
-    Path::new(env!("CARGO_MANIFEST_DIR")).join("../../tests").join(path)
+/// A file under tests/.
+pub fn path(name: &str) -> PathBuf {
+    Path::new(env!("CARGO_MANIFEST_DIR")).join("../../tests").join(name)
 }
 
-pub fn bytes(path: &str) -> Vec<u8> {
-    let path = file(path);
+pub fn bytes(name: &str) -> Vec<u8> {
+    let path = path(name);
     std::fs::read(&path).unwrap_or_else(|error| panic!("{}: {error}", path.display()))
 }
 
 /// Every case of tests/cases, by name.
 pub fn cases() -> Vec<String> {
-    let entries = std::fs::read_dir(file("cases")).expect("tests/cases is there");
+    let entries = std::fs::read_dir(path("cases")).expect("tests/cases is there");
     let paths = entries.map(|entry| entry.expect("it can be read").path());
     let is_graph = |path: &PathBuf| path.extension().is_some_and(|ending| ending == "graph");
     let name = |path: PathBuf| path.file_stem().expect("a case has a name").to_string_lossy().into_owned();

@@ -6,8 +6,13 @@ mod crate_reading;
 mod look;
 mod program;
 
+use generators::planar::FAMILIES;
+use generators::rng::Rng;
+use generators::{planar, wild};
 use guovdamas::study::Study;
-use look::{bytes, cases, file, tags, texts};
+use look::{bytes, cases, path, tags, texts};
+use reading::Settings;
+use reading::file::{self, encode};
 use study::{draw, show, text};
 
 fn case(name: &str) -> Vec<u8> {
@@ -122,6 +127,27 @@ fn pictures_are_well_formed_and_labels_apart() {
     }
 }
 
+/// Graphs with crosses, holes, islands, skipped links, rejected patches, and walks that are refused.
+#[test]
+fn generated_studies() {
+    let mut refused = 0;
+    for seed in 0..240 {
+        let mut rng = Rng::new(seed ^ 9 << 40);
+        let sample = match seed % 3 {
+            0 => wild::sample(9, &mut rng),
+            _ => planar::sample(FAMILIES[seed as usize % FAMILIES.len()], rng.choose(&[2, 4, 7]), &mut rng),
+        };
+        let settings = Settings { clockwise: rng.chance(50), minimum: rng.choose(&[0, 1, 20, 2000]) };
+        let bytes = encode(&file::Study { settings, graph: sample.graph, state: sample.state });
+        let study = Study::parse(&bytes).expect("it is right");
+        assert_eq!(text::make(&text::dump(&study)).expect("it is right").encode().as_ref(), Ok(&bytes));
+        let svg = draw::study("generated", &study).unwrap_or_else(|error| panic!("{seed}: {error}"));
+        texts(&svg);
+        refused += usize::from(show::words(&bytes).expect("it is shown").contains("\nrefused "));
+    }
+    assert!((10..230).contains(&refused), "{refused} are refused");
+}
+
 /// 1,365 triangles in 35 rows: more than can be labelled or listed.
 #[test]
 fn many_shapes_are_drawn() {
@@ -161,7 +187,7 @@ fn the_incident_shows_both_rejected_patches() {
 #[test]
 fn a_refused_walk_is_drawn_as_far_as_it_came() {
     let words = show::words(&case("e7")).expect("it is shown");
-    assert!(words.ends_with("\n  the walk of a hull, links 1: (0, 4) (0, 0), where it stuck\n"), "{words}");
+    assert!(words.ends_with("\n  the walk of a hull, links 1: (0, 4) (0, 0), and no farther\n"), "{words}");
     for (name, points) in [("e7", 2), ("9", 5)] {
         let svg = draw::study(name, &Study::parse(&case(name)).expect("it is right")).expect("it is drawn");
         let tags = tags(&svg);
@@ -185,6 +211,6 @@ fn pictures_are_as_stored() {
         for (at, (ours, due)) in (1..).zip(svg.lines().zip(stored.lines())) {
             assert_eq!(ours, due, "{name}.svg, line {at}");
         }
-        assert_eq!(svg, stored, "{}", file(&format!("rust-data/{name}.svg")).display());
+        assert_eq!(svg, stored, "{}", path(&format!("rust-data/{name}.svg")).display());
     }
 }

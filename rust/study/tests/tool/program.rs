@@ -1,6 +1,6 @@
 //! The program `study` as it is called: its words, its status, and errors on standard error.
 
-use crate::look::file;
+use crate::look::path;
 use std::process::{Command, Output};
 
 fn study(words: &[&str]) -> Output {
@@ -26,25 +26,25 @@ fn fails(words: &[&str], why: &str) {
 fn commands() {
     let folder = std::env::temp_dir().join(format!("study-{}", std::process::id()));
     std::fs::create_dir_all(&folder).expect("a folder");
-    let path = |name: &str| folder.join(name).to_string_lossy().into_owned();
-    let e8 = file("cases/e8.graph").to_string_lossy().into_owned();
+    let ours = |name: &str| folder.join(name).to_string_lossy().into_owned();
+    let e8 = path("cases/e8.graph").to_string_lossy().into_owned();
     assert!(done(&["--help"]).contains("study make TEXT OUT.graph"));
     assert!(done(&["show", &e8]).contains("rejected   2"));
     assert!(done(&["show", &e8, "--json"]).starts_with("{\"links\": 9, "));
-    assert_eq!(done(&["draw", &e8, &path("e8.svg")]), "");
-    std::fs::write(path("e8.text"), done(&["dump", &e8])).expect("it is written");
-    assert_eq!(done(&["make", &path("e8.text"), &path("e8.graph")]), "");
-    assert_eq!(std::fs::read(path("e8.graph")).expect("it is there"), std::fs::read(&e8).expect("it is there"));
+    assert_eq!(done(&["draw", &e8, &ours("e8.svg")]), "");
+    std::fs::write(ours("e8.text"), done(&["dump", &e8])).expect("it is written");
+    assert_eq!(done(&["make", &ours("e8.text"), &ours("e8.graph")]), "");
+    assert_eq!(std::fs::read(ours("e8.graph")).expect("it is there"), std::fs::read(&e8).expect("it is there"));
     assert_eq!(
-        std::fs::read(path("e8.svg")).expect("it is there"),
-        std::fs::read(file("rust-data/e8.svg")).expect("it is there")
+        std::fs::read(ours("e8.svg")).expect("it is there"),
+        std::fs::read(path("rust-data/e8.svg")).expect("it is there")
     );
     std::fs::remove_dir_all(&folder).expect("it is ours");
 }
 
 #[test]
 fn faults() {
-    let malformed = file("cases/13-kind-4.graph").to_string_lossy().into_owned();
+    let malformed = path("cases/13-kind-4.graph").to_string_lossy().into_owned();
     assert!(done(&["show", &malformed]).starts_with("refused 13 at 71: "));
     fails(&[], "--help");
     fails(&["paint"], "--help");
