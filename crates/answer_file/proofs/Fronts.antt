@@ -1,4 +1,4 @@
--- After reading, a graph's lists stand at the fronts of the buffers: they fit, and cut off they are the file's.
+-- After reading, a graph's lists stand at the fronts of the buffers: they fit, and cut off they are the file's. What the lists hold in the end.
 use Prim.Native.Nat.{ℕ, _+_, _-_, _≤_}
 use native.Mathlib.Omega.{arith}
 use mathlib.Core.Path.{_≡_, refl, sym, ap, _∙_, subst}
@@ -9,8 +9,8 @@ use Rattle.writing.specs.Put.{front-long, front-cut}
 use Rattle.format_records.specs.Records.{Form, form, refused, formOf}
 use Rattle.format.specs.File.{Contents, holding, contentsOf, fileOf, fileFrom, startsOf, FileLists, Reading, reading, readInto}
 use Rattle.writing.specs.Cuts.{cut}
-use Rattle.answer_read.specs.ReadText.{ReadFits, readText}
-use Rattle.answer_file.specs.FileText.{fileText}
+use Rattle.answer_read.specs.ReadText.{ReadFits, readText, readStates}
+use Rattle.answer_file.specs.FileText.{fileText, withStates, leftBy, fileLeft}
 
 starts-some : (nodes : List (List ℕ)) → 1 ≤ length (startsOf 0 nodes)
 unfolding startsOf
@@ -91,3 +91,7 @@ module _ (s : List ℕ) (b : FileLists) {a : FileRead} {b′ : FileLists} (e : r
 
   pub read-text : readText a b′ ≡ fileText (fileOf s)
   read-text = ap (λ (x : Reading). readText (x .answer) (x .lent)) e ∙ form-text s b (formOf s)
+
+  pub read-left : {state : List ℕ} → state ≡ readStates a b′ → withStates state b′ ≡ fileLeft s b
+  unfolding fileLeft
+  read-left h = ap (λ (x : List ℕ). withStates x b′) h ∙ ap leftBy e
