@@ -33,7 +33,9 @@ slice-aggregate-answer-file-9 c = search needs
 
 answer-file-requires : tie.Need-answer-file-requires
 answer-file-requires c κs =
-    let s = c .before .before .before .before .before .before .before .before .before .before .before .before .before .before in
+    let s =
+    c .before .before .before .before .before .before .before .before .before .before .before .before .before
+    .before in
     (zeros-fit (s .pre .0), s .pre .1)
 
 same-length : tie.Need-same-length
@@ -44,7 +46,10 @@ same-length-2 c = search needs
 
 returns : tie.Need-returns
 returns c =
-    let s = c .before .before .before .before .before .before .before .before .before .before .before .before .before .before .before .before .before .before .before .before .before .before .before .before .before .before .before .before in
+    let s =
+    c .before .before .before .before .before .before .before .before .before .before .before .before .before
+    .before .before .before .before .before .before .before .before .before .before .before .before .before
+    .before .before in
     let w = c .before .before .before .before .before .before .before .before .before .before .before .before .before .answer-file .ensures in
     (w .0, zeros-kept (s .pre .0) (s .args .input .now) _ (w .1))
 
