@@ -7,7 +7,7 @@ use lib.IntN.{pos}
 use lib.ListN.{length-replicate}
 use Rattle.turn.specs.Limits.{maxLinks}
 use Rattle.format_records.specs.Limits.{maxNodes, maxEntries}
-use Rattle.format.specs.File.{FileLists, FileRoom}
+use Rattle.format.specs.File.{fileOf, FileLists, FileRoom}
 use Rattle.answer_file.specs.FileText.{withStates, fileLeft}
 use Rattle.answer.specs.AnswerText.{zeroStates, zeroLists, keptStates}
 
@@ -29,6 +29,6 @@ module _ {state : List ℕ} (h : state ≡ zeroStates) where
   pub zeros-fit : FileRoom (withStates state zeroLists)
   zeros-fit = subst (λ (l : List ℕ). FileRoom (withStates l zeroLists)) (sym h) zeros-room
 
-  pub zeros-kept : (s : List ℕ) (after : FileLists) → after ≡ fileLeft s (withStates state zeroLists) → after .state ≡ keptStates s
+  pub zeros-kept : (s : List ℕ) (after : FileLists) → after ≡ fileLeft (fileOf s) (withStates state zeroLists) → after .state ≡ keptStates s
   unfolding keptStates
-  zeros-kept s after e = ap (λ (l : FileLists). l .state) e ∙ ap (λ (l : List ℕ). fileLeft s (withStates l zeroLists) .state) h
+  zeros-kept s after e = ap (λ (l : FileLists). l .state) e ∙ ap (λ (l : List ℕ). fileLeft (fileOf s) (withStates l zeroLists) .state) h

@@ -63,4 +63,4 @@ zeroLists =
 
 -- the states when a file is answered
 unfoldable pub keptStates : List ℕ → List ℕ
-keptStates s = fileLeft s zeroLists .state
+keptStates s = fileLeft (fileOf s) zeroLists .state

@@ -10,7 +10,7 @@ use Rattle.answer_file.specs.FileText.{fileText, fileLeft}
 
 -- the lists and the buffer before, then after, and the answer
 abbrev pub answer-file-says : List ℕ → FileLists → List ℕ → FileLists → List ℕ → ℕ → Type 0
-answer-file-says input b old after new r = (Wrote old new 0 r (fileText (fileOf input))) × (after ≡ fileLeft input b)
+answer-file-says input b old after new r = (Wrote old new 0 r (fileText (fileOf input))) × (after ≡ fileLeft (fileOf input) b)
 
 pub answer-file-once : (input : List ℕ) (b : FileLists) (old : List ℕ) (x y : FileLists) (new new′ : List ℕ) (r r′ : ℕ)
     → answer-file-says input b old x new r → answer-file-says input b old y new′ r′
