@@ -1,16 +1,23 @@
--- After reading, a graph's lists stand at the fronts of the buffers: they fit, and cut off they are the file's.
+-- After reading, a graph's lists stand at the fronts of the buffers: they fit, and cut off they are the file's. What the lists hold in the end.
 use Prim.Native.Nat.{ℕ, _+_, _-_, _≤_}
 use native.Mathlib.Omega.{arith}
 use mathlib.Core.Path.{_≡_, refl, sym, ap, _∙_, subst}
 use mathlib.Core.List.{List, [], _∷_, map}
-use lib.ListN.{length, length-map}
+use lib.ListN.{length, drop, length-map}
+use lib.Seq.{drop-at}
 use Rattle.format.specs.declared.FileRead.{FileRead}
-use Rattle.writing.specs.Put.{front-long, front-cut}
+use Rattle.writing.specs.Put.{putAt, atFront, front-long, front-cut}
 use Rattle.format_records.specs.Records.{Form, form, refused, formOf}
-use Rattle.format.specs.File.{Contents, holding, contentsOf, fileOf, fileFrom, startsOf, FileLists, Reading, reading, readInto}
+use Rattle.format.specs.File.{Contents, holding, contentsOf, contentsInto, fileOf, fileFrom, startsOf, FileLists, Reading, reading, readInto}
 use Rattle.writing.specs.Cuts.{cut}
-use Rattle.answer_read.specs.ReadText.{ReadFits, readText}
-use Rattle.answer_file.specs.FileText.{fileText}
+use Rattle.answer_read.specs.ReadText.{ReadFits, readText, readStates}
+use Rattle.answer_file.specs.FileText.{fileText, withStates, statesLeft, fileLeft}
+
+-- past what was written at its front a list is as it was
+front-rest : {A : Type 0} (n : ℕ) (t l : List A) → length t ≡ n → drop n (atFront t l) ≡ drop n l
+unfolding putAt
+front-rest n t l e =
+    let from : 0 + length t ≡ n = omega (arith, e) in drop-at t (drop (0 + length t) l) n e ∙ ap (λ k. drop k l) from
 
 starts-some : (nodes : List (List ℕ)) → 1 ≤ length (startsOf 0 nodes)
 unfolding startsOf
@@ -74,7 +81,23 @@ module _ (g : Contents) (b : FileLists) (h : OneLength g) where
         front-cut (length (g .list)) (g .list) (b .list) refl,
       )
 
--- ---- what answering is asked, and what it then prints
+  graph-states : readStates (readInto (holding g) b .answer) (readInto (holding g) b .lent) ≡ statesLeft g (b .state)
+  graph-states =
+      rw (
+        front-cut (length (g .aId)) (g .ax) (b .ax) (h .ax),
+        front-cut (length (g .aId)) (g .ay) (b .ay) (h .ay),
+        front-cut (length (g .aId)) (g .bx) (b .bx) (h .bx),
+        front-cut (length (g .aId)) (g .by) (b .by) (h .by),
+        front-cut (length (g .aId)) (g .aId) (b .aId) refl,
+        front-cut (length (g .aId)) (g .bId) (b .bId) (h .bId),
+        front-cut (length (g .aId)) (g .top) (b .top) (h .top),
+        front-cut (length (g .aId)) (g .state) (b .state) (h .state),
+        front-cut (length (g .start) - 1 + 1) (g .start) (b .start) (omega (arith, h .start)),
+        front-cut (length (g .list)) (g .list) (b .list) refl,
+        front-rest (length (g .aId)) (g .state) (b .state) (h .state),
+      )
+
+-- ---- what answering is asked, what it then prints, and what the lists then hold
 form-fits : (s : List ℕ) (b : FileLists) (f : Form) → ReadFits (readInto (fileFrom s f) b .answer) (readInto (fileFrom s f) b .lent)
 form-fits s b (form links nodes) = graph-fronts (contentsOf s links nodes) b (file-even s links nodes)
 form-fits s b (refused why) = tt
@@ -85,9 +108,22 @@ unfolding fileText
 form-text s b (form links nodes) = graph-text (contentsOf s links nodes) b (file-even s links nodes)
 form-text s b (refused why) = refl
 
+-- what reading leaves, with the states that answering leaves
+abbrev leftBy : Reading → FileLists
+leftBy x = withStates (readStates (x .answer) (x .lent)) (x .lent)
+
+form-left : (s : List ℕ) (b : FileLists) (f : Form) → leftBy (readInto (fileFrom s f) b) ≡ fileLeft (fileFrom s f) b
+unfolding fileLeft
+form-left s b (form links nodes) =
+    let g = contentsOf s links nodes in ap (λ (l : List ℕ). withStates l (contentsInto g b)) (graph-states g b (file-even s links nodes))
+form-left s b (refused why) = refl
+
 module _ (s : List ℕ) (b : FileLists) {a : FileRead} {b′ : FileLists} (e : reading a b′ ≡ readInto (fileOf s) b) where
   pub read-fits : ReadFits a b′
   read-fits = subst (λ (x : Reading). ReadFits (x .answer) (x .lent)) (sym e) (form-fits s b (formOf s))
 
   pub read-text : readText a b′ ≡ fileText (fileOf s)
   read-text = ap (λ (x : Reading). readText (x .answer) (x .lent)) e ∙ form-text s b (formOf s)
+
+  pub read-left : {state : List ℕ} → state ≡ readStates a b′ → withStates state b′ ≡ fileLeft (fileOf s) b
+  read-left h = ap (λ (x : List ℕ). withStates x b′) h ∙ ap leftBy e ∙ form-left s b (formOf s)

@@ -14,7 +14,7 @@ use Rattle.scan.specs.declared.Extraction.{Extraction}
 use Rattle.scan.specs.declared.Extraction.the-variants.{Refused}
 use Rattle.walk.specs.Walk.{Walk}
 use Rattle.writing.specs.Cuts.{cut}
-use Rattle.answer_graph.specs.GraphText.{lentTable, extractedText}
+use Rattle.answer_graph.specs.GraphText.{lentTable, extractedText, extractedStates}
 use Rattle.answer_table.specs.ExtractionText.{ExtractionFits, extractionText}
 use Rattle.scan.specs.Scan.{Scanned, stopped, walks, scan}
 use Rattle.keep.specs.Outcome.{lens, firsts, kinds, allPoints, coordinates, kept}
@@ -69,7 +69,7 @@ unfolding extracted
 all-fit g top cw minimum b =
     checks-fit (graphOf g top) cw minimum b (checked g top (b .state) (room (length (b .points)) (length (b .first)) (length (b .len)) (length (b .kind))))
 
--- what binding's stage is asked, and what it then prints
+-- what binding's stage is asked, what it then prints, and the states
 module _ (g : Lent) (top : List ℕ) (cw : Bool) (minimum : ℕ) (b : Buffers) {a : Extraction} {b′ : Buffers}
     (e : extractedAs a b′ ≡ extracted g top cw minimum b) where
   pub extraction-fits : ExtractionFits a (lentTable b′)
@@ -79,3 +79,7 @@ module _ (g : Lent) (top : List ℕ) (cw : Bool) (minimum : ℕ) (b : Buffers) {
   pub extracted-text : extractionText cw a (lentTable b′) ≡ extractedText g top cw minimum b
   unfolding extractedText
   extracted-text = ap (λ (y : Extracted). extractionText cw (y .answer) (lentTable (y .lent))) e
+
+  pub extracted-states : b′ .state ≡ extractedStates g top cw minimum b
+  unfolding extractedStates
+  extracted-states = ap (λ (y : Extracted). y .lent .state) e

@@ -1,2 +1,3 @@
 -- What the program answers to a graph, by the definitions of the crates below.
 pub mod GraphText
+pub mod Promises

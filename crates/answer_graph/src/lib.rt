@@ -3,12 +3,14 @@
 // Each function has the arrays of its stage and makes one call with them; the stages below see slices only.
 use print::MAX_CONTOURS;
 use turn::MAX_LINKS;
+ghost use mathlib.Core.Path.{_≡_};
 ghost use Prim.Native.Nat.{_≤_};
 ghost use lib.ListN.{length};
 ghost use Rattle.graph.specs.Graph.{Lent, lent};
 ghost use Rattle.print.specs.Room.{answerBytes};
 ghost use Rattle.writing.specs.Write.{Wrote};
-ghost use Rattle.answer_graph.specs.GraphText.{extractedText, graphText};
+ghost use Rattle.answer_graph.specs.GraphText.{extractedText, extractedStates};
+ghost use Rattle.answer_graph.specs.Promises.{answer-graph-says};
 ghost use Rattle.finish.specs.Finish.{Buffers, buffers};
 
 // The coordinates of as many points as there may be links, x and y in turn.
@@ -40,7 +42,8 @@ fn answer_contours(
         (now («a_id» .entry)) (now («b_id» .entry)) (now (start .entry)) (now (list .entry)) in
         let b : Buffers = buffers (now (state .entry)) (now (points .entry)) (now (first .entry))
         (now (len .entry)) (now (kind .entry)) in
-        Wrote (now (out .entry)) (now (out .exit)) 0 r (extractedText g (now (top .entry)) clockwise minimum b)) ⌝ }
+        (Wrote (now (out .entry)) (now (out .exit)) 0 r (extractedText g (now (top .entry)) clockwise minimum b))
+        × (now (state .exit) ≡ extractedStates g (now (top .entry)) clockwise minimum b)) ⌝ }
 {
     let extraction = extract::extract(
         ax,
@@ -83,8 +86,8 @@ pub fn answer_graph(
     ensures { λ r. ⌜
         (let g : Lent = lent (now (ax .entry)) (now (ay .entry)) (now (bx .entry)) (now (by .entry))
         (now («a_id» .entry)) (now («b_id» .entry)) (now (start .entry)) (now (list .entry)) in
-        Wrote (now (out .entry)) (now (out .exit)) 0 r
-        (graphText g (now (top .entry)) clockwise minimum (now (state .entry)))) ⌝ }
+        answer-graph-says g (now (top .entry)) clockwise minimum (now (state .entry)) (now (out .entry))
+        (now (state .exit)) (now (out .exit)) r) ⌝ }
 {
     let mut points = [0i32; COORDINATES];
     let mut first = [0u32; MAX_CONTOURS];

@@ -1,15 +1,16 @@
--- The bytes that the program prints for what reading gave: its refusal, or the answer to the graph at the fronts of the lent lists.
+-- The bytes that the program prints for what reading gave: its refusal, or the answer to the graph at the fronts of the lent lists; and the states
+-- that are then left.
 use Prim.Native.Nat.{ℕ, _+_}
-use mathlib.Core.List.{List}
-use lib.ListN.{take}
-use Rattle.graph.specs.Graph.{lent}
+use mathlib.Core.List.{List, _++_}
+use lib.ListN.{take, drop}
+use Rattle.graph.specs.Graph.{Lent, lent}
 use Rattle.format.specs.declared.FileCounts.{FileCounts}
 use Rattle.format.specs.declared.FileRead.{FileRead}
 use Rattle.format.specs.declared.FileRead.the-variants as answer
 use Rattle.format.specs.File.{FileLists}
 use Rattle.print.specs.Answer.{printedRefusal}
 use Rattle.writing.specs.Cuts.{Cut}
-use Rattle.answer_graph.specs.GraphText.{graphText}
+use Rattle.answer_graph.specs.GraphText.{graphText, graphStates}
 
 -- the lists are long enough to be cut so
 pub record FrontsFit (c : FileCounts) (b : FileLists) : Type 0 where
@@ -24,17 +25,21 @@ pub record FrontsFit (c : FileCounts) (b : FileLists) : Type 0 where
   pub start : Cut (c .nodes + 1) (b .start)
   pub list : Cut (c .entries) (b .list)
 
+-- the graph in front
+abbrev pub frontLent : FileCounts → FileLists → Lent
+frontLent c b =
+    let n = c .links in
+    lent (take n (b .ax)) (take n (b .ay)) (take n (b .bx)) (take n (b .by)) (take n (b .aId)) (take n (b .bId))
+    (take (c .nodes + 1) (b .start)) (take (c .entries) (b .list))
+
 -- the answer to what stands in front
 abbrev pub frontText : FileCounts → FileLists → List ℕ
-frontText c b =
-    let n = c .links in
-    graphText
-    (lent (take n (b .ax)) (take n (b .ay)) (take n (b .bx)) (take n (b .by)) (take n (b .aId)) (take n (b .bId))
-    (take (c .nodes + 1) (b .start)) (take (c .entries) (b .list)))
-    (take n (b .top))
-    (c .clockwise)
-    (c .minimum)
-    (take n (b .state))
+frontText c b = graphText (frontLent c b) (take (c .links) (b .top)) (c .clockwise) (c .minimum) (take (c .links) (b .state))
+
+-- the states of its links as extraction leaves them, and the others as they were
+abbrev pub frontStates : FileCounts → FileLists → List ℕ
+frontStates c b =
+    graphStates (frontLent c b) (take (c .links) (b .top)) (c .clockwise) (c .minimum) (take (c .links) (b .state)) ++ drop (c .links) (b .state)
 
 abbrev pub ReadFits : FileRead → FileLists → Type 0
 ReadFits (answer.Graph c) b = FrontsFit c b
@@ -43,3 +48,7 @@ ReadFits (answer.Refused why) b = Unit
 abbrev pub readText : FileRead → FileLists → List ℕ
 readText (answer.Graph c) b = frontText c b
 readText (answer.Refused why) b = printedRefusal (why .number) (why .place)
+
+abbrev pub readStates : FileRead → FileLists → List ℕ
+readStates (answer.Graph c) b = frontStates c b
+readStates (answer.Refused why) b = b .state

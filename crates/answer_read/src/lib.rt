@@ -1,12 +1,14 @@
 // What the program answers to what reading gave: its refusal, or the answer to the graph in the lent lists.
 use format::FileCounts;
 use format::FileRead;
+ghost use mathlib.Core.Path.{_≡_};
 ghost use Prim.Native.Nat.{_≤_};
 ghost use lib.ListN.{length};
 ghost use Rattle.format.specs.File.{FileLists, fileLists};
 ghost use Rattle.print.specs.Room.{answerBytes};
 ghost use Rattle.writing.specs.Write.{Wrote};
-ghost use Rattle.answer_read.specs.ReadText.{FrontsFit, frontText, ReadFits, readText};
+ghost use Rattle.answer_read.specs.ReadText.{FrontsFit, frontText, frontStates, ReadFits};
+ghost use Rattle.answer_read.specs.Promises.{answer-read-says};
 
 // Answers the graph that stands at the fronts of the lists that a file was read into.
 fn answer_fronts(
@@ -32,7 +34,7 @@ fn answer_fronts(
         (let b : FileLists = fileLists (now (ax .entry)) (now (ay .entry)) (now (bx .entry)) (now (by .entry))
         (now («a_id» .entry)) (now («b_id» .entry)) (now (top .entry)) (now (state .entry))
         (now (start .entry)) (now (list .entry)) in
-        Wrote (now (out .entry)) (now (out .exit)) 0 r (frontText counts b)) ⌝ }
+        (Wrote (now (out .entry)) (now (out .exit)) 0 r (frontText counts b)) × (now (state .exit) ≡ frontStates counts b)) ⌝ }
 {
     let n = counts.links;
     let m = counts.nodes + 1;
@@ -78,7 +80,7 @@ pub fn answer_read(
         (let b : FileLists = fileLists (now (ax .entry)) (now (ay .entry)) (now (bx .entry)) (now (by .entry))
         (now («a_id» .entry)) (now («b_id» .entry)) (now (top .entry)) (now (state .entry))
         (now (start .entry)) (now (list .entry)) in
-        Wrote (now (out .entry)) (now (out .exit)) 0 r (readText read b)) ⌝ }
+        answer-read-says read b (now (out .entry)) (now (state .exit)) (now (out .exit)) r) ⌝ }
 {
     match read {
         FileRead::Refused(why) => print::write_refusal(why.number, why.place, out),

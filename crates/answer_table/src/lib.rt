@@ -11,7 +11,8 @@ ghost use Rattle.table.specs.Table.{Table, table};
 ghost use Rattle.print.specs.Room.{answerBytes};
 ghost use Rattle.writing.specs.Write.{Wrote};
 ghost use Rattle.answer_table.specs.BoundText.{boundText};
-ghost use Rattle.answer_table.specs.ExtractionText.{KeptFits, keptPart, ExtractionFits, extractionText};
+ghost use Rattle.answer_table.specs.ExtractionText.{KeptFits, keptPart, ExtractionFits};
+ghost use Rattle.answer_table.specs.Promises.{answer-extraction-says};
 
 // Binds the contours of a table and prints them.
 fn answer_table(
@@ -84,7 +85,7 @@ pub fn answer_extraction(
     requires { ⌜ answerBytes ≤ length (now out) ⌝ }
     ensures { λ r. ⌜
         (let t : Table = table (now (points .entry)) (now (first .entry)) (now (len .entry)) (now (kind .entry)) in
-        Wrote (now (out .entry)) (now (out .exit)) 0 r (extractionText clockwise extraction t)) ⌝ }
+        answer-extraction-says extraction t clockwise (now (out .entry)) (now (out .exit)) r) ⌝ }
 {
     match extraction {
         Extraction::Refused { number, place } => print::write_refusal(number, place, out),

@@ -5,5 +5,5 @@ pub mod Encoded
 pub mod RoundTrip
 pub mod Accepted
 pub mod Decided
-pub mod Once
 pub mod Examples
+pub mod Promises

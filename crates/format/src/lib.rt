@@ -2,8 +2,8 @@
 //
 // The form of the whole file is looked at first, by its heads, so that a refusal leaves every lent list alone;
 // then the lists are filled.
-ghost use mathlib.Core.Path.{_≡_};
-ghost use Rattle.format.specs.File.{fileOf, FileLists, fileLists, FileRoom, reading, readInto};
+ghost use Rattle.format.specs.File.{FileLists, fileLists, FileRoom};
+ghost use Rattle.format.specs.Promises.{read-graph-says};
 use format_records::FileShape;
 use format_records::MAX_ENTRIES;
 use format_records::MAX_NODES;
@@ -54,7 +54,7 @@ pub fn read_graph(
         let after : FileLists = fileLists (now (ax .exit)) (now (ay .exit)) (now (bx .exit)) (now (by .exit))
         (now («a_id» .exit)) (now («b_id» .exit)) (now (top .exit)) (now (state .exit))
         (now (start .exit)) (now (list .exit)) in
-        reading r after ≡ readInto (fileOf (now (s .entry))) before) ⌝ }
+        read-graph-says (now (s .entry)) before r after) ⌝ }
 {
     match format_records::shape_of(s) {
         FileShape::Wrong(e) => FileRead::Refused(e),

@@ -5,8 +5,9 @@ ghost use lib.ListN.{length, getD};
 ghost use Rattle.writing.specs.Put.{putAt, atFront};
 ghost use Rattle.format_numbers.specs.Bytes.{u16At, i32At, every};
 ghost use Rattle.format_records.specs.Limits.{maxEntries};
-ghost use Rattle.format_lists.specs.Columns.{Columns, columns, LinkRoom, linksInto};
-ghost use Rattle.format_lists.specs.NodeLists.{entriesFrom, startsFrom, NodesStand};
+ghost use Rattle.format_lists.specs.Columns.{Columns, columns, LinkRoom};
+ghost use Rattle.format_lists.specs.NodeLists.{NodesStand};
+ghost use Rattle.format_lists.specs.Promises.{fill-links-says, fill-nodes-says};
 
 // The numbers at every 28th byte, the bytes of a link's record.
 fn fill_i32(s: &[u8], from: usize, n: usize, out: &mut [i32])
@@ -74,7 +75,7 @@ pub fn fill_links(
         (now («a_id» .entry)) (now («b_id» .entry)) (now (top .entry)) (now (state .entry)) in
         let after : Columns = columns (now (ax .exit)) (now (ay .exit)) (now (bx .exit)) (now (by .exit))
         (now («a_id» .exit)) (now («b_id» .exit)) (now (top .exit)) (now (state .exit)) in
-        after ≡ linksInto (now (s .entry)) n before) ⌝ }
+        fill-links-says (now (s .entry)) n before after) ⌝ }
 {
     fill_i32(s, 21, n, ax);
     fill_i32(s, 25, n, ay);
@@ -90,8 +91,8 @@ pub fn fill_links(
 pub fn fill_nodes(s: &[u8], from: usize, m: usize, start: &mut [u32], list: &mut [u32])
     requires { ⌜ (m < length (now start)) × (maxEntries ≤ length (now list))
         × NodesStand (now s) maxEntries m from 0 ⌝ }
-    ensures { λ _. ⌜ now (start .exit) ≡ atFront (startsFrom (now (s .entry)) m from 0) (now (start .entry)) ⌝ }
-    ensures { λ _. ⌜ now (list .exit) ≡ atFront (entriesFrom (now (s .entry)) m from) (now (list .entry)) ⌝ }
+    ensures { λ _. ⌜ fill-nodes-says (now (s .entry)) from m (now (start .entry)) (now (list .entry))
+        (now (start .exit)) (now (list .exit)) ⌝ }
 {
     let mut at = from;
     let mut e: u32 = 0;

@@ -1,2 +1,3 @@
--- Numbers in a list of bytes.
+-- Numbers in a list of bytes; what the functions promise of them.
 pub mod Bytes
+pub mod Promises

@@ -5,3 +5,4 @@ pub mod Shape
 pub mod Steps
 pub mod Runs
 pub mod Forms
+pub mod Promises

@@ -4,8 +4,9 @@ ghost use Prim.Native.Nat.{ℕ, _+_, _^_, _<_, _≤_};
 ghost use mathlib.Core.List.{List};
 ghost use lib.ListN.{length};
 ghost use Rattle.format_records.specs.Limits.{maxRecords};
-ghost use Rattle.format_records.specs.Records.{headNumber, refusal, stepAt, runAt, settingsRight, formOf, nodesAfter};
+ghost use Rattle.format_records.specs.Records.{headNumber, refusal, stepAt, runAt, settingsRight, nodesAfter};
 ghost use Rattle.format_records.specs.Shape.{runEndOf, fileShapeOf};
+ghost use Rattle.format_records.specs.Promises.{shape-of-says};
 use turn::MAX_LINKS;
 
 // "a 4,097th node or 8,193rd list entry" ends the reading with 5, as a link past MAX_LINKS does with 1.
@@ -174,7 +175,7 @@ fn nodes_after(s: &[u8], links: usize, at: usize) -> FileShape
 
 // The form of the whole file: the settings, then the links.
 pub fn shape_of(s: &[u8]) -> FileShape
-    ensures { λ r. ⌜ r ≡ fileShapeOf (formOf (now (s .entry))) ⌝ }
+    ensures { λ r. ⌜ shape-of-says (now (s .entry)) r ⌝ }
 {
     if !settings_right(s) {
         return FileShape::Wrong(Refusal {

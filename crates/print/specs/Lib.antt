@@ -2,3 +2,4 @@
 pub mod Answer
 pub mod Room
 pub mod Examples
+pub mod Promises

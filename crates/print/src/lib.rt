@@ -8,7 +8,8 @@ ghost use lib.ListN.{length};
 ghost use Rattle.writing.specs.Cuts.{Cut};
 ghost use Rattle.writing.specs.Write.{Wrote};
 ghost use Rattle.print.specs.Room.{answerBytes, refusalBytes, RangesInside, Printable};
-ghost use Rattle.print.specs.Answer.{OwnedTable, ownedTable, pointLines, contourLines, contoursFrom, printed, printedRefusal};
+ghost use Rattle.print.specs.Answer.{OwnedTable, ownedTable, pointLines, contourLines, contoursFrom};
+ghost use Rattle.print.specs.Promises.{write-answer-says, write-refusal-says};
 
 // The most contours of a table: each has at least 3 points.
 pub const MAX_CONTOURS: usize = MAX_LINKS / 3;
@@ -108,7 +109,7 @@ pub fn write_answer(
         (let t : OwnedTable =
         ownedTable (now (points .entry)) (now (first .entry)) (now (len .entry))
         (now (kind .entry)) (now (owner .entry)) in
-        Wrote (now (out .entry)) (now (out .exit)) 0 r (printed t totals)) ⌝ }
+        write-answer-says t totals (now (out .entry)) (now (out .exit)) r) ⌝ }
     ensures { λ r. ⌜ Cut r (now (out .exit)) ⌝ }
 {
     let contours = totals.contours;
@@ -119,7 +120,7 @@ pub fn write_answer(
 // "A program's refusal prints one line, as `refused 3 at 2`".
 pub fn write_refusal(number: u32, place: usize, out: &mut [u8]) -> usize
     requires { ⌜ refusalBytes ≤ length (now out) ⌝ }
-    ensures { λ r. ⌜ Wrote (now (out .entry)) (now (out .exit)) 0 r (printedRefusal number place) ⌝ }
+    ensures { λ r. ⌜ write-refusal-says number place (now (out .entry)) (now (out .exit)) r ⌝ }
     ensures { λ r. ⌜ Cut r (now (out .exit)) ⌝ }
 {
     let a = print_text::write_said(b"refused ", number as u64, out, 0);

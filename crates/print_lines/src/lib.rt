@@ -7,6 +7,7 @@ ghost use lib.ListN.{length};
 ghost use Rattle.writing.specs.Write.{Wrote};
 ghost use Rattle.print_text.specs.Decimal.{said};
 ghost use Rattle.print_lines.specs.Lines.{header, roleText, contourLine, pointLine};
+ghost use Rattle.print_lines.specs.Promises.{write-point-says, write-contour-line-says, write-header-says};
 
 // The numbers of the answer's first line.
 pub struct Totals {
@@ -19,7 +20,7 @@ pub struct Totals {
 // A point: its x, then its y.
 pub fn write_point(x: i32, y: i32, out: &mut [u8], at: usize) -> usize
     requires { ⌜ at + length (pointLine x y) ≤ length (now out) ⌝ }
-    ensures { λ r. ⌜ Wrote (now (out .entry)) (now (out .exit)) at r (pointLine x y) ⌝ }
+    ensures { λ r. ⌜ write-point-says x y (now (out .entry)) at (now (out .exit)) r ⌝ }
 {
     let a = print_text::write_signed(x, out, at);
     let b = print_text::write_text(b" ", out, a);
@@ -51,7 +52,7 @@ pub fn write_contour_line(
     at: usize,
 ) -> usize
     requires { ⌜ at + length (contourLine number kind owner len) ≤ length (now out) ⌝ }
-    ensures { λ r. ⌜ Wrote (now (out .entry)) (now (out .exit)) at r (contourLine number kind owner len) ⌝ }
+    ensures { λ r. ⌜ write-contour-line-says number kind owner len (now (out .entry)) at (now (out .exit)) r ⌝ }
 {
     let a = print_text::write_decimal(number as u64, out, at);
     let b = write_role(kind, owner, out, a);
@@ -62,7 +63,7 @@ pub fn write_contour_line(
 // The first line.
 pub fn write_header(t: Totals, out: &mut [u8]) -> usize
     requires { ⌜ length (header t) ≤ length (now out) ⌝ }
-    ensures { λ r. ⌜ Wrote (now (out .entry)) (now (out .exit)) 0 r (header t) ⌝ }
+    ensures { λ r. ⌜ write-header-says t (now (out .entry)) (now (out .exit)) r ⌝ }
 {
     let a = print_text::write_said(b"contours ", t.contours as u64, out, 0);
     let b = print_text::write_said(b" shapes ", t.shapes as u64, out, a);

@@ -2,3 +2,4 @@
 pub mod Cuts
 pub mod Put
 pub mod Write
+pub mod Promises

@@ -2,7 +2,7 @@
 use mathlib.Core.Path.{_∙_}
 use Rattle.format.specs.File.{FileLists, fileLists}
 use Rattle.writing.specs.Write.{wrote-as}
-use Rattle.answer_file.proofs.Fronts.{read-fits, read-text}
+use Rattle.answer_file.proofs.Fronts.{read-fits, read-text, read-left}
 use Rattle.answer_file.proofs.answer_file.Statement.{statement}
 use Rattle.answer_file.proofs.answer_file.Tie as tie
 
@@ -92,11 +92,11 @@ same-length-11 c = c .before .out .given
 returns : tie.Need-returns
 returns c =
     let s = answered-start c in
-    wrote-as
-    (read-text (s .args .input .now) (b s)
-    ((read-list c) .before .before .before .before .before .before .before .before .before .before .before .before
-    .before .before .before .read-graph .ensures))
-    (c .before .before .before .before .answer-read .ensures)
+    let e =
+    (read-list c) .before .before .before .before .before .before .before .before .before .before .before .before
+    .before .before .before .read-graph .ensures in
+    let w = c .before .before .before .before .answer-read .ensures in
+    (wrote-as (read-text (s .args .input .now) (b s) e) (w .0), read-left (s .args .input .now) (b s) e (w .1))
 
 pub answer-file-spec : {M : Type 1} → statement M
 answer-file-spec = tie.close (tie.spec read-graph-requires answer-read-requires same-length same-length-2

@@ -1,7 +1,7 @@
 -- `answer_graph::answer_contours` meets its contract: extraction, then the answer to what it gave.
 use Rattle.graph.specs.Graph.{Lent, lent}
 use Rattle.writing.specs.Write.{wrote-as}
-use Rattle.answer_graph.proofs.Extracts.{extraction-fits, extracted-text}
+use Rattle.answer_graph.proofs.Extracts.{extraction-fits, extracted-text, extracted-states}
 use borrow.Author.Needs.{needs}
 use Rattle.answer_graph.proofs.answer_contours.Statement.{statement}
 use Rattle.answer_graph.proofs.answer_contours.Tie as tie
@@ -68,11 +68,13 @@ same-length-6 c = c .before .out .given
 returns : tie.Need-returns
 returns c =
     let s = answered-start c in
-    wrote-as
-    (extracted-text (g s) (s .args .top .now) (s .args .clockwise) (s .args .minimum) (b s)
-    (c .before .before .before .before .before .before .before .before .before .before .before .before .before
-    .before .before .before .before .extract .ensures))
-    (c .before .before .answer-extraction .ensures)
+    let e =
+    c .before .before .before .before .before .before .before .before .before .before .before .before .before
+    .before .before .before .before .extract .ensures in (
+      wrote-as (extracted-text (g s) (s .args .top .now) (s .args .clockwise) (s .args .minimum) (b s) e)
+          (c .before .before .answer-extraction .ensures),
+      extracted-states (g s) (s .args .top .now) (s .args .clockwise) (s .args .minimum) (b s) e,
+    )
 
 pub answer-contours-spec : {M : Type 1} → statement M
 answer-contours-spec = tie.close (tie.spec extract-requires answer-extraction-requires same-length same-length-2

@@ -1,9 +1,9 @@
 -- `answer_read::answer_read` meets its contract: what reading gave, case by case.
-use mathlib.Core.Path.{sym, ap, subst}
+use mathlib.Core.Path.{sym, ap, subst, _∙_}
 use Rattle.format.specs.declared.FileRead.{FileRead}
 use Rattle.format.specs.File.{FileLists, fileLists}
 use Rattle.writing.specs.Write.{wrote-as}
-use Rattle.answer_read.specs.ReadText.{ReadFits, readText}
+use Rattle.answer_read.specs.ReadText.{ReadFits, readText, readStates}
 use borrow.Author.Needs.{needs}
 use Rattle.answer_read.proofs.answer_read.Statement.{statement}
 use Rattle.answer_read.proofs.answer_read.Tie as tie
@@ -36,8 +36,8 @@ returns c =
     let s =
     c .before .before .before .before .before .before .before .before .before .before .before .before .before
     .before in
-    wrote-as (ap (λ (r : FileRead). readText r (b s)) (sym (c .before .before .before .before .before .read .given .1)))
-    (c .before .before .write-refusal .ensures .0)
+    let e = sym (c .before .before .before .before .before .read .given .1) in
+    (wrote-as (ap (λ (r : FileRead). readText r (b s)) e) (c .before .before .write-refusal .ensures .0), ap (λ (r : FileRead). readStates r (b s)) e)
 
 same-length-2 : tie.Need-same-length-2
 same-length-2 c = search needs
@@ -50,9 +50,9 @@ returns-2 c =
     let s =
     c .before .before .before .before .before .before .before .before .before .before .before .before .before
     .before .before .before .before in
-    wrote-as (ap (λ (r : FileRead). readText r (b s)) (sym (c .before .before .before .before .before .before
-    .before .before .read2 .given .1)))
-    (c .before .before .before .before .answer-fronts .ensures)
+    let e = sym (c .before .before .before .before .before .before .before .before .read2 .given .1) in
+    let w = c .before .before .before .before .answer-fronts .ensures in
+    (wrote-as (ap (λ (r : FileRead). readText r (b s)) e) (w .0), w .1 ∙ ap (λ (r : FileRead). readStates r (b s)) e)
 
 pub answer-read-spec : {M : Type 1} → statement M
 answer-read-spec = tie.close (tie.spec enum-known-read write-refusal-requires enum-known-read-2 answer-fronts-requires

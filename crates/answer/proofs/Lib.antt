@@ -1,0 +1,2 @@
+-- The program's lists before reading.
+pub mod Zeros
