@@ -29,7 +29,8 @@ same-length c = search needs
 
 returns : tie.Need-returns
 returns c =
-    let s = c .before .before .before .before .before .before .before .before .before .before .before .before .before .before .before in let n = c .before .before .before .before .before .before .before .before .number-hulls in let o = c .before .before .before .before .search-owners in
+    let o = c .before .before .before .before .search-owners in let n = c .before .before .before .before .before .before .before .before .number-hulls in
+    let s = c .before .before .before .before .before .before .before .before .before .before .before .before .before .before .before in
     deliver-stuck (t s) (s .pre .0 .0) (s .args .clockwise) (n .last .1 .0) (o .last .1 .1 .1 .1 .1 .0) (s .args .owner .now) (o .result) (n .ensures)
     (o .ensures) (sym (c .before .is-stuck .ensures) ∙ c .if1 .taken)
 
@@ -44,9 +45,12 @@ same-length-3 c = search needs
 
 returns-2 : tie.Need-returns-2
 returns-2 c =
-    let s = c .before .before .before .before .before .before .before .before .before .before .before .before .before .before .before .before .before .before .before .before in let n = c .before .before .before .before .before .before .before .before .before .before .before .before .before .number-hulls in let o = c .before .before .before .before .before .before .before .before .before .search-owners in let k = c .before .before .copy in
+    let p = c .before .before .before .before .before in let o = p .before .before .before .before .search-owners in
+    let n = p .before .before .before .before .before .before .before .before .number-hulls in
+    let s = p .before .before .before .before .before .before .before .before .before .before .before .before .before .before .before in
+    let k = c .before .before .copy in
     deliver-all (t s) (s .pre .0 .0) (s .args .clockwise) (n .last .1 .0) (o .last .1 .1 .1 .1 .1 .0) (s .args .owner .now) (o .result) (n .ensures)
-    (o .ensures) (k .last .1 .0) (sym (c .before .before .before .before .before .before .is-stuck .ensures) ∙ c .before .before .before .before .before .if1 .left) (k .ensures)
+    (o .ensures) (k .last .1 .0) (sym (p .before .is-stuck .ensures) ∙ p .if1 .left) (k .ensures)
 
 pub bind-in-spec : {M : Type 1} → statement M
 bind-in-spec = tie.close (tie.spec number-hulls-requires search-owners-requires is-stuck-requires same-length returns
