@@ -143,6 +143,27 @@ module _ (t : Table) (s : Sound t) (cw : Bool) (l : List ℕ) where
           positive : (hullCount t ≡ 0 → ⊥) → 0 < hullCount t
           positive j = omega arith
 
+-- ---- the number and the place of what was given are those of its case
+abbrev Whole : Owned → Type 0
+Whole w = w ≡ owned (w .answer) (w .owners)
+
+whole-pick : (b : Bool) (x y : Owned) → Whole x → Whole y → Whole (pick b x y)
+whole-pick true x y p q = p
+whole-pick false x y p q = q
+
+given-whole : (under : ℕ → ℕ) (l owners : List ℕ) → Whole (giveEach under l owners)
+unfolding giveEach
+given-whole under [] owners = refl
+given-whole under (c ∷ l) owners =
+    whole-pick (eqb (given (under c) owners) droppedOwner) _ _ refl (given-whole under l (set owners c (given (under c) owners)))
+
+owners-whole : (t : Table) (cw : Bool) → Whole (ownersOf t cw)
+unfolding ownersOf
+owners-whole t cw =
+    whole-pick (eqb (hullCount t) 0) _ _ refl
+    (whole-pick (eqb (hullCount t) 1) _ _ refl
+    (given-whole (contourBelow t cw) (bindingOrder t cw) (tabulate (firstOwner (t .kind)) (contourCount t))))
+
 -- ---- binding
 module _ (t : Table) (cw : Bool) (buffer owner : List ℕ) (shapes dropped : ℕ) where
   by-checked : (o : Checked) → bothChecked t (length buffer) cw ≡ o → outcome (binding.Bound shapes dropped) owner ≡ boundAfter o t cw buffer
@@ -166,7 +187,8 @@ module _ (t : Table) (cw : Bool) (buffer owner : List ℕ) (shapes dropped : ℕ
       let ten : tableChecked t (length buffer) ≡ Fine = first-fine (tableChecked t (length buffer)) (anchorsChecked t cw) (q .0) in
       let p = passes-sound t (length buffer) .to ten in
       let w = by-given (ownersOf t cw) (q .1) in
-      let r : Right t (ownersOf t cw .owners) = owners-right t (p .0) cw (ownersOf t cw .owners) (ap (λ a. owned a (ownersOf t cw .owners)) (w .0)) in
+      let r : Right t (ownersOf t cw .owners) = owners-right t (p .0) cw (ownersOf t cw .owners)
+      (owners-whole t cw ∙ ap (λ a. owned a (ownersOf t cw .owners)) (w .0)) in
       let n : length owner ≡ length buffer = long (ownersOf t cw .owners) (w .1) (r .long) (p .1) in
       let o : getD owner c 0 ≡ getD (ownersOf t cw .owners) c 0 = ap (λ (x : List ℕ). getD x c 0) (w .1)
       ∙ List·getD-append (ownersOf t cw .owners) _ 0 c (rw (r .long) l) in

