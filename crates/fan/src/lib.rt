@@ -16,7 +16,7 @@ use turn::cross_product;
 use turn::wide;
 
 // Up to so many entries are laid in the order in which they come; more are many.
-const FEW_ENTRIES: usize = 32;
+const FEW_ENTRIES: u32 = 32;
 
 // Whether link e stands later in the ring of node v than link f: b's before a's, each counterclockwise.
 fn stands_later(
@@ -228,7 +228,7 @@ fn order_node(
     ensures { λ _. ⌜ Rearranged (now (here .entry)) (now (here .exit)) ⌝ }
 {
     let n = aid.len();
-    if (here.len() <= FEW_ENTRIES) | (n < here.len()) {
+    if (here.len() <= wide(FEW_ENTRIES)) | (n < here.len()) {
         return;
     }
     if some_stray(here, n) {
@@ -277,21 +277,18 @@ pub fn arrange(
     }
 }
 
-// Whether some node has many entries.
+// Whether some node has many entries. In the starts' own 32 bits, so that the loop over them is compiled for several at a time.
 pub fn some_wide(start: &[u32]) -> bool
     requires { ⌜ 1 ≤ length (now start) ⌝ }
     requires { ⌜ ((v : ℕ) → v < length (now start) - 1 → getD (now start) v 0 ≤ getD (now start) (v + 1) 0) ⌝ }
     ensures { λ r. ⌜ some-wide-says (now (start .entry)) r ⌝ }
 {
     let m = start.len() - 1;
+    let mut many = false;
     let mut v = 0;
     while v < m {
-        let from = wide(start[v]);
-        let to = wide(start[v + 1]);
-        if FEW_ENTRIES < to - from {
-            return true;
-        }
+        many = many | (FEW_ENTRIES < start[v + 1] - start[v]);
         v += 1;
     }
-    false
+    many
 }
