@@ -2,4 +2,5 @@
 pub mod Rearranged
 pub mod Orders
 pub mod Relaid
+pub mod Arranged
 pub mod Promises

@@ -1,26 +1,20 @@
 -- What is laid from a node's entries is what is laid from them in any other order: checks 5 to 7 answer the same, and a ring of the one is
 -- a ring of the other.
-use Prim.Native.Nat.{ℕ, zero, suc, _≤_, _<_}
-use native.Mathlib.Nat.{sub-zero}
-use native.Mathlib.Numerals.{add-one}
+use Prim.Native.Nat.{ℕ, _≤_, _<_}
 use native.Mathlib.Omega.{arith}
 use native.Mathlib.Decide.{ℕ-discrete, decLe}
 use mathlib.Core.Path.{_≡_, refl, sym, ap, _∙_, subst}
 use mathlib.Core.Bool.{Bool, true, false, not, _&&_}
-use mathlib.Core.List.{List, [], _∷_, _++_}
-use lib.Dec.{leb}
+use mathlib.Core.List.{List}
 use lib.IntN.{ℤ}
-use lib.ListN.{length, getD, replicate}
-use lib.Seq.{take-length}
-use borrow.Author.Tests.{ne-eqb, leb-true}
-use Rattle.laws.specs.Test.{pick, pick-false, true≢false}
-use Rattle.laws.specs.Lowest.{lowest, some, some-of}
-use Rattle.laws.specs.Count.{count, count-two, count-single, counted, sum-less, sum-const}
+use lib.ListN.{length, getD}
+use Rattle.laws.specs.Test.{true≢false}
+use Rattle.laws.specs.Count.{count, count-two, count-single}
 use Rattle.turn.specs.declared.Point.{Point}
 use Rattle.turn.specs.Angle.{sameDirection}
 use Rattle.graph.specs.Graph.{lent, graphOf, part}
-use Rattle.graph.specs.Checks.{strayIn, endAt, away, skipped, alike}
-use Rattle.graph.specs.Quick.{clashAt, nodeWrong, bridgeWrong}
+use Rattle.graph.specs.Checks.{endAt, away, skipped, alike}
+use Rattle.graph.specs.Quick.{nodeWrong}
 use Rattle.graph.specs.Passes.{EndAt}
 use Rattle.graph.specs.PointLaws.{same-direction-sym}
 use Rattle.graph.specs.Sound.{FineNode, fine-node}
@@ -52,10 +46,6 @@ either-way P n s h p q lp lq d = go (decLe p q)
         above k = omega arith
 
 module _ (aId bId : List ℕ) (a b : ℕ → Point) (aNode : ℕ → ℕ) (state : List ℕ) (v : ℕ) where
-  -- something is wrong with node v, a `Cross` with the entries l
-  abbrev pub crossWrong : List ℕ → Bool
-  crossWrong l = pick (strayIn aId bId l v) true (some (clashAt a b aNode state l v) (length l))
-
   -- that of two links the first is alike the second does not go by which is first
   alike-sym : (e f : ℕ) → alike a b aNode state v f e ≡ alike a b aNode state v e f
   alike-sym e f = ap (λ (d : Bool). not (skipped state f) && not (skipped state e) && d) (same-direction-sym (away a b aNode v e) (away a b aNode v f))
@@ -104,74 +94,20 @@ module _ (aId bId : List ℕ) (a b : ℕ → Point) (aNode : ℕ → ℕ) (state
       ways = two-before (λ (x y : ℕ). alike a b aNode state v x y ≡ false) unlike;
     }
 
-  -- of more than two entries `nodeWrong` says what is wrong with a `Cross`
-  as-node : (l : List ℕ) → 2 < length l → nodeWrong aId bId a b aNode state l v ≡ crossWrong l
-  as-node l h =
-      pick-false (bridgeWrong aId bId a b aNode state v (getD l 0 0) (getD l 1 0)) (crossWrong l)
-      (ne-eqb (length l) 2 (λ (e : length l ≡ 2). omega arith))
-
-  fine-of : (l : List ℕ) → 2 < length l → crossWrong l ≡ false → FineNode aId bId a b aNode state l v
-  fine-of l h e = fine-node aId bId a b aNode state l v (as-node l h ∙ e)
-
-  right-again : {l m : List ℕ} → Rearranged l m → 2 < length l → crossWrong l ≡ false → crossWrong m ≡ false
+  right-again : {l m : List ℕ} → Rearranged l m → 2 ≤ length l → nodeWrong aId bId a b aNode state l v ≡ false
+      → nodeWrong aId bId a b aNode state m v ≡ false
   right-again {l} {m} r h e =
-      let k : 2 < length m = omega (arith, r .len) in
-      sym (as-node m k) ∙ node-fine aId bId a b aNode state m v (omega arith) (fine-again r (fine-of l h e))
+      let k : 2 ≤ length m = omega (arith, r .len) in
+      node-fine aId bId a b aNode state m v k (fine-again r (fine-node aId bId a b aNode state l v e))
 
   -- the answer is the same
-  pub wrong-again : {l m : List ℕ} → Rearranged l m → 2 < length l → crossWrong m ≡ crossWrong l
-  wrong-again {l} {m} r h = same-test (crossWrong m) (crossWrong l) (right-again (moved-back r) (omega (arith, r .len))) (right-again r h)
-
-  -- ---- entries with which something is wrong at first sight
-  not-right : (l : List ℕ) → 2 < length l → (FineNode aId bId a b aNode state l v → ⊥) → crossWrong l ≡ true
-  not-right l h n = by (crossWrong l) (λ e. n (fine-of l h e))
-    where
-      by : (t : Bool) → (t ≡ false → ⊥) → t ≡ true
-      by true n = refl
-      by false n = absurd (n refl)
-
-  -- one is no link
-  pub no-link : (l : List ℕ) → 2 < length l → some (λ i. leb (length aId) (getD l i 0)) (length l) ≡ true → crossWrong l ≡ true
-  no-link l h e = not-right l h none
-    where
-      none : FineNode aId bId a b aNode state l v → ⊥
-      none f =
-          let at : ℕ = lowest (λ i. leb (length aId) (getD l i 0)) (length l) in
-          let o = some-of (λ i. leb (length aId) (getD l i 0)) (length l) e in
-          omega (arith, leb-true (length aId) (getD l at 0) (o .passes), f .ends at (o .within) .below)
-
-  -- there are more than links: one of them stands there twice, or is no link
-  pub too-many : (l : List ℕ) → 2 < length l → length aId < length l → crossWrong l ≡ true
-  too-many l h k = not-right l h none
-    where
-      none : FineNode aId bId a b aNode state l v → ⊥
-      none f =
-          let n : ℕ = length aId in
-          let c = counted l n (λ i m. f .ends i m .below) in
-          let s = sum-less (λ x. count x l) (λ x. 1) n (λ x _. count-single x l (f .single)) in
-          omega (arith, c, s, sum-const 1 n)
+  pub wrong-again : {l m : List ℕ} → Rearranged l m → 2 ≤ length l → nodeWrong aId bId a b aNode state m v ≡ nodeWrong aId bId a b aNode state l v
+  wrong-again {l} {m} r h =
+      same-test (nodeWrong aId bId a b aNode state m v) (nodeWrong aId bId a b aNode state l v) (right-again (moved-back r) (omega (arith, r .len)))
+      (right-again r h)
 
 -- ---- the ring
--- starts of which node v's is 0 and the next one n: to node v belongs all of a list of n entries
-abbrev startsTo : ℕ → ℕ → List ℕ
-startsTo v n = replicate v 0 ++ (0 ∷ (n ∷ []))
-
-from-zero : (v n : ℕ) → getD (startsTo v n) v 0 ≡ 0
-from-zero zero n = refl
-from-zero (suc v) n = from-zero v n
-
-up-to : (v n : ℕ) → getD (startsTo v n) (suc v) 0 ≡ n
-up-to zero n = refl
-up-to (suc v) n = up-to v n
-
-whole : (v : ℕ) (l : List ℕ) → part (startsTo v (length l)) l v ≡ l
-whole v l = rw (add-one v, up-to v (length l), from-zero v (length l), sub-zero (length l)) (take-length l)
-
 module _ (ax ay bx by : List ℤ) (aId bId state : List ℕ) (v : ℕ) (nxt prv : List ℕ) where
-  -- node v is laid, if its entries are these
-  abbrev pub LaidFrom : List ℕ → Type 0
-  LaidFrom l = (start list top : List ℕ) → part start list v ≡ l → LaidCross (graphOf (lent ax ay bx by aId bId start list) top) state v nxt prv
-
   -- a ring of a node is a ring of any node with the same ends
   laid-alike : (s m t n top : List ℕ) → ((k : ℕ) → Mem k (part s m v) → Mem k (part t n v)) → ((k : ℕ) → Mem k (part t n v) → Mem k (part s m v))
       → LaidCross (graphOf (lent ax ay bx by aId bId s m) top) state v nxt prv → LaidCross (graphOf (lent ax ay bx by aId bId t n) top) state v nxt prv
@@ -187,9 +123,7 @@ module _ (ax ay bx by : List ℤ) (aId bId state : List ℕ) (v : ℕ) (nxt prv 
     last = c .last;
   }
 
-  pub laid-again : {l m : List ℕ} → Rearranged l m → LaidFrom m → LaidFrom l
-  laid-again {l} {m} r h start list top e =
-      laid-alike (startsTo v (length m)) m start list top
-      (λ k i. subst (Mem k) (sym e) (member-before r (subst (Mem k) (whole v m) i)))
-      (λ k i. subst (Mem k) (sym (whole v m)) (member-before (moved-back r) (subst (Mem k) e i)))
-      (h (startsTo v (length m)) m top (whole v m))
+  pub laid-again : (start list copy top : List ℕ) → Rearranged (part start list v) (part start copy v)
+      → LaidCross (graphOf (lent ax ay bx by aId bId start copy) top) state v nxt prv
+      → LaidCross (graphOf (lent ax ay bx by aId bId start list) top) state v nxt prv
+  laid-again start list copy top r = laid-alike start copy start list top (λ k. member-before r) (λ k. member-before (moved-back r))

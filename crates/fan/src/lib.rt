@@ -1,30 +1,22 @@
-// The ring of a `Cross` of any degree. Of many entries a copy is put into the ring's order first, so that each goes at the end of the ring
-// as it is laid. In what order they are laid decides time alone: what is proved of the sort is that it keeps the entries.
+// A copy of the list of entries in which those of a node of many stand in the ring's order, so that each goes at the end of the ring as it is
+// laid. In what order they are laid decides time alone: what is proved of the sort is that it keeps the entries.
 ghost use mathlib.Core.Path.{_≡_};
-ghost use mathlib.Core.Bool.{true, false};
-ghost use mathlib.Core.List.{List};
-ghost use Prim.Native.Nat.{ℕ, _+_, _*_, _<_, _≤_};
+ghost use Prim.Native.Nat.{ℕ, _+_, _-_, _*_, _<_, _≤_};
 ghost use lib.Dec.{leb};
 ghost use lib.ListN.{length, getD};
-ghost use Rattle.laws.specs.Test.{pick};
 ghost use Rattle.laws.specs.Lowest.{some};
 ghost use Rattle.turn.specs.Limits.{maxLinks};
-ghost use Rattle.turn.specs.declared.Point.{Point};
-ghost use Rattle.graph.specs.Graph.{lent, graphOf, pointAt, part};
-ghost use Rattle.graph.specs.Checks.{nodeAt, strayIn};
-ghost use Rattle.graph.specs.Quick.{clashAt};
-ghost use Rattle.graph.specs.Known.{Points, Grids, Runs};
-ghost use Rattle.rings.specs.Field.{LaidCross, ElseKept};
+ghost use Rattle.graph.specs.Passes.{Rising};
+ghost use Rattle.graph.specs.Known.{Points, Grids};
 ghost use Rattle.fan.specs.Rearranged.{Rearranged};
-ghost use Rattle.fan.specs.Promises.{lay-cross-says};
+ghost use Rattle.fan.specs.Promises.{arrange-says, some-wide-says};
 ghost use Rattle.fan.specs.Orders.{standsLater, outOfOrder, Sortable};
 use graph::away;
-use turn::MAX_LINKS;
 use turn::cross_product;
 use turn::wide;
 
-// Up to so many entries are laid in the order in which they come.
-const FEW_ENTRIES: usize = 32;
+// Up to so many entries are laid in the order in which they come; more are many.
+const FEW_ENTRIES: u32 = 32;
 
 // Whether link e stands later in the ring of node v than link f: b's before a's, each counterclockwise.
 fn stands_later(
@@ -205,145 +197,98 @@ fn put_in_order(
     empty_heap(ax, ay, bx, by, aid, v, list);
 }
 
-// Whether an entry is none of n links; where none is, the entries are copied.
-fn copy_links(here: &[u32], n: usize, copy: &mut [u32]) -> bool
-    requires { ⌜ length (now copy) ≡ length (now here) ⌝ }
+// Whether an entry is none of n links.
+fn some_stray(here: &[u32], n: usize) -> bool
     ensures { λ r. ⌜ r ≡ some (λ i. leb n (getD (now (here .entry)) i 0)) (length (now (here .entry))) ⌝ }
-    ensures { λ r. ⌜ (r ≡ false → now (copy .exit) ≡ now (here .entry)) ⌝ }
 {
-    let mut j = 0;
-    while j < here.len() {
-        let e = here[j];
-        if n <= wide(e) {
+    let mut i = 0;
+    while i < here.len() {
+        if n <= wide(here[i]) {
             return true;
         }
-        copy[j] = e;
-        j += 1;
+        i += 1;
     }
     false
 }
 
-// `lay_cross`, with room for the entries in the ring's order.
-fn lay_sorted(
+// The entries of node v are put into the ring's order, if they are many. Where they are more than the links, or one is no link,
+// they stay as they are: check 5 refuses such a node.
+fn order_node(
     ax: &[i32],
     ay: &[i32],
     bx: &[i32],
     by: &[i32],
     aid: &[u32],
-    bid: &[u32],
-    state: &[u8],
-    here: &[u32],
     v: usize,
-    nxt: &mut [u32],
-    prv: &mut [u32],
-    sorted: &mut [u32],
-) -> bool
+    here: &mut [u32],
+)
     requires { ⌜ Points (now ax) (now ay) (now bx) (now by) (length (now aid)) ⌝ }
     requires { ⌜ Grids (now ax) (now ay) (now bx) (now by) (length (now aid)) ⌝ }
-    requires { ⌜ length (now state) ≡ length (now aid) ⌝ }
-    requires { ⌜ Runs (now ax) (now ay) (now bx) (now by) (now aid) (now bid) ⌝ }
-    requires { ⌜ (length (now aid) ≤ maxLinks) × (2 * length (now aid) ≤ length (now nxt)) × (2 * length (now aid) ≤ length (now prv)) ⌝ }
-    requires { ⌜ (2 < length (now here)) × (length (now here) ≤ maxLinks) × (length (now sorted) ≡ length (now here)) ⌝ }
-    ensures { λ r. ⌜ (let a : ℕ → Point = pointAt (now (ax .entry)) (now (ay .entry)) in
-        let b : ℕ → Point = pointAt (now (bx .entry)) (now (by .entry)) in
-        r ≡ pick (strayIn (now (aid .entry)) (now (bid .entry)) (now (here .entry)) v) true
-        (some (clashAt a b (nodeAt (now (aid .entry))) (now (state .entry)) (now (here .entry)) v) (length (now (here .entry))))) ⌝ }
-    ensures { λ r. ⌜ (r ≡ false → (start list top : List ℕ) → part start list v ≡ now (here .entry)
-        → LaidCross (graphOf (lent (now (ax .entry)) (now (ay .entry)) (now (bx .entry)) (now (by .entry)) (now (aid .entry)) (now (bid .entry))
-        start list) top) (now (state .entry)) v (now (nxt .exit)) (now (prv .exit))) ⌝ }
-    ensures { λ _. ⌜ (ElseKept (now (aid .entry)) (now (bid .entry)) v (now (nxt .entry)) (now (nxt .exit)))
-        × (ElseKept (now (aid .entry)) (now (bid .entry)) v (now (prv .entry)) (now (prv .exit))) ⌝ }
+    requires { ⌜ length (now aid) ≤ maxLinks ⌝ }
+    ensures { λ _. ⌜ Rearranged (now (here .entry)) (now (here .exit)) ⌝ }
 {
-    if copy_links(here, aid.len(), sorted) {
-        return true;
+    let n = aid.len();
+    if (here.len() <= wide(FEW_ENTRIES)) | (n < here.len()) {
+        return;
     }
-    put_in_order(ax, ay, bx, by, aid, v, sorted);
-    spokes::lay_cross(ax, ay, bx, by, aid, bid, state, sorted, v, nxt, prv)
+    if some_stray(here, n) {
+        return;
+    }
+    put_in_order(ax, ay, bx, by, aid, v, here);
 }
 
-// `lay_cross` of many entries, with an array of its own.
-fn lay_many(
-    ax: &[i32],
-    ay: &[i32],
-    bx: &[i32],
-    by: &[i32],
-    aid: &[u32],
-    bid: &[u32],
-    state: &[u8],
-    here: &[u32],
-    v: usize,
-    nxt: &mut [u32],
-    prv: &mut [u32],
-) -> bool
-    requires { ⌜ Points (now ax) (now ay) (now bx) (now by) (length (now aid)) ⌝ }
-    requires { ⌜ Grids (now ax) (now ay) (now bx) (now by) (length (now aid)) ⌝ }
-    requires { ⌜ length (now state) ≡ length (now aid) ⌝ }
-    requires { ⌜ Runs (now ax) (now ay) (now bx) (now by) (now aid) (now bid) ⌝ }
-    requires { ⌜ (length (now aid) ≤ maxLinks) × (2 * length (now aid) ≤ length (now nxt)) × (2 * length (now aid) ≤ length (now prv)) ⌝ }
-    requires { ⌜ (2 < length (now here)) × (length (now here) ≤ maxLinks) ⌝ }
-    ensures { λ r. ⌜ (let a : ℕ → Point = pointAt (now (ax .entry)) (now (ay .entry)) in
-        let b : ℕ → Point = pointAt (now (bx .entry)) (now (by .entry)) in
-        r ≡ pick (strayIn (now (aid .entry)) (now (bid .entry)) (now (here .entry)) v) true
-        (some (clashAt a b (nodeAt (now (aid .entry))) (now (state .entry)) (now (here .entry)) v) (length (now (here .entry))))) ⌝ }
-    ensures { λ r. ⌜ (r ≡ false → (start list top : List ℕ) → part start list v ≡ now (here .entry)
-        → LaidCross (graphOf (lent (now (ax .entry)) (now (ay .entry)) (now (bx .entry)) (now (by .entry)) (now (aid .entry)) (now (bid .entry))
-        start list) top) (now (state .entry)) v (now (nxt .exit)) (now (prv .exit))) ⌝ }
-    ensures { λ _. ⌜ (ElseKept (now (aid .entry)) (now (bid .entry)) v (now (nxt .entry)) (now (nxt .exit)))
-        × (ElseKept (now (aid .entry)) (now (bid .entry)) v (now (prv .entry)) (now (prv .exit))) ⌝ }
+// The list is copied.
+fn copy_list(list: &[u32], copy: &mut [u32])
+    requires { ⌜ length (now copy) ≡ length (now list) ⌝ }
+    ensures { λ _. ⌜ now (copy .exit) ≡ now (list .entry) ⌝ }
 {
-    let n = here.len();
-    let mut sorted = [0u32; MAX_LINKS];
-    lay_sorted(
-        ax,
-        ay,
-        bx,
-        by,
-        aid,
-        bid,
-        state,
-        here,
-        v,
-        nxt,
-        prv,
-        &mut sorted[..n],
-    )
+    let mut j = 0;
+    while j < list.len() {
+        copy[j] = list[j];
+        j += 1;
+    }
 }
 
-// Whether checks 5 to 7 find something wrong with node v, a `Cross` with these entries; where they do not, its ring is linked.
-pub fn lay_cross(
+// The list is copied, with the entries of every node that has many in the ring's order.
+pub fn arrange(
     ax: &[i32],
     ay: &[i32],
     bx: &[i32],
     by: &[i32],
     aid: &[u32],
-    bid: &[u32],
-    state: &[u8],
-    here: &[u32],
-    v: usize,
-    nxt: &mut [u32],
-    prv: &mut [u32],
-) -> bool
+    start: &[u32],
+    list: &[u32],
+    copy: &mut [u32],
+)
     requires { ⌜ Points (now ax) (now ay) (now bx) (now by) (length (now aid)) ⌝ }
     requires { ⌜ Grids (now ax) (now ay) (now bx) (now by) (length (now aid)) ⌝ }
-    requires { ⌜ length (now state) ≡ length (now aid) ⌝ }
-    requires { ⌜ Runs (now ax) (now ay) (now bx) (now by) (now aid) (now bid) ⌝ }
-    requires { ⌜ (length (now aid) ≤ maxLinks) × (2 * length (now aid) ≤ length (now nxt)) × (2 * length (now aid) ≤ length (now prv)) ⌝ }
-    requires { ⌜ 0 < length (now here) ⌝ }
-    ensures { λ r. ⌜ (let a : ℕ → Point = pointAt (now (ax .entry)) (now (ay .entry)) in
-        let b : ℕ → Point = pointAt (now (bx .entry)) (now (by .entry)) in
-        lay-cross-says a b (now (aid .entry)) (now (bid .entry)) (now (state .entry)) (now (here .entry)) v r) ⌝ }
-    ensures { λ r. ⌜ (r ≡ false → (start list top : List ℕ) → part start list v ≡ now (here .entry)
-        → LaidCross (graphOf (lent (now (ax .entry)) (now (ay .entry)) (now (bx .entry)) (now (by .entry)) (now (aid .entry)) (now (bid .entry))
-        start list) top) (now (state .entry)) v (now (nxt .exit)) (now (prv .exit))) ⌝ }
-    ensures { λ _. ⌜ (ElseKept (now (aid .entry)) (now (bid .entry)) v (now (nxt .entry)) (now (nxt .exit)))
-        × (ElseKept (now (aid .entry)) (now (bid .entry)) v (now (prv .entry)) (now (prv .exit))) ⌝ }
+    requires { ⌜ length (now aid) ≤ maxLinks ⌝ }
+    requires { ⌜ (Rising (now start) (now list)) × (length (now copy) ≡ length (now list)) ⌝ }
+    ensures { λ _. ⌜ arrange-says (now (start .entry)) (now (list .entry)) (now (copy .exit)) ⌝ }
 {
-    if here.len() <= FEW_ENTRIES {
-        return spokes::lay_cross(ax, ay, bx, by, aid, bid, state, here, v, nxt, prv);
+    copy_list(list, copy);
+    let m = start.len() - 1;
+    let mut v = 0;
+    while v < m {
+        let from = wide(start[v]);
+        let to = wide(start[v + 1]);
+        order_node(ax, ay, bx, by, aid, v, &mut copy[from..to]);
+        v += 1;
     }
-    // more entries than links: one of them stands there twice, or is no link
-    if aid.len() < here.len() {
-        return true;
+}
+
+// Whether some node has many entries. In the starts' own 32 bits, so that the loop over them is compiled for several at a time.
+pub fn some_wide(start: &[u32]) -> bool
+    requires { ⌜ 1 ≤ length (now start) ⌝ }
+    requires { ⌜ ((v : ℕ) → v < length (now start) - 1 → getD (now start) v 0 ≤ getD (now start) (v + 1) 0) ⌝ }
+    ensures { λ r. ⌜ some-wide-says (now (start .entry)) r ⌝ }
+{
+    let m = start.len() - 1;
+    let mut many = false;
+    let mut v = 0;
+    while v < m {
+        many = many | (FEW_ENTRIES < start[v + 1] - start[v]);
+        v += 1;
     }
-    lay_many(ax, ay, bx, by, aid, bid, state, here, v, nxt, prv)
+    many
 }

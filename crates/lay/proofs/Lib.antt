@@ -2,3 +2,4 @@
 mod Kept
 mod Nodes
 mod Passes
+mod Copied
