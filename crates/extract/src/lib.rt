@@ -2,6 +2,7 @@
 ghost use Rattle.graph.specs.Graph.{Lent, lent};
 ghost use Rattle.finish.specs.Finish.{Buffers, buffers};
 ghost use Rattle.extract.specs.Promises.{extract-says};
+use extract_in::extract_few_in;
 use extract_in::extract_in;
 use scan::Extraction;
 use scan::Settings;
@@ -47,7 +48,7 @@ pub fn extract(
         let mut nxt = [0u32; FEW_ENDS];
         let mut prv = [0u32; FEW_ENDS];
         let mut lead = [0u8; FEW_LINKS];
-        return extract_in(
+        return extract_few_in(
             ax,
             ay,
             bx,

@@ -3,10 +3,10 @@ use Prim.Native.Nat.{ℕ, _-_, _≤_, _<_}
 use native.Mathlib.Omega.{arith}
 use mathlib.Core.Path.{_≡_, sym, ap, _∙_}
 use mathlib.Core.Bool.{Bool, true, false}
-use mathlib.Core.List.{List, [], _∷_}
+use mathlib.Core.List.{List}
 use lib.IntN.{ℤ}
 use lib.ListN.{length, length-take, length-drop}
-use Rattle.laws.specs.Lowest.{some, lowest, some-of}
+use Rattle.laws.specs.Lowest.{lowest, some-of}
 use Rattle.graph.specs.Graph.{Lent, lent, graphOf, pointAt, part}
 use Rattle.graph.specs.Checks.{nodeAt}
 use Rattle.graph.specs.Passes.{Rising}
@@ -14,7 +14,7 @@ use Rattle.graph.specs.Total.{part-length}
 use Rattle.rings.specs.Field.{Laid, endNode}
 use Rattle.fan.specs.Arranged.{Arranged}
 use Rattle.fan.specs.Relaid.{wrong-again, laid-again}
-use Rattle.lay.specs.Kinds.{Bridge, Cross, wrongAt, KindLaid, CrossesLaid, BridgesKept}
+use Rattle.lay.specs.Kinds.{Cross, wrongAt, CrossesLaid, BridgesKept}
 use Rattle.lay.proofs.Passes.{some-at}
 
 module _ (ax ay bx by : List ℤ) (aId bId start list copy state : List ℕ) (rising : Rising start list) (c : Arranged start list copy) where

@@ -1,7 +1,7 @@
 -- `fan::arrange` meets its contract; the invariant: the copy has every node's entries, in some order.
 use native.Mathlib.Omega.{arith}
 use Prim.Native.Nat.{_+_, _-_, _≤_}
-use mathlib.Core.Path.{_≡_, sym, _∙_}
+use mathlib.Core.Path.{sym, _∙_}
 use lib.ListN.{length}
 use Rattle.graph.specs.Passes.{Rising}
 use Rattle.graph.specs.Total.{starts-within}

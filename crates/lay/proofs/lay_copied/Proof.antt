@@ -1,5 +1,4 @@
 -- `lay::lay_copied` meets its contract: what is laid from the copy is laid from the list.
-use mathlib.Core.Path.{_∙_}
 use mathlib.Core.List.{List}
 use Prim.Native.Nat.{ℕ}
 use Rattle.fan.specs.Arranged.{Arranged, still-rising}
