@@ -2,4 +2,3 @@
 mod Kept
 mod Nodes
 mod Passes
-mod Copied

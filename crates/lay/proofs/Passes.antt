@@ -20,7 +20,7 @@ use Rattle.lay.specs.Kinds.{Bridge, Cross, wrongAt, KindLaid, BridgesLai
 use Rattle.lay.proofs.Kept.{laid-still, laid-kept}
 
 -- a search finds something where its test passes at one number
-pub some-at : (test : ℕ → Bool) (m v : ℕ) → v < m → test v ≡ true → some test m ≡ true
+some-at : (test : ℕ → Bool) (m v : ℕ) → v < m → test v ≡ true → some test m ≡ true
 some-at test m v l e = go (some test m) refl
   where
     go : (b : Bool) → some test m ≡ b → b ≡ true

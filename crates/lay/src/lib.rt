@@ -4,24 +4,21 @@ ghost use mathlib.Core.Bool.{false};
 ghost use mathlib.Core.List.{List};
 ghost use Prim.Native.Nat.{ℕ, _-_, _*_, _<_, _≤_};
 ghost use lib.ListN.{length, getD};
+ghost use Rattle.laws.specs.Lowest.{some};
 ghost use Rattle.turn.specs.Limits.{maxLinks};
 ghost use Rattle.turn.specs.declared.Point.{Point};
-ghost use Rattle.graph.specs.Graph.{lent, graphOf, pointAt};
+ghost use Rattle.graph.specs.Graph.{lent, graphOf, pointAt, part};
+ghost use Rattle.graph.specs.Checks.{nodeAt};
+ghost use Rattle.graph.specs.Quick.{nodeWrong};
 ghost use Rattle.graph.specs.Passes.{Rising};
 ghost use Rattle.graph.specs.Known.{Points, Grids, Runs};
 ghost use Rattle.rings.specs.Field.{Laid};
 ghost use Rattle.lay.specs.Kinds.{BridgesLaid, CrossesLaid, BridgesKept};
 ghost use Rattle.lay.specs.Promises.{lay-nodes-says};
 use bridge::lay_bridge;
-use fan::arrange;
-use fan::some_wide;
 use graph::entries;
 use spokes::lay_cross;
-use turn::MAX_LINKS;
 use turn::wide;
-
-// The most entries of a list: two for each link.
-const MAX_ENDS: usize = 2 * MAX_LINKS;
 
 // What the pass over the `Bridge`s finds: something wrong; or nothing, and all nodes are `Bridge`s, or some are `Cross`es.
 enum Passed {
@@ -124,111 +121,6 @@ fn lay_crosses(
     false
 }
 
-// `lay_crosses` over a copy of the list in which the entries of a node of many stand in the ring's order.
-fn lay_copied(
-    ax: &[i32],
-    ay: &[i32],
-    bx: &[i32],
-    by: &[i32],
-    aid: &[u32],
-    bid: &[u32],
-    start: &[u32],
-    list: &[u32],
-    state: &[u8],
-    nxt: &mut [u32],
-    prv: &mut [u32],
-    copy: &mut [u32],
-) -> bool
-    requires { ⌜ Points (now ax) (now ay) (now bx) (now by) (length (now aid)) ⌝ }
-    requires { ⌜ Grids (now ax) (now ay) (now bx) (now by) (length (now aid)) ⌝ }
-    requires { ⌜ length (now state) ≡ length (now aid) ⌝ }
-    requires { ⌜ (Runs (now ax) (now ay) (now bx) (now by) (now aid) (now bid)) × (Rising (now start) (now list)) ⌝ }
-    requires { ⌜ (length (now aid) ≤ maxLinks) × (2 * length (now aid) ≤ length (now nxt)) × (2 * length (now aid) ≤ length (now prv))
-        × (length (now copy) ≡ length (now list)) ⌝ }
-    ensures { λ r. ⌜ CrossesLaid (lent (now (ax .entry)) (now (ay .entry)) (now (bx .entry)) (now (by .entry)) (now (aid .entry)) (now (bid .entry))
-        (now (start .entry)) (now (list .entry))) (now (state .entry)) (length (now (start .entry)) - 1) (now (nxt .exit)) (now (prv .exit)) r ⌝ }
-    ensures { λ _. ⌜ BridgesKept (lent (now (ax .entry)) (now (ay .entry)) (now (bx .entry)) (now (by .entry)) (now (aid .entry)) (now (bid .entry))
-        (now (start .entry)) (now (list .entry))) (now (nxt .entry)) (now (nxt .exit)) ⌝ }
-{
-    arrange(ax, ay, bx, by, aid, start, list, copy);
-    lay_crosses(ax, ay, bx, by, aid, bid, start, copy, state, nxt, prv)
-}
-
-// `lay_copied`, with an array for the copy.
-fn lay_arranged(
-    ax: &[i32],
-    ay: &[i32],
-    bx: &[i32],
-    by: &[i32],
-    aid: &[u32],
-    bid: &[u32],
-    start: &[u32],
-    list: &[u32],
-    state: &[u8],
-    nxt: &mut [u32],
-    prv: &mut [u32],
-) -> bool
-    requires { ⌜ Points (now ax) (now ay) (now bx) (now by) (length (now aid)) ⌝ }
-    requires { ⌜ Grids (now ax) (now ay) (now bx) (now by) (length (now aid)) ⌝ }
-    requires { ⌜ length (now state) ≡ length (now aid) ⌝ }
-    requires { ⌜ (Runs (now ax) (now ay) (now bx) (now by) (now aid) (now bid)) × (Rising (now start) (now list)) ⌝ }
-    requires { ⌜ (length (now aid) ≤ maxLinks) × (2 * length (now aid) ≤ length (now nxt)) × (2 * length (now aid) ≤ length (now prv))
-        × (length (now list) ≤ 2 * maxLinks) ⌝ }
-    ensures { λ r. ⌜ CrossesLaid (lent (now (ax .entry)) (now (ay .entry)) (now (bx .entry)) (now (by .entry)) (now (aid .entry)) (now (bid .entry))
-        (now (start .entry)) (now (list .entry))) (now (state .entry)) (length (now (start .entry)) - 1) (now (nxt .exit)) (now (prv .exit)) r ⌝ }
-    ensures { λ _. ⌜ BridgesKept (lent (now (ax .entry)) (now (ay .entry)) (now (bx .entry)) (now (by .entry)) (now (aid .entry)) (now (bid .entry))
-        (now (start .entry)) (now (list .entry))) (now (nxt .entry)) (now (nxt .exit)) ⌝ }
-{
-    let n = list.len();
-    let mut copy = [0u32; MAX_ENDS];
-    lay_copied(
-        ax,
-        ay,
-        bx,
-        by,
-        aid,
-        bid,
-        start,
-        list,
-        state,
-        nxt,
-        prv,
-        &mut copy[..n],
-    )
-}
-
-// `lay_crosses`, from a copy where some node has many entries: so `spokes::lay_cross` is called in one place, the loop over the `Cross`es, and
-// a `Cross` of few entries pays for no copy.
-fn lay_any_crosses(
-    ax: &[i32],
-    ay: &[i32],
-    bx: &[i32],
-    by: &[i32],
-    aid: &[u32],
-    bid: &[u32],
-    start: &[u32],
-    list: &[u32],
-    state: &[u8],
-    nxt: &mut [u32],
-    prv: &mut [u32],
-) -> bool
-    requires { ⌜ Points (now ax) (now ay) (now bx) (now by) (length (now aid)) ⌝ }
-    requires { ⌜ Grids (now ax) (now ay) (now bx) (now by) (length (now aid)) ⌝ }
-    requires { ⌜ length (now state) ≡ length (now aid) ⌝ }
-    requires { ⌜ (Runs (now ax) (now ay) (now bx) (now by) (now aid) (now bid)) × (Rising (now start) (now list)) ⌝ }
-    requires { ⌜ (length (now aid) ≤ maxLinks) × (2 * length (now aid) ≤ length (now nxt)) × (2 * length (now aid) ≤ length (now prv))
-        × (length (now list) ≤ 2 * maxLinks) ⌝ }
-    ensures { λ r. ⌜ CrossesLaid (lent (now (ax .entry)) (now (ay .entry)) (now (bx .entry)) (now (by .entry)) (now (aid .entry)) (now (bid .entry))
-        (now (start .entry)) (now (list .entry))) (now (state .entry)) (length (now (start .entry)) - 1) (now (nxt .exit)) (now (prv .exit)) r ⌝ }
-    ensures { λ _. ⌜ BridgesKept (lent (now (ax .entry)) (now (ay .entry)) (now (bx .entry)) (now (by .entry)) (now (aid .entry)) (now (bid .entry))
-        (now (start .entry)) (now (list .entry))) (now (nxt .entry)) (now (nxt .exit)) ⌝ }
-{
-    if some_wide(start) {
-        return lay_arranged(ax, ay, bx, by, aid, bid, start, list, state, nxt, prv);
-    }
-    lay_crosses(ax, ay, bx, by, aid, bid, start, list, state, nxt, prv)
-}
-
 // Whether checks 5 to 7 find something wrong with some node. Where they find nothing, the ends at every node are laid.
 pub fn lay_nodes(
     ax: &[i32],
@@ -249,7 +141,7 @@ pub fn lay_nodes(
     requires { ⌜ length (now state) ≡ length (now aid) ⌝ }
     requires { ⌜ (Runs (now ax) (now ay) (now bx) (now by) (now aid) (now bid)) × (Rising (now start) (now list)) ⌝ }
     requires { ⌜ (length (now aid) ≤ maxLinks) × (2 * length (now aid) ≤ length (now nxt)) × (2 * length (now aid) ≤ length (now prv))
-        × (length (now aid) ≤ length (now lead)) × (length (now list) ≤ 2 * maxLinks) ⌝ }
+        × (length (now aid) ≤ length (now lead)) ⌝ }
     requires { ⌜ ((k : ℕ) → getD (now lead) k 0 ≡ 0) ⌝ }
     ensures { λ r. ⌜ (let a : ℕ → Point = pointAt (now (ax .entry)) (now (ay .entry)) in
         let b : ℕ → Point = pointAt (now (bx .entry)) (now (by .entry)) in
@@ -261,6 +153,6 @@ pub fn lay_nodes(
     match lay_bridges(ax, ay, bx, by, aid, bid, start, list, state, nxt, lead) {
         Passed::Wrong => true,
         Passed::Bridges => false,
-        Passed::Crosses => lay_any_crosses(ax, ay, bx, by, aid, bid, start, list, state, nxt, prv),
+        Passed::Crosses => lay_crosses(ax, ay, bx, by, aid, bid, start, list, state, nxt, prv),
     }
 }

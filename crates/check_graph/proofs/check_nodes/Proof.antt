@@ -69,7 +69,7 @@ lay-nodes-requires c κs =
           (
             (runs-of (g s) _ t, rises (g s) _ t (right k .0)),
             (
-              (t .few, w .nxt-room, w .prv-room, w .lead-room, omega (arith, t .few, right k .1)),
+              (t .few, w .nxt-room, w .prv-room, w .lead-room),
               s .pre
                   .1 .1,
             ),

@@ -45,12 +45,12 @@ enum-told-2 c = search needs
 enum-told-3 : tie.Need-enum-told-3
 enum-told-3 c = search needs
 
-lay-any-crosses-requires : tie.Need-lay-any-crosses-requires
-lay-any-crosses-requires c κs =
+lay-crosses-requires : tie.Need-lay-crosses-requires
+lay-crosses-requires c κs =
     let d = c .before .before .before .before .before .before .before .before in
     let p = start d .pre in
     let n = p .1 .1 .1 .1 .0 in
-    (p .0, (p .1 .0, (p .1 .1 .0, ((p .1 .1 .1 .0 .0, p .1 .1 .1 .0 .1), (n .0, omega (arith, n .1, nxt-same d), n .2, n .4)))))
+    (p .0, (p .1 .0, (p .1 .1 .0, ((p .1 .1 .1 .0 .0, p .1 .1 .1 .0 .1), (n .0, omega (arith, n .1, nxt-same d), n .2)))))
 
 same-length : tie.Need-same-length
 same-length c = nxt-same (c .before .before .before .before .before .before)
@@ -79,20 +79,20 @@ returns-2 c =
     (d .lay-bridges .ensures)
 
 -- the pass over the `Cross`es; that there are some; and the pass over the `Bridge`s, which said so
-abbrev crossed : tie.After-slice-known7 → tie.After-lay-any-crosses
+abbrev crossed : tie.After-slice-known7 → tie.After-lay-crosses
 crossed c = c .before .before .before .before
 
-abbrev told : tie.After-lay-any-crosses → tie.After-enum-told3
+abbrev told : tie.After-lay-crosses → tie.After-enum-told3
 told c = c .before .before .before
 
 abbrev bridged : tie.After-enum-told3 → tie.After-lay-bridges
 bridged c = c .before .before .before .before .before .before
 
 same-length-5 : tie.Need-same-length-5
-same-length-5 c = crossed c .lay-any-crosses .kept .1 .1 .1 .1 .1 .1 .1 .1 .1 .0 ∙ nxt-same (bridged (told (crossed c)))
+same-length-5 c = crossed c .lay-crosses .kept .1 .1 .1 .1 .1 .1 .1 .1 .1 .0 ∙ nxt-same (bridged (told (crossed c)))
 
 same-length-6 : tie.Need-same-length-6
-same-length-6 c = crossed c .lay-any-crosses .kept .1 .1 .1 .1 .1 .1 .1 .1 .1 .1 .0
+same-length-6 c = crossed c .lay-crosses .kept .1 .1 .1 .1 .1 .1 .1 .1 .1 .1 .0
 
 same-length-7 : tie.Need-same-length-7
 same-length-7 c = lead-same (bridged (told (crossed c)))
@@ -101,12 +101,12 @@ returns-3 : tie.Need-returns-3
 returns-3 c =
     let e = told (crossed c) in
     let d = bridged e in
-    let k = crossed c .lay-any-crosses in
+    let k = crossed c .lay-crosses in
     let s = start d in
     nodes-crosses (lists s) (s .args .state .now) _ (nxt-left d) (k .last .1 .1 .1 .1 .1 .1 .1 .1 .1 .0) (k .last .1 .1 .1 .1 .1 .1 .1 .1 .1 .1 .0)
     (lead-left d) (d .lay-bridges .result) (e .enum-told3 .given .1) (d .lay-bridges .ensures) (k .result) (k .ensures .0) (k .ensures .1)
 
 pub lay-nodes-spec : {M : Type 1} → statement M
 lay-nodes-spec =
-    tie.close (tie.spec lay-bridges-requires enum-told enum-told-2 enum-told-3 lay-any-crosses-requires same-length same-length-2 returns
+    tie.close (tie.spec lay-bridges-requires enum-told enum-told-2 enum-told-3 lay-crosses-requires same-length same-length-2 returns
     same-length-3 same-length-4 returns-2 same-length-5 same-length-6 same-length-7 returns-3)
