@@ -20,6 +20,7 @@ The status is 0 if that was done, also for a study that is refused, and 1 if not
 Coordinates are units of 0.01 mm, and y points upward. Areas are in mm², a shape's less its holes.
 
 JSON is one object: links, skipped, nodes, crosses, direction, minimum, frame_mm (left, bottom, right, top), and
+  uneven_node                  null, or the lowest node round which filled and empty do not come by turns
   refused                      null, or number, place, of (link, node, contour, graph or file), points, reason, walk
   shapes                       each with shape (its number), net_mm2, hull, holes
   rejected, dropped            patches, as hull and holes: number, kind, mm2, points

@@ -61,8 +61,15 @@ fn content(study: &Study) -> String {
         format!("direction  {}", direction(study)),
         format!("minimum    {minimum} units² ({} mm²)", square_mm(i128::from(minimum) * 2)),
         format!("frame      {frame}"),
+        format!("sides      {}", sides(study)),
     ];
     lines.join("\n") + "\n"
+}
+
+/// Whether filled sides are consistent: if so no walk is refused once the checks have passed.
+fn sides(study: &Study) -> String {
+    let even = || "filled and empty come by turns round every node".into();
+    study.graph.sides_alternate().map_or_else(|uneven| uneven.to_string(), |()| even())
 }
 
 fn answered(study: &Study, answer: &Answer) -> Result<String, String> {
@@ -167,6 +174,7 @@ fn content_json(study: &Study) -> Vec<(&'static str, Json)> {
         ("direction", Json::Text(direction(study).into())),
         ("minimum", Json::number(study.options.min_output_area)),
         ("frame_mm", frame),
+        ("uneven_node", study.graph.sides_alternate().map_or_else(|uneven| Json::number(uneven.node), |()| Json::Null)),
     ]
 }
 
