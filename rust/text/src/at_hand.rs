@@ -4,15 +4,15 @@ use crate::bind::segment::{ContourIndex, IdSegment};
 use crate::bind::solver::{JoinHoles, LeftBottomSegment};
 use crate::build::builder::GraphNode;
 use crate::core::extract::BooleanExtractionBuffer;
+use crate::core::filter;
 use crate::core::graph::{OverlayGraph, OverlayNode};
-use crate::core::link::OverlayLink;
+use crate::core::link::{OverlayLink, OverlayLinkFilter};
 use crate::core::overlay::{ContourDirection, IntOverlayOptions};
 use crate::core::overlay_rule::OverlayRule;
 use crate::flat::buffer::FlatContoursBuffer;
 use crate::geom::id_point::IdPoint;
 use crate::int::point::IntPoint;
 use crate::int::shape::{IntContour, IntShapes};
-use crate::stand_ins::filter;
 use reading::Settings;
 use reading::geometry::Point;
 use reading::graph::Graph;
@@ -20,7 +20,7 @@ use reading::graph::Graph;
 /// The text was found when this crate was built.
 pub const AT_HAND: bool = true;
 
-const RULES: [OverlayRule; 7] = [
+pub(crate) const RULES: [OverlayRule; 7] = [
     OverlayRule::Subject,
     OverlayRule::Clip,
     OverlayRule::Intersect,
@@ -47,31 +47,51 @@ impl Run {
     /// Takes a graph that passed checks 1 to 7. Each link gets a fill for which the rule (by its number) says of the link
     /// what its top and state say.
     pub fn new(graph: &Graph, state: &[u8], settings: Settings, rule: usize) -> Self {
-        let rule = RULES[rule];
         let end = |id: u32, point: Point| IdPoint::new(id as usize, IntPoint::new(point.x, point.y));
         let links = (0..graph.links()).map(|link| {
             let above = graph.top[link] == 1;
             let below = above == (state[link] == 1);
-            let fill = filter::fill_for(rule, above, below, link);
+            let fill = filter::fill_for(RULES[rule], above, below, link);
             let (a, b) = (end(graph.a_id[link], graph.a(link)), end(graph.b_id[link], graph.b(link)));
             OverlayLink::new_with_data(a, b, fill, ())
         });
         let nodes = (0..graph.nodes()).map(|node| OverlayNode::with_indices(&graph.entries(node).collect::<Vec<_>>()));
-        let output_direction =
-            if settings.clockwise { ContourDirection::Clockwise } else { ContourDirection::CounterClockwise };
+        let mut run = Self::of(RULES[rule], nodes.collect(), links.collect());
+        run.set(settings);
+        run
+    }
+
+    /// A graph in the text's types: counterclockwise, whatever the size.
+    pub(crate) fn of(rule: OverlayRule, nodes: Vec<OverlayNode>, links: Vec<OverlayLink<i32>>) -> Self {
         Self {
             rule,
-            options: IntOverlayOptions {
-                output_direction,
-                preserve_output_collinear: true,
-                min_output_area: settings.minimum,
-                ogc: false,
-            },
-            nodes: nodes.collect(),
-            links: links.collect(),
+            options: IntOverlayOptions::keep_all_points(),
+            nodes,
+            links,
             buffer: BooleanExtractionBuffer::default(),
             flat: FlatContoursBuffer::default(),
         }
+    }
+
+    /// Sets the direction and the minimum.
+    pub fn set(&mut self, settings: Settings) {
+        set(&mut self.options, settings);
+    }
+
+    /// The graph as document 01's lists, with its states at entry: a link's top is the rule's, its state the filter's.
+    pub fn lent(&self) -> (Graph, Vec<u8>) {
+        let mut graph = Graph { start: vec![0], ..Graph::default() };
+        for link in &self.links {
+            let ends = [link.a, link.b].map(|end| [end.point.x, end.point.y]);
+            let nodes = [link.a.id as u32, link.b.id as u32];
+            graph.push_link(ends, nodes, self.rule.is_fill_top(link.fill) as u8);
+        }
+        for node in &self.nodes {
+            graph.push_node(&entries(node).iter().map(|&link| link as u32).collect::<Vec<_>>());
+        }
+        let mut states = Vec::new();
+        self.links.filter_by_overlay_into(self.rule, &mut states);
+        (graph, states.iter().map(|&state| state as u8).collect())
     }
 
     fn graph(&self) -> OverlayGraph<'_, i32> {
@@ -123,7 +143,22 @@ impl Run {
     }
 }
 
-fn nested(shapes: &IntShapes<i32>) -> Vec<Vec<Vec<Point>>> {
+/// Sets the direction and the minimum of the text's options.
+pub(crate) fn set(options: &mut IntOverlayOptions<u64>, settings: Settings) {
+    options.output_direction =
+        if settings.clockwise { ContourDirection::Clockwise } else { ContourDirection::CounterClockwise };
+    options.min_output_area = settings.minimum;
+}
+
+/// The links of a node.
+pub(crate) fn entries(node: &OverlayNode) -> &[usize] {
+    match node {
+        OverlayNode::Bridge(links) => links,
+        OverlayNode::Cross(links) => links,
+    }
+}
+
+pub(crate) fn nested(shapes: &IntShapes<i32>) -> Vec<Vec<Vec<Point>>> {
     shapes.iter().map(|shape| shape.iter().map(|contour| points(contour)).collect()).collect()
 }
 

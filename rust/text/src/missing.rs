@@ -9,6 +9,8 @@ pub const AT_HAND: bool = false;
 
 const NOT_AT_HAND: &str = "the given Rust text is not at hand";
 
+pub struct Front(());
+
 pub struct Run(());
 
 #[derive(Clone)]
@@ -16,11 +18,39 @@ pub struct Unbound(());
 
 pub struct Bound(());
 
+impl Front {
+    pub const FILLS: usize = 4;
+
+    pub fn new(_: &[Vec<Point>], _: &[Vec<Point>], _: bool) -> Self {
+        panic!("{NOT_AT_HAND}");
+    }
+
+    pub fn view(&mut self, _: usize, _: usize) -> Option<Run> {
+        unreachable!("{NOT_AT_HAND}");
+    }
+
+    pub fn kept(&mut self, _: usize, _: usize) -> Option<Run> {
+        unreachable!("{NOT_AT_HAND}");
+    }
+
+    pub fn overlay(&mut self, _: usize, _: usize, _: Settings) -> Vec<Vec<Vec<Point>>> {
+        unreachable!("{NOT_AT_HAND}");
+    }
+}
+
 impl Run {
     pub const RULES: usize = 7;
 
     pub fn new(_: &Graph, _: &[u8], _: Settings, _: usize) -> Self {
         panic!("{NOT_AT_HAND}");
+    }
+
+    pub fn set(&mut self, _: Settings) {
+        unreachable!("{NOT_AT_HAND}");
+    }
+
+    pub fn lent(&self) -> (Graph, Vec<u8>) {
+        unreachable!("{NOT_AT_HAND}");
     }
 
     pub fn extract_contours(&mut self) {

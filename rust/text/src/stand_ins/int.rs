@@ -2,6 +2,7 @@
 
 pub(crate) mod number {
     pub(crate) mod int {
+        use super::product_uint::NotRun;
         use super::uint::UIntNumber;
         use super::wide_int::WideIntNumber;
         use crate::{Expiration, LayoutNumber, sort::key::SortKey};
@@ -11,25 +12,54 @@ pub(crate) mod number {
         pub trait IntNumber: Copy + Ord + Debug + Default + Send + Sync {
             type Wide: WideIntNumber<UInt = Self::WideUInt> + From<Self>;
             type WideUInt: UIntNumber;
+            const BITS: usize;
+            const ZERO: Self;
+
+            fn to_wide(self) -> Self::Wide {
+                Self::Wide::from(self)
+            }
+
+            /// Of a number that this one holds.
+            fn from_wide(wide: Self::Wide) -> Self;
         }
 
         macro_rules! int_number {
-            ($($int:ty, $wide:ty, $unsigned:ty;)*) => {$(
+            ($($int:ty, $wide:ty, $unsigned:ty, $product:ty;)*) => {$(
                 impl IntNumber for $int {
                     type Wide = $wide;
                     type WideUInt = $unsigned;
+                    const BITS: usize = <$int>::BITS as usize;
+                    const ZERO: Self = 0;
+
+                    fn from_wide(wide: $wide) -> Self {
+                        wide.try_into().expect("a crossing lies between its segments' ends")
+                    }
                 }
                 impl WideIntNumber for $wide {
                     type UInt = $unsigned;
                     const ZERO: Self = 0;
                     const ONE: Self = 1;
+                    const FOUR: Self = 4;
 
                     fn unsigned_abs(self) -> $unsigned {
                         self.unsigned_abs()
                     }
+
+                    fn signum(self) -> Self {
+                        self.signum()
+                    }
+
+                    fn from_uint(unsigned: $unsigned) -> Self {
+                        unsigned.try_into().expect("a crossing lies between its segments' ends")
+                    }
                 }
                 impl UIntNumber for $unsigned {
+                    type Product = $product;
                     const ZERO: Self = 0;
+
+                    fn power_of_two(exponent: usize) -> Self {
+                        1 << exponent
+                    }
                 }
                 impl Expiration for $int {
                     const NEVER: Self = <$int>::MAX;
@@ -39,15 +69,15 @@ pub(crate) mod number {
             )*};
         }
         int_number! {
-            i16, i32, u32;
-            i32, i64, u64;
-            i64, i128, u128;
+            i16, i32, u32, u64;
+            i32, i64, u64, u128;
+            i64, i128, u128, NotRun;
         }
     }
 
     pub(crate) mod wide_int {
         use std::fmt::Debug;
-        use std::ops::{Add, Mul, Neg, Sub};
+        use std::ops::{Add, BitAnd, Div, Mul, Neg, Sub};
 
         pub trait WideIntNumber:
             Copy
@@ -58,28 +88,82 @@ pub(crate) mod number {
             + Add<Output = Self>
             + Sub<Output = Self>
             + Mul<Output = Self>
+            + Div<Output = Self>
             + Neg<Output = Self>
+            + BitAnd<Output = Self>
         {
             type UInt;
             const ZERO: Self;
             const ONE: Self;
+            const FOUR: Self;
 
             fn unsigned_abs(self) -> Self::UInt;
+            fn signum(self) -> Self;
+            /// Of a number that this one holds.
+            fn from_uint(unsigned: Self::UInt) -> Self;
         }
     }
 
     pub(crate) mod uint {
+        use super::product_uint::UIntProduct;
         use std::fmt::Debug;
-        use std::ops::Shr;
+        use std::ops::{Add, Mul, Shr};
 
-        pub trait UIntNumber: Copy + Ord + Debug + Send + Sync + Shr<usize, Output = Self> {
+        pub trait UIntNumber:
+            Copy + Ord + Debug + Send + Sync + Add<Output = Self> + Mul<Output = Self> + Shr<usize, Output = Self>
+        {
+            type Product: UIntProduct<Self>;
             const ZERO: Self;
+
+            fn power_of_two(exponent: usize) -> Self;
+        }
+    }
+
+    pub(crate) mod product_uint {
+        /// The exact product of two numbers, to be divided by a third.
+        pub trait UIntProduct<U> {
+            fn multiply(p: U, q: U) -> Self;
+            /// To the nearest, a half upward.
+            fn divide_with_rounding(self, divisor: U) -> U;
+        }
+
+        macro_rules! product {
+            ($($unsigned:ty, $product:ty;)*) => {$(
+                impl UIntProduct<$unsigned> for $product {
+                    fn multiply(p: $unsigned, q: $unsigned) -> Self {
+                        <$product>::from(p) * <$product>::from(q)
+                    }
+
+                    fn divide_with_rounding(self, divisor: $unsigned) -> $unsigned {
+                        let divisor = <$product>::from(divisor);
+                        let is_up = self % divisor >= divisor.div_ceil(2);
+                        (self / divisor + <$product>::from(is_up)).try_into().expect("a crossing lies between its segments' ends")
+                    }
+                }
+            )*};
+        }
+        product! {
+            u32, u64;
+            u64, u128;
+        }
+
+        /// The crate's products of 128-bit numbers: coordinates of 64 bits are not run.
+        pub struct NotRun;
+
+        impl UIntProduct<u128> for NotRun {
+            fn multiply(_: u128, _: u128) -> Self {
+                unreachable!("coordinates of 64 bits are not run");
+            }
+
+            fn divide_with_rounding(self, _: u128) -> u128 {
+                unreachable!("coordinates of 64 bits are not run");
+            }
         }
     }
 }
 
 pub(crate) mod point {
-    use super::number::int::IntNumber;
+    use super::number::{int::IntNumber, wide_int::WideIntNumber};
     use super::vector::IntVector;
     use std::ops::Sub;
 
@@ -93,6 +177,17 @@ pub(crate) mod point {
     impl<I> IntPoint<I> {
         pub fn new(x: I, y: I) -> Self {
             Self { x, y }
+        }
+    }
+
+    impl<I: IntNumber> IntPoint<I> {
+        pub const ZERO: Self = Self { x: I::ZERO, y: I::ZERO };
+
+        /// The squared distance.
+        pub fn sqr_distance(self, other: Self) -> I::WideUInt {
+            let IntVector { x, y } = self - other;
+            let (x, y) = (x.unsigned_abs(), y.unsigned_abs());
+            x * x + y * y
         }
     }
 
@@ -121,6 +216,10 @@ pub(crate) mod vector {
         #[inline(always)]
         pub fn cross_product(self, other: Self) -> I::Wide {
             self.x * other.y - self.y * other.x
+        }
+
+        pub fn dot_product(self, other: Self) -> I::Wide {
+            self.x * other.x + self.y * other.y
         }
     }
 }

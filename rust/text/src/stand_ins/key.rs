@@ -2,13 +2,18 @@
 //! the same and, at the sizes of document 01, costs no more.
 
 use super::{Expiration, ExpiredKey};
+use std::cmp::Ordering;
 
 pub(crate) mod exp {
+    use std::cmp::Ordering;
+
     /// A sorted collection from which keys with `expiration <= time` are gone.
     pub trait KeyExpCollection<K, E, V> {
         fn insert(&mut self, key: K, value: V, time: E);
         /// The value of the greatest key below `key`.
         fn first_less(&mut self, time: E, default: V, key: K) -> V;
+        /// The value of the greatest key that `order` finds below or level.
+        fn first_less_or_equal_by(&mut self, time: E, default: V, order: impl Fn(&K) -> Ordering) -> V;
     }
 }
 
@@ -29,6 +34,23 @@ pub struct SortedVec<K, E, V> {
 impl<K: ExpiredKey<E>, E: Expiration, V> SortedVec<K, E, V> {
     pub fn new(capacity: usize) -> Self {
         Self { entries: Vec::with_capacity(capacity), earliest: E::NEVER }
+    }
+
+    pub fn clear(&mut self) {
+        self.entries.clear();
+        self.earliest = E::NEVER;
+    }
+
+    pub fn reserve_capacity(&mut self, capacity: usize) {
+        self.entries.reserve(capacity);
+    }
+
+    /// The value of the last of the first `count` keys.
+    fn last_of(&self, count: usize, default: V) -> V
+    where
+        V: Copy,
+    {
+        if count == 0 { default } else { self.entries[count - 1].1 }
     }
 
     fn expire(&mut self, time: E) {
@@ -57,9 +79,11 @@ impl<K: ExpiredKey<E> + Ord, E: Expiration, V: Copy> exp::KeyExpCollection<K, E,
 
     fn first_less(&mut self, time: E, default: V, key: K) -> V {
         self.expire(time);
-        match self.entries.partition_point(|(other, _)| *other < key) {
-            0 => default,
-            above => self.entries[above - 1].1,
-        }
+        self.last_of(self.entries.partition_point(|(other, _)| *other < key), default)
+    }
+
+    fn first_less_or_equal_by(&mut self, time: E, default: V, order: impl Fn(&K) -> Ordering) -> V {
+        self.expire(time);
+        self.last_of(self.entries.partition_point(|(key, _)| order(key) != Ordering::Greater), default)
     }
 }

@@ -6,6 +6,33 @@ pub(crate) mod key {
     impl SortKey for usize {}
 }
 
+pub(crate) mod one_key_cmp {
+    use super::key::SortKey;
+    use std::cmp::Ordering;
+
+    pub trait OneKeyAndCmpSort<T> {
+        fn sort_by_one_key_then_by_and_buffer<K: SortKey>(
+            &mut self,
+            parallel: bool,
+            buffer: &mut Vec<T>,
+            key: impl Fn(&T) -> K,
+            compare: impl Fn(&T, &T) -> Ordering,
+        );
+    }
+
+    impl<T> OneKeyAndCmpSort<T> for [T] {
+        fn sort_by_one_key_then_by_and_buffer<K: SortKey>(
+            &mut self,
+            _parallel: bool,
+            _buffer: &mut Vec<T>,
+            key: impl Fn(&T) -> K,
+            compare: impl Fn(&T, &T) -> Ordering,
+        ) {
+            self.sort_by(|s, t| key(s).cmp(&key(t)).then_with(|| compare(s, t)));
+        }
+    }
+}
+
 pub(crate) mod two_keys_cmp {
     use super::key::SortKey;
     use std::cmp::Ordering;

@@ -14,6 +14,20 @@ impl Triangle {
         Self::clock_order(p0, p1, p2) == Ordering::Less
     }
 
+    /// The points lie on one line.
+    pub fn is_line<I: IntNumber>(p0: IntPoint<I>, p1: IntPoint<I>, p2: IntPoint<I>) -> bool {
+        Self::clock_order(p0, p1, p2) == Ordering::Equal
+    }
+
+    pub fn is_not_line<I: IntNumber>(p0: IntPoint<I>, p1: IntPoint<I>, p2: IntPoint<I>) -> bool {
+        !Self::is_line(p0, p1, p2)
+    }
+
+    /// The sign of the turn. The text asks whether two are equal, and whether one is zero.
+    pub fn clock_direction<I: IntNumber>(p0: IntPoint<I>, p1: IntPoint<I>, p2: IntPoint<I>) -> I::Wide {
+        (p1 - p0).cross_product(p2 - p0).signum()
+    }
+
     /// `Less` for clockwise, `Equal` for points on a line, `Greater` for counterclockwise.
     #[inline(always)]
     pub fn clock_order<I: IntNumber>(p0: IntPoint<I>, p1: IntPoint<I>, p2: IntPoint<I>) -> Ordering {

@@ -1,10 +1,10 @@
 //! i_overlay's link filter: a link stays if the rule fills exactly one of its sides. Also fills that make a rule say what a
 //! graph's tops and states say.
 
-use super::int::number::int::IntNumber;
 use crate::core::extract::VisitState;
 use crate::core::link::{OverlayLink, OverlayLinkFilter};
 use crate::core::overlay_rule::OverlayRule;
+use crate::int::number::int::IntNumber;
 use crate::segm::segment::{ALL, CLIP_BOTTOM, CLIP_TOP, SUBJ_BOTTOM, SUBJ_TOP, SegmentFill};
 
 impl<I: IntNumber, D> OverlayLinkFilter for [OverlayLink<I, D>] {
@@ -15,7 +15,7 @@ impl<I: IntNumber, D> OverlayLinkFilter for [OverlayLink<I, D>] {
 }
 
 /// Both sides are filled, or neither.
-fn is_skipped(rule: OverlayRule, fill: SegmentFill) -> bool {
+pub(crate) fn is_skipped(rule: OverlayRule, fill: SegmentFill) -> bool {
     let above = fills(rule, fill & SUBJ_TOP != 0, fill & CLIP_TOP != 0);
     let below = fills(rule, fill & SUBJ_BOTTOM != 0, fill & CLIP_BOTTOM != 0);
     above == below
