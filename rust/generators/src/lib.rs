@@ -1,13 +1,17 @@
 //! Generated graphs and contour tables, good and damaged, from fixed seeds.
 //!
 //! [`planar`] makes graphs of document 01's domain, [`wild`] graphs that pass checks 1 to 7 and are no planar map,
-//! [`damage`] breaks what it is given, [`tables`] makes contour tables for binding.
+//! [`damage`] breaks what it is given, [`tables`] makes contour tables for binding, [`polygons`] makes the polygons of which the
+//! crate makes its graphs.
 
 pub mod damage;
 pub mod mesh;
+mod outlines;
 pub mod patch;
 pub mod planar;
+pub mod polygons;
 pub mod rng;
+mod shrink;
 pub mod tables;
 pub mod wild;
 
@@ -36,7 +40,8 @@ pub struct Link {
 /// How links, nodes and lists are numbered.
 #[derive(Clone, Copy, Debug, PartialEq, Eq)]
 pub enum Numbering {
-    /// As the crate does: links by a and then by b, nodes by point, lists rising.
+    /// As the crate does: links by a and then by b, nodes by point. In each list the links that leave stand before those that
+    /// arrive, as rust/text has it.
     Sorted,
     /// As document 01 allows: links by a alone, nodes and lists in any order.
     Shuffled,
@@ -66,8 +71,8 @@ impl Sample {
             let ids = [id[link.a_key] as u32, id[link.b_key] as u32];
             graph.push_link([link.a, link.b].map(|point| [point.x, point.y]), ids, link.top as u8);
             lists[id[link.a_key]].push(number as u32);
-            lists[id[link.b_key]].push(number as u32);
         }
+        links.iter().enumerate().for_each(|(number, link)| lists[id[link.b_key]].push(number as u32));
         for mut list in lists {
             if numbering == Numbering::Shuffled {
                 rng.shuffle(&mut list);

@@ -76,6 +76,12 @@ impl Mesh {
         }
     }
 
+    /// The filled faces, each a contour.
+    pub fn contours(&self, filled: &[bool]) -> Vec<Vec<Point>> {
+        let points = |face: &Vec<usize>| face.iter().map(|&corner| self.points[corner]).collect();
+        self.faces.iter().zip(filled).filter(|(_, filled)| **filled).map(|(face, _)| points(face)).collect()
+    }
+
     /// All points lie in document 01's range.
     pub fn in_range(&self) -> bool {
         self.points.iter().all(|point| point.in_range())

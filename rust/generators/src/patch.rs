@@ -8,6 +8,8 @@ use reading::geometry::Point;
 pub struct Patch {
     pub mesh: Mesh,
     pub filled: Vec<bool>,
+    /// Faces into which a patch was put: they stay empty.
+    pub hosts: Vec<bool>,
 }
 
 /// The least rectangle round some points.
@@ -27,6 +29,11 @@ impl Frame {
 }
 
 impl Patch {
+    pub fn new(mesh: Mesh, filled: Vec<bool>) -> Self {
+        let hosts = vec![false; filled.len()];
+        Self { mesh, filled, hosts }
+    }
+
     /// Takes the other patch in where it stands, if all stays in range.
     fn absorb(&mut self, mut other: Patch, shift: Point) {
         let known = self.mesh.points.len();
@@ -36,6 +43,7 @@ impl Patch {
             let moved = |face: Vec<usize>| face.into_iter().map(|corner| corner + known).collect();
             self.mesh.faces.extend(other.mesh.faces.into_iter().map(moved));
             self.filled.append(&mut other.filled);
+            self.hosts.append(&mut other.hosts);
         }
     }
 
@@ -76,6 +84,7 @@ impl Patch {
             && is_inside(greatest.x, greatest.y)
             && is_inside(least.x, greatest.y);
         if !self.filled[face] && fits {
+            self.hosts[face] = true;
             self.absorb(other, shift);
         }
     }

@@ -8,7 +8,9 @@ use crate::{Link, Numbering, Sample};
 use reading::geometry::Point;
 use std::collections::BTreeMap;
 
-/// The families of planar graphs.
+/// The families of planar graphs. `differential --look` tells how they look beside those that the crate makes of polygons: most
+/// nodes have two links there, crossings four, and more than eight hardly come up. Boards, Rings and Bands stand for those, and
+/// Triangles for outlines that touch in a point; Fan and Flower are extremes that find the odd cases.
 #[derive(Clone, Copy, Debug, PartialEq, Eq, PartialOrd, Ord)]
 pub enum Family {
     /// Cells between random lines, some from bound to bound: touching corners, holes, islands, several hulls.
@@ -23,14 +25,30 @@ pub enum Family {
     Fan,
     /// A star in rings of cells: holes whose anchor is a node of many links, touched by islands.
     Flower,
+    /// A level of dose round a centre, with its holes and islands: long outlines, nodes of two links.
+    Bands,
 }
 
-pub const FAMILIES: [Family; 6] =
-    [Family::Board, Family::Sheared, Family::Triangles, Family::Rings, Family::Fan, Family::Flower];
+pub const FAMILIES: [Family; 7] =
+    [Family::Board, Family::Sheared, Family::Triangles, Family::Rings, Family::Fan, Family::Flower, Family::Bands];
 
-/// A graph of the family, with about `size` cells a side, or that many pairs of spokes. Often patches of other families stand
-/// beside it, or in its empty faces.
+/// A graph of the family's patches. Without skipped links, as the crate's `overlay` makes its graphs; with the outlines of a
+/// second set of faces, as its view of all links has them; or with any.
 pub fn sample(family: Family, size: usize, rng: &mut Rng) -> Sample {
+    let patch = patches(family, size, rng);
+    let numbering = rng.choose(&[Numbering::Sorted, Numbering::Shuffled]);
+    let links = match rng.below(10) {
+        0..4 => links(&patch.mesh, &patch.filled, 0, rng),
+        4..8 => overlaid(&patch.mesh, &patch.filled, &clip(&patch, rng), rng.choose(&RULES)),
+        8 => links(&patch.mesh, &patch.filled, 20, rng),
+        _ => links(&patch.mesh, &patch.filled, 100, rng),
+    };
+    Sample::from_links(links, numbering, rng)
+}
+
+/// A patch of the family, with about `size` cells a side, or that many pairs of spokes. Often patches of other families stand
+/// beside it, or in its empty faces.
+pub fn patches(family: Family, size: usize, rng: &mut Rng) -> Patch {
     let mut whole = patch(family, size, rng);
     if rng.chance(30) {
         let unit = rng.choose(&[10, 25, 60]);
@@ -46,10 +64,7 @@ pub fn sample(family: Family, size: usize, rng: &mut Rng) -> Sample {
         let other = patch(rng.choose(&FAMILIES), size.min(4), rng);
         whole.put_beside(other, rng);
     }
-    let Patch { mesh, filled } = if whole.mesh.in_range() { whole } else { patch(family, size, rng) };
-    let numbering = rng.choose(&[Numbering::Sorted, Numbering::Shuffled]);
-    let skipped_percent = rng.choose(&[0, 0, 0, 20, 100]);
-    Sample::from_links(links(&mesh, &filled, skipped_percent, rng), numbering, rng)
+    if whole.mesh.in_range() { whole } else { patch(family, size, rng) }
 }
 
 fn patch(family: Family, size: usize, rng: &mut Rng) -> Patch {
@@ -57,10 +72,11 @@ fn patch(family: Family, size: usize, rng: &mut Rng) -> Patch {
     let filled = match family {
         Family::Rings => rings(&mesh, rng),
         Family::Flower if rng.chance(70) => petals(&mesh, rng),
+        Family::Bands => levels(&mesh, rng),
         Family::Fan if rng.chance(50) => (0..mesh.faces.len()).map(|face| face % 2 == 0).collect(),
         _ => fill(&mesh, rng),
     };
-    Patch { mesh, filled }
+    Patch::new(mesh, filled)
 }
 
 fn mesh(family: Family, size: usize, rng: &mut Rng) -> Mesh {
@@ -91,6 +107,7 @@ fn mesh(family: Family, size: usize, rng: &mut Rng) -> Mesh {
             let spokes = 8 + rng.below(2 * size);
             Mesh::fan(centre(rng), spokes, 2 + rng.below(3), rng.chance(20), rng)
         }
+        Family::Bands => Mesh::fan(centre(rng), 8 + rng.below(4 * size), 2 + rng.below(3), false, rng),
     }
 }
 
@@ -135,9 +152,44 @@ fn petals(mesh: &Mesh, rng: &mut Rng) -> Vec<bool> {
     (0..mesh.faces.len()).map(is_filled).collect()
 }
 
-/// The links between filled and empty faces; of the others, that percentage as skipped links, but for loose ends.
-pub fn links(mesh: &Mesh, filled: &[bool], skipped_percent: usize, rng: &mut Rng) -> Vec<Link> {
-    // By the two points of an edge, the lower first: filled on the left, and on the right.
+/// Filled from one ring to another, which go up and down from sector to sector.
+fn levels(mesh: &Mesh, rng: &mut Rng) -> Vec<bool> {
+    let rings = mesh.faces.len() / mesh.columns;
+    let mut step = |level: &mut usize| {
+        *level = (*level + rng.choose(&[0, 1, 1, 1, 1, 1, 1, 2])).saturating_sub(1).min(rings);
+        *level
+    };
+    let (mut inner, mut outer) = (0, rings);
+    let reaches: Vec<(usize, usize)> = (0..mesh.columns).map(|_| (step(&mut inner), step(&mut outer))).collect();
+    (0..mesh.faces.len())
+        .map(|face| {
+            let (inner, outer) = reaches[face % mesh.columns];
+            (inner..outer).contains(&(face / mesh.columns))
+        })
+        .collect()
+}
+
+/// The faces of a clip: some at random, or all between two points. Those that host a patch stay empty.
+pub fn clip(patch: &Patch, rng: &mut Rng) -> Vec<bool> {
+    let Patch { mesh, hosts, .. } = patch;
+    let (one, other) = (rng.choose(&mesh.points), rng.choose(&mesh.points));
+    let is_between = |&corner: &usize| (one.min(other)..=one.max(other)).contains(&mesh.points[corner]);
+    let faces = match rng.below(2) {
+        0 => fill(mesh, rng),
+        _ => mesh.faces.iter().map(|face| face.iter().all(is_between)).collect(),
+    };
+    faces.into_iter().zip(hosts).map(|(is_covered, hosts)| is_covered && !hosts).collect()
+}
+
+/// What is filled, by whether the subject and the clip cover it.
+pub type Rule = fn(bool, bool) -> bool;
+
+/// In the crate's order: subject, clip, intersect, union, difference, inverse difference, xor.
+pub const RULES: [Rule; 7] =
+    [|s, _| s, |_, c| c, |s, c| s && c, |s, c| s || c, |s, c| s && !c, |s, c| c && !s, |s, c| s != c];
+
+/// By the two points of an edge, the lower first: filled on the left, and on the right.
+fn sides(mesh: &Mesh, filled: &[bool]) -> BTreeMap<(usize, usize), (bool, bool)> {
     let mut sides: BTreeMap<(usize, usize), (bool, bool)> = BTreeMap::new();
     for (face, &is_filled) in mesh.faces.iter().zip(filled) {
         for (&from, &to) in face.iter().zip(face.iter().cycle().skip(1)) {
@@ -148,15 +200,27 @@ pub fn links(mesh: &Mesh, filled: &[bool], skipped_percent: usize, rng: &mut Rng
             }
         }
     }
-    let mut links = Vec::new();
-    for ((a_key, b_key), (left, right)) in sides {
-        let skipped = left == right;
-        if !skipped || rng.chance(skipped_percent) {
-            links.push(Link { a: mesh.points[a_key], b: mesh.points[b_key], a_key, b_key, top: left, skipped });
-        }
-    }
+    sides
+}
+
+fn link(mesh: &Mesh, (a_key, b_key): (usize, usize), left: bool, right: bool) -> Link {
+    Link { a: mesh.points[a_key], b: mesh.points[b_key], a_key, b_key, top: left, skipped: left == right }
+}
+
+/// The links between filled and empty faces; of the others, that percentage as skipped links, but for loose ends.
+pub fn links(mesh: &Mesh, filled: &[bool], skipped_percent: usize, rng: &mut Rng) -> Vec<Link> {
+    let links = sides(mesh, filled).into_iter().map(|(edge, (left, right))| link(mesh, edge, left, right));
+    let mut links: Vec<Link> = links.filter(|link| !link.skipped || rng.chance(skipped_percent)).collect();
     prune(&mut links, mesh.points.len());
     links
+}
+
+/// The outlines of two sets of faces; those between two faces that the rule fills, or leaves empty, are skipped.
+pub fn overlaid(mesh: &Mesh, subject: &[bool], clip: &[bool], rule: Rule) -> Vec<Link> {
+    let (subject, clip) = (sides(mesh, subject), sides(mesh, clip));
+    let outlines = subject.into_iter().zip(clip.into_values());
+    let outlines = outlines.filter(|((_, subject), clip)| subject.0 != subject.1 || clip.0 != clip.1);
+    outlines.map(|((edge, subject), clip)| link(mesh, edge, rule(subject.0, clip.0), rule(subject.1, clip.1))).collect()
 }
 
 /// Takes away links with an end at a node of their own, until there is none.
