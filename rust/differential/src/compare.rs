@@ -1,26 +1,26 @@
 //! One graph under one setting: the text's answer, ours, and what their comparison says.
 
 use crate::sides::Outcome;
-use generators::Sample;
-use reading::Settings;
 use reading::bind::is_difference_2;
 use reading::geometry::Point;
 use reading::walk::Walk;
 use std::panic::{AssertUnwindSafe, catch_unwind};
 use text::Run;
 
+/// Shapes: each a hull, then its holes.
+pub type Shapes = Vec<Vec<Vec<Point>>>;
+
 /// What the text answers: contours in the order of its scan, visit states, and its shapes, or none where it panics.
 #[derive(Clone, Debug, PartialEq, Eq)]
 pub struct TextAnswer {
     pub contours: Vec<Vec<Point>>,
     pub states: Vec<u8>,
-    pub shapes: Option<Vec<Vec<Vec<Point>>>>,
+    pub shapes: Option<Shapes>,
 }
 
-/// Runs the text under one of its overlay rules. The graph must be one on which no walk is refused, in whatever order the
-/// walks are taken: elsewhere the text may run for ever.
-pub fn ask_text(sample: &Sample, settings: Settings, rule: usize) -> TextAnswer {
-    let mut run = Run::new(&sample.graph, &sample.state, settings, rule);
+/// Runs the text. The graph must be one on which no walk is refused, in whatever order the walks are taken: elsewhere the text
+/// may run for ever.
+pub fn ask_text(run: &mut Run) -> TextAnswer {
     run.extract_contours();
     let (contours, states) = (run.contours(), run.states());
     let shapes = catch_unwind(AssertUnwindSafe(|| run.extract_shapes())).ok();

@@ -62,7 +62,8 @@ pub fn write(count: usize) -> String {
             && (written % 2 == 0 || is_searched)
             && expected(&walks, &outcome, settings.clockwise) == Expected::Equality
         {
-            let answer = print(&ask_text(&sample, settings, rng.below(Run::RULES)));
+            let mut run = Run::new(&sample.graph, &sample.state, settings, rng.below(Run::RULES));
+            let answer = print(&ask_text(&mut run));
             let Sample { graph, state } = sample;
             let file = encode(&Study { settings, graph, state });
             let digits: String = file.iter().map(|byte| format!("{byte:02x}")).collect();

@@ -4,6 +4,7 @@ use generators::planar::{FAMILIES, sample};
 use generators::rng::Rng;
 use generators::{Sample, planar, wild};
 use reading::bind::{bind, lookup};
+use reading::fill::{area_of_links, sides_alternate};
 use reading::graph::Buffers;
 use reading::walk::extract;
 use reading::{Refusal, Settings};
@@ -27,26 +28,16 @@ fn run(sample: &Sample, settings: Settings) -> Result<i64, Refusal> {
     Ok(counts.kept_area + counts.rejected_area)
 }
 
-/// The doubled area that document 01's third demand gives: the sum over the links with fill on the left (right for clockwise).
-fn area_of_links(sample: &Sample, clockwise: bool) -> i64 {
-    let graph = &sample.graph;
-    let unskipped = (0..graph.links()).filter(|&link| sample.state[link] == 0);
-    let area = |link: usize| {
-        let (a, b) = (graph.a(link), graph.b(link));
-        let cross = a.x as i64 * b.y as i64 - a.y as i64 * b.x as i64;
-        if (graph.top[link] == 1) != clockwise { cross } else { -cross }
-    };
-    unskipped.map(area).sum()
-}
-
 #[test]
 fn planar_graphs_are_walked_whole() {
     for seed in 0..6000 {
         let mut rng = Rng::new(seed ^ 11 << 40);
         let sample = sample(FAMILIES[seed as usize % FAMILIES.len()], 6, &mut rng);
+        assert!(sides_alternate(&sample.graph, &sample.state));
         for clockwise in [false, true] {
             let minimum = rng.choose(&[0, 1, 10]);
-            assert_eq!(run(&sample, Settings { clockwise, minimum }), Ok(area_of_links(&sample, clockwise)));
+            let area = area_of_links(&sample.graph, &sample.state, clockwise);
+            assert_eq!(run(&sample, Settings { clockwise, minimum }), Ok(area));
         }
     }
 }
@@ -60,9 +51,14 @@ fn other_graphs_are_walked_whole_or_refused() {
         planar::upset_tops(&mut graph, &mut rng);
         for graph in [graph, wild::sample(8, &mut rng)] {
             let settings = Settings { clockwise: rng.chance(50), minimum: rng.choose(&[0, 1]) };
+            let is_even = sides_alternate(&graph.graph, &graph.state);
+            let area = area_of_links(&graph.graph, &graph.state, settings.clockwise);
             match run(&graph, settings) {
-                Ok(_) => {}
-                Err(Refusal { number: 8 | 9, .. }) => refused += 1,
+                Ok(walked) => assert!(walked == area || !is_even),
+                Err(Refusal { number: 8 | 9, .. }) => {
+                    assert!(!is_even);
+                    refused += 1;
+                }
                 Err(refusal) => panic!("the generators make graphs that pass checks 1 to 7, but {refusal:?}"),
             }
         }

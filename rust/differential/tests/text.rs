@@ -3,9 +3,9 @@
 
 use differential::compare::ask_text;
 use differential::{stored, tally};
-use generators::Sample;
 use generators::planar::FAMILIES;
 use reading::walk::{Scan, walks};
+use text::Run;
 
 /// The sample of the text's answers, made by `differential --store 160`.
 const STORED: &str = include_str!("../../../tests/rust-data/text-answers.txt");
@@ -54,7 +54,7 @@ fn the_text_drops_the_hull_of_the_incident() {
         println!("the text is not at hand: it was not asked about E8");
         return;
     }
-    let answer = ask_text(&Sample { graph, state }, settings, 0);
+    let answer = ask_text(&mut Run::new(&graph, &state, settings, 0));
     assert_eq!(answer.contours, [kept[0].points.clone()]);
     assert_eq!(kept[0].links.iter().map(|&link| answer.states[link]).collect::<Vec<_>>(), [2; 3]);
     // a debug assertion of the text sees that the hole's anchor is not its least point

@@ -73,7 +73,8 @@ fn compare_run(sample: &Sample, settings: Settings, rule: usize, in_domain: bool
     let walks = walks(&sample.graph, &sample.state, settings, Scan::Stays).expect("as above");
     let expected = expected(&walks, &outcome, settings.clockwise);
     if in_domain && expected == Expected::Equality {
-        assert_eq!(answer, ask_text(sample, settings, rule), "the text as it is");
+        let text = ask_text(&mut text::Run::new(&sample.graph, &sample.state, settings, rule));
+        assert_eq!(answer, text, "the text as it is");
     }
     Some(expected)
 }
@@ -163,7 +164,8 @@ fn the_incident() {
     }
     let (sample, settings) = case(&Path::new(CASES).join("e8.graph")).expect("E8 passes the checks");
     let hull: Vec<Point> = [(10, -10), (0, 0), (10, -20)].map(|(x, y)| Point::new(x, y)).to_vec();
-    let (text, patched) = (ask_text(&sample, settings, 0), ask_patched(&sample, settings, 0).unwrap());
+    let text = ask_text(&mut text::Run::new(&sample.graph, &sample.state, settings, 0));
+    let patched = ask_patched(&sample, settings, 0).unwrap();
     assert!(text.shapes.is_none_or(|shapes| shapes.is_empty()));
     assert_eq!(patched.shapes, Some(vec![vec![hull]]));
     assert_eq!([0, 1, 8].map(|link| (text.states[link], patched.states[link])), [(2, 3); 3]);

@@ -2,11 +2,12 @@
 //!
 //! It is written from the document's words and from nothing else, to be read beside it and to be compared with the proved
 //! library: no cleverness, exact numbers in `i128`, one function for each rule. [`graph`] holds the lent graph and checks
-//! 1 to 7, [`walk`] the walking rules 1 to 7, [`bind`] checks 10 to 12 with binding and lookup, [`file`](mod@file) the
-//! program's file and its printed answer.
+//! 1 to 7, [`walk`] the walking rules 1 to 7, [`bind`] checks 10 to 12 with binding and lookup, [`fill`] the
+//! third demand's condition and total, [`file`](mod@file) the program's file and its printed answer.
 
 pub mod bind;
 pub mod file;
+pub mod fill;
 pub mod geometry;
 pub mod graph;
 pub mod walk;
