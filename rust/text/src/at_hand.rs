@@ -116,10 +116,15 @@ impl Run {
 
     /// The text's `extract_shapes`: each shape's hull, then its holes. Panics where the text does.
     pub fn extract_shapes(&mut self) -> Vec<Vec<Vec<Point>>> {
+        nested(&self.bound().0)
+    }
+
+    /// The same, with the shapes left in the text's own types.
+    pub fn bound(&mut self) -> Bound {
         let mut buffer = std::mem::take(&mut self.buffer);
         let shapes = self.graph().extract_shapes(self.rule, &mut buffer);
         self.buffer = buffer;
-        nested(&shapes)
+        Bound(shapes)
     }
 
     /// The patched text's `try_extract_shapes`: the same shapes, or the refusal.
@@ -188,7 +193,7 @@ impl Unbound {
 }
 
 /// Shapes with their holes.
-pub struct Bound(IntShapes<i32>);
+pub struct Bound(pub(crate) IntShapes<i32>);
 
 impl Bound {
     /// How many holes each shape has.

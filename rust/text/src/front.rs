@@ -8,7 +8,7 @@ use crate::core::overlay_rule::OverlayRule;
 use crate::core::solver::Solver;
 use crate::int::point::IntPoint;
 use crate::int::shape::IntShape;
-use crate::run::{RULES, Run, entries, nested, set};
+use crate::run::{Bound, RULES, Run, entries, nested, set};
 use reading::Settings;
 use reading::geometry::Point;
 
@@ -45,21 +45,34 @@ impl Front {
 
     /// The graph that the text's `overlay` extracts its shapes from, of the links that the rule keeps; none if no edge is left.
     pub fn kept(&mut self, fill: usize, rule: usize) -> Option<Run> {
+        self.build(fill, rule).map(|graph| run(RULES[rule], &graph))
+    }
+
+    /// How many links that graph has: the work of `overlay` up to extraction, and none besides.
+    pub fn links(&mut self, fill: usize, rule: usize) -> usize {
+        self.build(fill, rule).map_or(0, |graph| graph.links.len())
+    }
+
+    fn build(&mut self, fill: usize, rule: usize) -> Option<OverlayGraph<'_, i32>> {
         self.add_polygons();
         let Overlay { solver, options, segments, split_solver, graph_builder, .. } = &mut self.overlay;
         split_solver.split_segments(segments, solver);
         if segments.is_empty() {
             return None;
         }
-        let graph = graph_builder.build_boolean_overlay(FILLS[fill], RULES[rule], *options, solver, segments);
-        Some(run(RULES[rule], &graph))
+        Some(graph_builder.build_boolean_overlay(FILLS[fill], RULES[rule], *options, solver, segments))
     }
 
     /// The text's `overlay`: polygons to shapes. Panics where the text does.
     pub fn overlay(&mut self, fill: usize, rule: usize, settings: Settings) -> Vec<Vec<Vec<Point>>> {
+        nested(&self.bound(fill, rule, settings).0)
+    }
+
+    /// The same, with the shapes left in the text's own types.
+    pub fn bound(&mut self, fill: usize, rule: usize, settings: Settings) -> Bound {
         self.add_polygons();
         set(&mut self.overlay.options, settings);
-        nested(&self.overlay.overlay(RULES[rule], FILLS[fill]))
+        Bound(self.overlay.overlay(RULES[rule], FILLS[fill]))
     }
 
     /// Splitting wears the edges out: each use takes the polygons anew.

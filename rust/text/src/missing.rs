@@ -33,7 +33,15 @@ impl Front {
         unreachable!("{NOT_AT_HAND}");
     }
 
+    pub fn links(&mut self, _: usize, _: usize) -> usize {
+        unreachable!("{NOT_AT_HAND}");
+    }
+
     pub fn overlay(&mut self, _: usize, _: usize, _: Settings) -> Vec<Vec<Vec<Point>>> {
+        unreachable!("{NOT_AT_HAND}");
+    }
+
+    pub fn bound(&mut self, _: usize, _: usize, _: Settings) -> Bound {
         unreachable!("{NOT_AT_HAND}");
     }
 }
@@ -66,6 +74,10 @@ impl Run {
     }
 
     pub fn extract_shapes(&mut self) -> Vec<Vec<Vec<Point>>> {
+        unreachable!("{NOT_AT_HAND}");
+    }
+
+    pub fn bound(&mut self) -> Bound {
         unreachable!("{NOT_AT_HAND}");
     }
 
