@@ -3,12 +3,14 @@
 
 mod graphs;
 mod machine;
+mod polygons;
 mod sides;
 mod table;
 mod timing;
 
 use generators::Sample;
 use graphs::Group;
+use polygons::{Plan, STEPS};
 use reading::file::{Study, encode};
 use sides::Library;
 use std::hint::black_box;
@@ -30,7 +32,8 @@ Times the static library and the given text of i_overlay 9.0.1 on the same graph
 
 Each time is the least of many runs of one graph; the ratio is the first time by the second. There are graphs near the
 most links, 48 different meshes in turn, and tiny graphs; then the whole call of the safe interface, with buffers of its
-own and in a workspace, beside the bare calls.
+own and in a workspace, beside the bare calls; then polygons to shapes, by the text that is patched to call the
+library, beside the text as it is.
 Where the text is not at hand (../shared/docs/src beside the repository) the library is timed alone.
 docs/PERFORMANCE.md says what each row is.";
 
@@ -64,6 +67,10 @@ fn run(effort: Effort) {
     let calls = ["whole call", "bare calls"];
     whole_calls(&Table::in_micros("Graph to shapes from Rust, large graphs", calls), &large, effort);
     whole_calls(&Table::in_nanos("Graph to shapes from Rust, tiny graphs", calls), &tiny, effort);
+    if text::AT_HAND {
+        let sides = ["patched text", "text"];
+        end_to_end(&Table::in_micros("Polygons to shapes, end to end", sides), &polygons::plans(), effort);
+    }
 }
 
 /// Each graph that has a row of its own, in a file with its name.
@@ -122,6 +129,20 @@ fn whole_calls(table: &Table, groups: &[Group], effort: Effort) {
     }
 }
 
+/// Polygons to shapes by the patched text, beside the text as it is; then the steps of that. The split and the graph are the
+/// same code on both sides.
+fn end_to_end(table: &Table, plans: &[Plan], effort: Effort) {
+    let mut shares = Vec::new();
+    for plan in plans {
+        let name = format!("{}, {} links", plan.name, plan.links());
+        let sides = plan.patched().into_iter().zip(plan.text());
+        let times: Vec<_> = sides.map(|(ours, theirs)| least(effort, ours, Some(theirs))).collect();
+        STEPS.into_iter().zip(&times).for_each(|(step, &times)| table.row(&name, step, times, 1));
+        shares.push(format!("- {name}: {}", table::share(times[2], times[0])));
+    }
+    println!("\nThe share of {}: by the patched text, and by the text\n\n{}", STEPS[2], shares.join("\n"));
+}
+
 /// A round of a step over all graphs of a group.
 fn each<'a, S>(group: &Group, sides: &'a mut [S], step: impl Fn(&mut S) + 'a) -> Round<'a> {
     let repeats = group.repeats;
@@ -150,5 +171,8 @@ mod tests {
         let groups = graphs::small();
         beside_the_text(&Table::in_micros("Small graphs", ["library", "text"]), &groups, effort);
         whole_calls(&Table::in_micros("Small graphs, whole calls", ["whole call", "bare calls"]), &groups, effort);
+        if text::AT_HAND {
+            end_to_end(&Table::in_micros("Few polygons", ["patched text", "text"]), &polygons::small(), effort);
+        }
     }
 }

@@ -27,6 +27,11 @@ pub fn time<R>(run: impl FnOnce() -> R) -> Duration {
 /// One round over some graphs: it answers the time of each.
 pub type Round<'a> = Box<dyn FnMut() -> Vec<Duration> + 'a>;
 
+/// A round of one run.
+pub fn once<'a, R>(mut run: impl FnMut() -> R + 'a) -> Round<'a> {
+    Box::new(move || vec![time(&mut run)])
+}
+
 /// Rounds of one side, with the least time of each graph so far.
 struct Side<'a> {
     round: Round<'a>,
@@ -49,8 +54,11 @@ impl<'a> Side<'a> {
     }
 }
 
-/// The least times of one side, summed over its graphs, and those of the side that it takes turns with, if there is one.
-pub fn least(effort: Effort, one: Round<'_>, other: Option<Round<'_>>) -> (Duration, Option<Duration>) {
+/// The time of one side, and of the side that it takes turns with, if there is one.
+pub type Times = (Duration, Option<Duration>);
+
+/// The least times of both sides, each summed over its graphs.
+pub fn least(effort: Effort, one: Round<'_>, other: Option<Round<'_>>) -> Times {
     let began = Instant::now();
     let (mut one, mut other) = (Side::new(one), other.map(Side::new));
     let mut rounds = 1;
