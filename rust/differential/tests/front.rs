@@ -1,13 +1,16 @@
 //! Polygons, and the graphs that the text's own front end makes of them. The program `differential` compares many more.
 
+use differential::compare::{Equal, ask_text, compare};
 use differential::front::front;
+use differential::sides::{by, by_crate_rules};
 use differential::tally::{Compared, Tally, compare_run};
 use generators::polygons::{FAMILIES, Polygons, sample};
 use generators::rng::Rng;
 use generators::{Numbering, Sample, planar};
-use reading::MAX_COORDINATE;
 use reading::file::Study;
+use reading::geometry::Point;
 use reading::graph::Graph;
+use reading::{MAX_COORDINATE, READING, Settings};
 use text::{Front, Run};
 
 #[test]
@@ -91,4 +94,33 @@ fn an_uneven_graph_is_a_finding() {
     assert_eq!([tally.graphs, tally.uneven, tally.findings], [1, 1, 1]);
     compare_run(&compared, settings, || unreachable!("the walk is refused"), &mut tally);
     assert_eq!([tally.runs, tally.findings], [1, 2]);
+}
+
+/// D1 may upset the holes' order: here the crate's scan has left (0, 0) before the third hole there is walked, and finds the one
+/// at (5, 20) first. With one hull the text binds both all the same, in that order.
+#[test]
+fn the_text_finds_holes_out_of_order() {
+    if !text::AT_HAND {
+        println!("the text is not at hand: it was not asked for holes out of order");
+        return;
+    }
+    let contour = |points: [(i32, i32); 3]| points.map(|(x, y)| Point::new(x, y)).to_vec();
+    let hull = contour([(-10, -100), (100, -100), (-10, 100)]);
+    let small = [[(0, 0), (20, 1), (20, 2)], [(0, 0), (20, 5), (20, 6)]].map(contour);
+    let large = [[(0, 0), (10, -40), (11, -50)], [(5, 20), (7, 40), (9, 20)]].map(contour);
+    let polygons = [&[hull], &small[..], &large[..]].concat();
+    let settings = Settings { clockwise: false, minimum: 15 };
+    let mut run = Front::new(&polygons, &[], true).kept(0, 0).expect("edges are left");
+    let (graph, state) = run.lent();
+    run.set(settings);
+    let answer = ask_text(&mut run);
+
+    let sample = Sample { graph, state };
+    let starts = |contours: &[Vec<Point>]| contours[1..].iter().map(|hole| hole[0]).collect::<Vec<_>>();
+    let ours = by(READING, &sample, settings).expect("it is walked");
+    assert_eq!(starts(&ours.contours), [Point::new(0, 0), Point::new(5, 20)]);
+    assert_eq!(starts(&answer.contours), [Point::new(5, 20), Point::new(0, 0)]);
+    assert_eq!(answer.shapes, Some(vec![answer.contours.clone()]));
+    let crates = by_crate_rules(&sample, settings).expect("it is walked");
+    assert_eq!(compare(&crates, &answer), Equal { contours: true, shapes: true });
 }
