@@ -5,11 +5,12 @@ ghost use lib.ListN.{length};
 ghost use Rattle.laws.specs.Lowest.{lowest, some};
 ghost use Rattle.graph.specs.Graph.{Lent, lent, pointAt};
 ghost use Rattle.turn.specs.declared.Point.{Point};
-ghost use Rattle.graph.specs.Checks.{room, unlike, fewPoints, unlikeBand, fewContours, misplaced, misnamed, linkWrong, misflagged, outOfOrder};
+ghost use Rattle.graph.specs.Checks.{room, misplaced, misnamed, linkWrong, misflagged, outOfOrder};
 ghost use Rattle.graph.specs.Checks.{flagFault, eachChecked, linksChecked};
 ghost use Rattle.graph.specs.Passes.{Even};
 ghost use Rattle.check_links.specs.Quick.{misplacedAfter, misplacedAt, lastId, misnamedPast, misnamedAt};
 ghost use Rattle.check_links.specs.Promises.{check-links-says};
+use check_room::no_room;
 use graph::point_at;
 use turn::Checked;
 use turn::MAX_COORDINATE;
@@ -18,51 +19,6 @@ use turn::Point;
 use turn::before;
 use turn::off_grid;
 use turn::outside;
-
-// Check 2, of the shared graph: whether its lists differ in length, or there is no start.
-fn unlike(
-    ax: &[i32],
-    ay: &[i32],
-    bx: &[i32],
-    by: &[i32],
-    aid: &[u32],
-    bid: &[u32],
-    start: &[u32],
-    list: &[u32],
-) -> bool
-    ensures { λ r. ⌜ (let g : Lent = lent (now (ax .entry)) (now (ay .entry)) (now (bx .entry)) (now (by .entry)) (now (aid .entry))
-        (now (bid .entry)) (now (start .entry)) (now (list .entry)) in
-        r ≡ unlike g) ⌝ }
-{
-    let n = aid.len();
-    (ax.len() != n)
-        | (ay.len() != n)
-        | (bx.len() != n)
-        | (by.len() != n)
-        | (bid.len() != n)
-        | (start.len() == 0)
-}
-
-// Whether a buffer of so many numbers has no room for n points.
-fn few_points(n: usize, points: usize) -> bool
-    ensures { λ r. ⌜ r ≡ fewPoints n points ⌝ }
-{
-    points / 2 < n
-}
-
-// Check 2, of one band: whether its tops or states are not n.
-fn unlike_band(n: usize, top: &[u8], state: &[u8]) -> bool
-    ensures { λ r. ⌜ r ≡ unlikeBand n (now (top .entry)) (now (state .entry)) ⌝ }
-{
-    (top.len() != n) | (state.len() != n)
-}
-
-// Whether the contour table's lists differ in length, or have no room for n / 3 contours.
-fn few_contours(n: usize, firsts: usize, lens: usize, kinds: usize) -> bool
-    ensures { λ r. ⌜ r ≡ fewContours n firsts lens kinds ⌝ }
-{
-    (lens != firsts) | (kinds != firsts) | (firsts < n / 3)
-}
 
 // Check 3, of the shared graph: whether a link's points are out of bounds, or a is not strictly before b.
 fn misplaced(a: Point, b: Point) -> bool
@@ -308,11 +264,22 @@ pub fn check_links(
             place: 0,
         };
     }
-    if unlike(ax, ay, bx, by, aid, bid, start, list)
-        | few_points(n, points)
-        | unlike_band(n, top, state)
-        | few_contours(n, firsts, lens, kinds)
-    {
+    if no_room(
+        ax,
+        ay,
+        bx,
+        by,
+        aid,
+        bid,
+        start,
+        list,
+        top,
+        state,
+        points,
+        firsts,
+        lens,
+        kinds,
+    ) {
         return Checked::Refused {
             number: 2,
             place: 0,

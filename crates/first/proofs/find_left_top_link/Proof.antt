@@ -64,8 +64,12 @@ leading-requires c κs =
 only-unvisited-requires : tie.Need-only-unvisited-requires
 only-unvisited-requires c κs =
     let d = c .before in let s = entry d in
-    named-below _ _ _ _ _ _ _ (s .args .k) (fresh s) (low s) (d .before .before .if1 .left) _ (ap linkOf (d .wide .ensures)) (s .pre .0) _
-    (c .leading .ensures)
+    omega (
+      arith,
+      below s,
+      named-below _ _ _ _ _ _ _ (s .args .k) (fresh s) (low s) (d .before .before .if1 .left) _ (ap linkOf (d .wide .ensures)) (s .pre .0) _
+          (c .leading .ensures),
+    )
 
 returns-2 : tie.Need-returns-2
 returns-2 c =
