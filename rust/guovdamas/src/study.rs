@@ -197,7 +197,7 @@ fn check_head(last_kind: Option<u16>, kind: u16, length: usize) -> Result<(), Fa
     let is_right = match kind {
         SETTINGS => length == SETTINGS_BODY,
         LINK => length == LINK_BODY,
-        _ => length.is_multiple_of(2),
+        _ => length % 2 == 0,
     };
     if is_right { Ok(()) } else { Err(Fault::Length(kind, length)) }
 }

@@ -25,7 +25,7 @@ pub(crate) mod int {
             )*};
         }
         resources! {
-            [IntPoint<I>]: |contour| std::iter::once(contour);
+            [IntPoint<I>]: std::iter::once;
             [IntContour<I>]: |contours: &'a [IntContour<I>]| contours.iter().map(Vec::as_slice);
             IntShape<I>: |contours: &'a IntShape<I>| contours.iter().map(Vec::as_slice);
             [IntShape<I>]: |shapes: &'a [IntShape<I>]| shapes.iter().flatten().map(Vec::as_slice);
