@@ -107,25 +107,22 @@ impl OverlayGraph<'_, i32> {
 
     /// The graph's links and nodes as guovdamas takes them.
     fn lend(&self, overlay_rule: OverlayRule, visited: &[VisitState]) -> Graph {
-        let mut graph = Graph::new();
-        for (link, &state) in self.links.iter().zip(visited) {
-            graph.push_link(Link {
-                a: [link.a.point.x, link.a.point.y],
-                b: [link.b.point.x, link.b.point.y],
-                a_id: number(link.a.id),
-                b_id: number(link.b.id),
-                fill_top: overlay_rule.is_fill_top(link.fill),
-                skipped: state == VisitState::Skipped,
-            });
-        }
-        for node in self.nodes {
+        let links = self.links.iter().zip(visited).map(|(link, &state)| Link {
+            a: [link.a.point.x, link.a.point.y],
+            b: [link.b.point.x, link.b.point.y],
+            a_id: number(link.a.id),
+            b_id: number(link.b.id),
+            fill_top: overlay_rule.is_fill_top(link.fill),
+            skipped: state == VisitState::Skipped,
+        });
+        let nodes = self.nodes.iter().map(|node| {
             let links = match node {
                 OverlayNode::Bridge(links) => links.as_slice(),
                 OverlayNode::Cross(links) => links.as_slice(),
             };
-            graph.push_node(links.iter().copied().map(number));
-        }
-        graph
+            links.iter().copied().map(number)
+        });
+        Graph::from_links(links, nodes)
     }
 }
 

@@ -85,25 +85,22 @@ impl OverlayRule {
 
 /// The graph of i_overlay's links and nodes under a rule.
 fn lend(links: &[OverlayLink], nodes: &[OverlayNode], rule: OverlayRule) -> Graph {
-    let mut graph = Graph::new();
-    for OverlayLink { a, b, fill } in links {
-        graph.push_link(Link {
-            a: [a.point.x, a.point.y],
-            b: [b.point.x, b.point.y],
-            a_id: a.id as u32,
-            b_id: b.id as u32,
-            fill_top: rule.is_fill_top(*fill),
-            skipped: rule.is_skipped(*fill),
-        });
-    }
-    for node in nodes {
+    let links = links.iter().map(|OverlayLink { a, b, fill }| Link {
+        a: [a.point.x, a.point.y],
+        b: [b.point.x, b.point.y],
+        a_id: a.id as u32,
+        b_id: b.id as u32,
+        fill_top: rule.is_fill_top(*fill),
+        skipped: rule.is_skipped(*fill),
+    });
+    let nodes = nodes.iter().map(|node| {
         let links: &[usize] = match node {
             OverlayNode::Bridge(links) => links,
             OverlayNode::Cross(links) => links,
         };
-        graph.push_node(links.iter().map(|&link| link as u32));
-    }
-    graph
+        links.iter().map(|&link| link as u32)
+    });
+    Graph::from_links(links, nodes)
 }
 
 /// A square subject whose right half is covered by the clip.

@@ -86,6 +86,32 @@ impl Graph {
         }
     }
 
+    /// The graph of these links and nodes, as [`push_link`](Self::push_link) and [`push_node`](Self::push_node) add them. It
+    /// goes over the links once for each list: much faster, where each of a link's fields is had without the others.
+    pub fn from_links<N>(links: impl Iterator<Item = Link> + Clone, nodes: impl IntoIterator<Item = N>) -> Self
+    where
+        N: IntoIterator<Item = u32>,
+    {
+        let a_id: Vec<u32> = links.clone().map(|link| link.a_id).collect();
+        let mut graph = Self {
+            ax: links.clone().map(|link| link.a[0]).collect(),
+            ay: links.clone().map(|link| link.a[1]).collect(),
+            bx: links.clone().map(|link| link.b[0]).collect(),
+            by: links.clone().map(|link| link.b[1]).collect(),
+            b_id: links.clone().map(|link| link.b_id).collect(),
+            top: links.clone().map(|link| link.fill_top as u8).collect(),
+            state: links.map(|link| link.skipped as u8).collect(),
+            caller: (0..a_id.len()).map(numbered).collect(),
+            list: Vec::with_capacity(2 * a_id.len()),
+            a_id,
+            ..Self::new()
+        };
+        let nodes = nodes.into_iter();
+        graph.start.reserve(nodes.size_hint().0);
+        nodes.for_each(|links| graph.push_node(links));
+        graph
+    }
+
     /// Adds a link. The links come in the order of their first points.
     pub fn push_link(&mut self, link: Link) {
         let number = numbered(self.a_id.len());

@@ -51,6 +51,19 @@ fn links_and_nodes_one_by_one() {
     assert_eq!((rejected.counts().rejected, rejected.counts().walked), (1, 4));
 }
 
+#[test]
+fn links_and_nodes_all_at_once() {
+    let mut one_by_one = Graph::new();
+    let links = [(0, true, false), (1, false, true), (2, false, false)].map(|(number, fill_top, skipped)| {
+        let [x, y] = [number as i32, 10 + number as i32];
+        Link { a: [x, y], b: [x + 20, y + 30], a_id: number, b_id: 5 - number, fill_top, skipped }
+    });
+    let nodes = [vec![0, 1], vec![2], vec![], vec![2, 1, 0]];
+    links.into_iter().for_each(|link| one_by_one.push_link(link));
+    nodes.iter().for_each(|links| one_by_one.push_node(links.iter().copied()));
+    assert_eq!(Graph::from_links(links.into_iter(), nodes), one_by_one);
+}
+
 fn two_boxes_with_a_hole() -> Shapes {
     let segments = [frame([0, 0], 10, true), frame([20, 0], 10, true), frame([22, 2], 4, false)].concat();
     Graph::from_segments(segments).extract_shapes(Options::default()).unwrap()
