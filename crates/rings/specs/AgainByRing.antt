@@ -19,15 +19,15 @@ use Rattle.rings.specs.Sorted.{of-reverse}
 use Rattle.rings.specs.Rotation.{after, ahead, backward, split, firstUnvisited, lastUnvisited, first-later}
 use Rattle.rings.specs.Rings.{Ring, not-round}
 use Rattle.rings.specs.NextByRing.{Marked, next-by-ring}
-use Rattle.rings.specs.FirstByRing.{first-by-ring, none-ends}
+use Rattle.rings.specs.FirstByRing.{NoneEnds, first-by-ring, none-ends}
 use Rattle.rings.specs.Climb.{lastOr, last-from}
 
 -- ---- the first unvisited link of a list is of it and unvisited
-pub record Unvisited (st l : List ℕ) (f : ℕ) : Type 0 where
-  pub among : Mem f l
-  pub fresh : isUnvisited st f ≡ true
+record Unvisited (st l : List ℕ) (f : ℕ) : Type 0 where
+  among : Mem f l
+  fresh : isUnvisited st f ≡ true
 
-pub first-unvisited : (st l : List ℕ) (f : ℕ) → firstUnvisited st l ≡ Link f → Unvisited st l f
+first-unvisited : (st l : List ℕ) (f : ℕ) → firstUnvisited st l ≡ Link f → Unvisited st l f
 first-unvisited st [] f e = absurd (true≢false (cc))
 first-unvisited st (x ∷ l) f e = at (isUnvisited st x) refl e (first-unvisited st l f)
   where
@@ -75,7 +75,7 @@ module _ (s t l : List ℕ) (opens : (x : ℕ) → isUnvisited t x ≡ true → 
   here : Unvisited s (reverse l) f
   here = first-unvisited s (reverse l) f named
 
-  pub in-list : Mem f l
+  in-list : Mem f l
   in-list = of-reverse l (here .among)
 
   over : lastOr s f (after f l) ≡ f
@@ -85,7 +85,7 @@ module _ (s t l : List ℕ) (opens : (x : ℕ) → isUnvisited t x ≡ true → 
   shut x m = not-true (isUnvisited t x)
       (λ o. once (subst (λ y. Mem y (after f l)) over (last-among s f (after f l) x m (opens x o))))
 
-  pub last-again : lastUnvisited t l ≡ firstUnvisited t (backward f l)
+  last-again : lastUnvisited t l ≡ firstUnvisited t (backward f l)
   last-again =
       ap (lastUnvisited t) (split f l in-list) ∙ ap (firstUnvisited t) (reverseAux-append (ahead f l) (f ∷ after f l) [])
       ∙ shut-first t (after f l) (f ∷ reverse (ahead f l)) shut ∙ first-later t f (reverse (ahead f l)) visited
@@ -93,6 +93,14 @@ module _ (s t l : List ℕ) (opens : (x : ℕ) → isUnvisited t x ≡ true → 
       ∙ ap (firstUnvisited t) (sym (reverseAux-append (after f l) (ahead f l) []))
 
 -- ---- the law: in states s, where k is the lowest unvisited link, rule 1 names f; in states t, later than these, f is visited, and k is not
+
+-- f is of the ring l, its a is at k's node, and rule 1 is rule 3, clockwise from there
+pub record NamedAgain (g : Graph) (s t l : List ℕ) (k f : ℕ) : Type 0 where
+  pub fresh : isUnvisited s f ≡ true
+  pub among : Mem f l
+  pub starts : g .aNode f ≡ g .aNode k
+  pub next : firstLink g t k ≡ nextLink g true t (g .aNode k) f
+
 module _ {g : Graph} {m : ℕ} (links : FineLinks g m) (lists : FineLists g m) (point : OnePoint g) (k : ℕ) (below : k < g .n)
     {state : List ℕ} (sp : Spread g state (g .aNode k)) {l : List ℕ} (ring : Ring g state (g .aNode k) l)
     (cross : length (g .entries (g .aNode k)) ≡ 2 → ⊥)
@@ -102,7 +110,7 @@ module _ {g : Graph} {m : ℕ} (links : FineLinks g m) (lists : FineLists g m) (
   abbrev v : ℕ
   v = g .aNode k
 
-  none-in-s : (x : ℕ) → Mem x (g .entries v) → isUnvisited s x ≡ true → g .bNode x ≡ v → ⊥
+  none-in-s : NoneEnds g s v
   none-in-s = none-ends links lists point k below s (opens k o) lowest
 
   last-is-f : lastUnvisited s l ≡ Link f
@@ -111,21 +119,19 @@ module _ {g : Graph} {m : ℕ} (links : FineLinks g m) (lists : FineLists g m) (
   found : Unvisited s (reverse l) f
   found = first-unvisited s (reverse l) f last-is-f
 
-  pub named-fresh : isUnvisited s f ≡ true
-  named-fresh = found .fresh
-
-  -- f is of the ring, and its a is at the node
-  pub in-ring : Mem f l
+  in-ring : Mem f l
   in-ring = of-reverse l (found .among)
 
-  pub starts-there : g .aNode f ≡ v
-  starts-there =
-      let i = ring .only f in-ring .listed in
-      ⊎-elim (λ q. q) (λ q. absurd (none-in-s f i named-fresh q)) (lists .only v f i)
-
-  pub first-again : isUnvisited t f ≡ false → firstLink g t k ≡ nextLink g true t v f
-  first-again visited =
-      first-by-ring links lists point k below t o (λ x i u q. none-in-s x i (opens x u) q) cross ring in-t
-      ∙ last-again s t l opens f last-is-f visited
-      (λ i. not-round sp ring f in-ring false f (Memᴰ·append-left (ahead f l) i) refl)
-      ∙ sym (next-by-ring sp ring cross t in-t f in-ring visited true)
+  pub first-again : isUnvisited t f ≡ false → NamedAgain g s t l k f
+  first-again visited = record {
+    fresh = found .fresh;
+    among = in-ring;
+    starts =
+        let i = ring .only f in-ring .listed in
+        ⊎-elim (λ q. q) (λ q. absurd (none-in-s f i (found .fresh) q)) (lists .only v f i);
+    next =
+        first-by-ring links lists point k below t o (λ x i u. none-in-s x i (opens x u)) cross ring in-t
+        ∙ last-again s t l opens f last-is-f visited
+        (λ i. not-round sp ring f in-ring false f (Memᴰ·append-left (ahead f l) i) refl)
+        ∙ sym (next-by-ring sp ring cross t in-t f in-ring visited true);
+  }

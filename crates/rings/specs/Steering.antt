@@ -23,7 +23,7 @@ use Rattle.rings.specs.NextByRing.{Marked, marked-entry}
 use Rattle.rings.specs.Linked.{Ringed}
 use Rattle.rings.specs.RingLoop.{loop-start}
 use Rattle.rings.specs.FirstLoop.{first-start}
-use Rattle.rings.specs.AgainByRing.{first-again, named-fresh, in-ring, starts-there}
+use Rattle.rings.specs.AgainByRing.{NamedAgain, first-again}
 use Rattle.rings.specs.Field.{crossMark, nextOf, prevOf, wrapsAt, named, LaidBridge, LaidCross, Laid, Later, Across, Steers, Again, Firsts}
 
 -- states are later than themselves
@@ -217,12 +217,16 @@ module _ {g : Graph} {m : ℕ} {top state : List ℕ} (links : FineLinks g m) (l
             → isUnvisited t k ≡ true → ((x : ℕ) → isUnvisited s x ≡ true → k ≤ x) → (f : ℕ) → firstLink g s k ≡ Link f
             → isUnvisited t f ≡ false → Again g nxt t k f
         asked-again k l marked s t later since o lowest f named visited = record {
-          below = lists .below v f (c .ring .only f in-it .listed);
-          unskipped = λ e. zero-one (sym (unvisited-read s f fresh) ∙ since .skips f e);
-          marked = λ h. omega (arith, h, subst (λ z. crossMark ≤ getD nxt z 0) a-end (c .marked f in-it));
-          node = there;
-          next = first-again links lists point k l (spread v) (c .ring) crossing s t in-s (open-then t later v) (since .opens) o lowest f named
-              visited;
+          below = lists .below v f (c .ring .only f (by-ring .among) .listed);
+          unskipped = λ e. zero-one (sym (unvisited-read s f (by-ring .fresh)) ∙ since .skips f e);
+          marked = λ h. omega (
+            arith,
+            h,
+            subst (λ z. crossMark ≤ getD nxt z 0)
+                (pick-true (aEnd f) (bEnd f) (eq-eqb (g .aNode f) v (by-ring .starts))) (c .marked f (by-ring .among)),
+          );
+          node = by-ring .starts;
+          next = by-ring .next;
         }
           where
             zero-one : _≡_ {A = ℕ} 0 1 → ⊥
@@ -234,21 +238,11 @@ module _ {g : Graph} {m : ℕ} {top state : List ℕ} (links : FineLinks g m) (l
             c : LaidCross g state v nxt prv
             c = at-cross k l marked
 
-            crossing : length (g .entries v) ≡ 2 → ⊥
-            crossing = subst (λ u. length (g .entries u) ≡ 2 → ⊥) (a-node g k) (is-cross (aEnd k) (a-below k l) marked)
-
             -- what is unvisited in s was not skipped at entry: it would be skipped in t, and so in s
             in-s : Marked g state v s
             in-s x _ u e = zero-one (sym (unvisited-read s x u) ∙ since .skips x (later .stays x e))
 
-            fresh : isUnvisited s f ≡ true
-            fresh = named-fresh links lists point k l (spread v) (c .ring) crossing s t in-s (open-then t later v) (since .opens) o lowest f named
-
-            in-it : Mem f (c .links)
-            in-it = in-ring links lists point k l (spread v) (c .ring) crossing s t in-s (open-then t later v) (since .opens) o lowest f named
-
-            there : g .aNode f ≡ v
-            there = starts-there links lists point k l (spread v) (c .ring) crossing s t in-s (open-then t later v) (since .opens) o lowest f named
-
-            a-end : endOf g v f ≡ aEnd f
-            a-end = pick-true (aEnd f) (bEnd f) (eq-eqb (g .aNode f) v there)
+            by-ring : NamedAgain g s t (c .links) k f
+            by-ring = first-again links lists point k l (spread v) (c .ring)
+                (subst (λ u. length (g .entries u) ≡ 2 → ⊥) (a-node g k) (is-cross (aEnd k) (a-below k l) marked)) s t in-s (open-then t later v)
+                (since .opens) o lowest f named visited
