@@ -16,12 +16,14 @@ use Rattle.next.specs.declared.Next.{Next}
 use Rattle.next.specs.declared.Next.the-variants.{Link}
 use Rattle.next.specs.Next.{isUnvisited, onlyUnvisited, firstLink}
 use Rattle.next.specs.Known.{NamesUnvisited}
-use Rattle.next.specs.States.{unvisited-below, unvisited-read, only-unvisited, names-unvisited}
+use Rattle.next.specs.States.{unvisited-below, unvisited-read, is-unvisited, only-unvisited, names-unvisited}
+use Rattle.next.specs.Topmost.{first-unvisited}
 use Rattle.rings.specs.Ends.{aEnd, linkOf}
-use Rattle.rings.specs.Climb.{Above}
-use Rattle.rings.specs.Field.{crossMark, nextOf, wrapsAt, named, Firsts, Reads, Begun}
+use Rattle.rings.specs.Climb.{lastOr, Above}
+use Rattle.rings.specs.Follow.{Left}
+use Rattle.rings.specs.Field.{crossMark, nextOf, prevOf, wrapsAt, named, Firsts, Reads, Begun}
 use Rattle.rings.specs.Steering.{later-same}
-use Rattle.first.specs.Leading.{leading, Rises}
+use Rattle.first.specs.Leading.{leading, Rises, LeftAt, Falls, Resumes, Asked}
 
 -- ---- the one of a `Bridge`'s links that is named
 module _ (held : ℕ) (cw : Bool) (k e : ℕ) where
@@ -47,8 +49,9 @@ module _ (held : ℕ) (cw : Bool) (k e : ℕ) where
 -- ---- the answers, where the scan stands at link k, the lowest that is unvisited
 module _ (ax ay bx by : List ℤ) (nxt lead st : List ℕ) (k : ℕ) (o : isUnvisited st k ≡ true)
     (low : (x : ℕ) → isUnvisited st x ≡ true → k ≤ x) where
-  abbrev Answers : Next → Type 0
-  Answers r = ((g : Graph) → Firsts g nxt lead st → Reads g ax ay bx by → r ≡ firstLink g st k) × NamesUnvisited st r
+  abbrev Answers : List ℕ → ℕ → Next → Type 0
+  Answers prv held r =
+      ((g : Graph) → Firsts g nxt lead st → Reads g ax ay bx by → Resumes g nxt prv st k held → r ≡ firstLink g st k) × NamesUnvisited st r
 
   inside : (g : Graph) → Firsts g nxt lead st → k < g .n
   inside g f = subst (λ n. k < n) (sym (f .size)) (unvisited-below st k o)
@@ -86,10 +89,34 @@ module _ (ax ay bx by : List ℤ) (nxt lead st : List ℕ) (k : ℕ) (o : isUnvi
       above = above (b .graph) (b .firsts);
     }
 
-    pub cross-answers : (s : ℕ) → isUnvisited st s ≡ true
+    pub cross-answers : (prv : List ℕ) (held s : ℕ) → isUnvisited st s ≡ true
         → ((g : Graph) (v : ℕ) (answer : Next) → Above g v (nextOf nxt) (wrapsAt nxt) (length st) st answer (aEnd k) k → Link s ≡ answer)
-        → Answers (Link s)
-    cross-answers s u h = (λ g f _. h g (g .aNode k) (firstLink g st k) (above g f), names-unvisited st s u)
+        → Answers prv held (Link s)
+    cross-answers prv held s u h = (λ g f _ _. h g (g .aNode k) (firstLink g st k) (above g f), names-unvisited st s u)
+
+    -- down from held, which was named before
+    module _ (prv : List ℕ) (held : ℕ) (l : held < length st) where
+      down : (g : Graph) → Firsts g nxt lead st → Resumes g nxt prv st k held → LeftAt g (g .aNode k) prv st held (firstLink g st k) (aEnd held)
+      down g f d =
+          subst (λ n. Left g (g .aNode k) (aEnd held) (prevOf prv) n st (firstLink g st k) (aEnd held)) (f .size) (d l c .left)
+
+      pub falls : Asked ax ay bx by nxt prv lead st k held → Falls prv st held
+      falls a =
+          let g = a .begun .graph in let f = a .begun .firsts in let is = above g f .is in
+          record {
+            few = subst (λ n. n ≤ maxLinks) (f .size) (f .few);
+            prv-long = a .prv-long;
+            visited = a .resumes l c .visited;
+            graph = g;
+            node = g .aNode k;
+            link = lastOr st k (above g f .rest);
+            fresh = is-unvisited st (lastOr st k (above g f .rest)) (subst (NamesUnvisited st) (sym is) (first-unvisited g st k o));
+            left = subst (λ n. LeftAt g (g .aNode k) prv st held n (aEnd held)) (sym is) (down g f (a .resumes));
+          }
+
+      pub again-answers : (s : ℕ) → isUnvisited st s ≡ true
+          → ((g : Graph) (v : ℕ) (answer : Next) → LeftAt g v prv st held answer (aEnd held) → Link s ≡ answer) → Answers prv held (Link s)
+      again-answers s u h = (λ g f _ d. h g (g .aNode k) (firstLink g st k) (down g f d), names-unvisited st s u)
 
   -- ---- at a `Bridge`, whose other entry is e
   module _ (c : getD nxt (aEnd k) 0 < crossMark) (e : ℕ) (q : e ≡ linkOf (getD nxt (aEnd k) 0)) where
@@ -112,8 +139,9 @@ module _ (ax ay bx by : List ℤ) (nxt lead st : List ℕ) (k : ℕ) (o : isUnvi
         subst (λ y. y < length st) (sym i)
         (leading-below (getD lead k 0) (turns e) k e (length st) (unvisited-below st k o) (other-below b))
 
-    pub bridge-answers : (x : ℕ) (r : Next) → x ≡ leading (getD lead k 0) (turns e) k e → r ≡ onlyUnvisited st x → Answers r
-    bridge-answers x r i j = (
-      λ g f h. j ∙ ap (onlyUnvisited st) (i ∙ named-is g h) ∙ sym (f .bridge k (inside g f) unskipped c .1 st),
+    pub bridge-answers : (prv : List ℕ) (held x : ℕ) (r : Next) → x ≡ leading (getD lead k 0) (turns e) k e → r ≡ onlyUnvisited st x
+        → Answers prv held r
+    bridge-answers prv held x r i j = (
+      λ g f h _. j ∙ ap (onlyUnvisited st) (i ∙ named-is g h) ∙ sym (f .bridge k (inside g f) unskipped c .1 st),
       subst (NamesUnvisited st) (sym j) (only-unvisited st x),
     )

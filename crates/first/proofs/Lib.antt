@@ -1,3 +1,4 @@
 -- Laws that the proofs of this crate share.
 mod Climbing
+mod Falling
 mod Answers

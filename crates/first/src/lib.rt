@@ -17,8 +17,8 @@ ghost use Rattle.next.specs.Next.{isUnvisited};
 ghost use Rattle.next.specs.Known.{Links, NamesUnvisited};
 ghost use Rattle.rings.specs.Ends.{aEnd};
 ghost use Rattle.rings.specs.Climb.{Above};
-ghost use Rattle.rings.specs.Field.{nextOf, wrapsAt, Begun};
-ghost use Rattle.first.specs.Leading.{leading, Rises};
+ghost use Rattle.rings.specs.Field.{nextOf, wrapsAt};
+ghost use Rattle.first.specs.Leading.{leading, Rises, LeftAt, Falls, Asked};
 ghost use Rattle.first.specs.Promises.{find-left-top-link-says};
 
 // Link x if it is unvisited, else s.
@@ -48,6 +48,20 @@ fn topmost(nxt: &[u32], state: &[u8], k: usize) -> usize
     s
 }
 
+// Rule 1 at a `Cross`, asked again: from link `held`, which it named before, down the ring to the next unvisited link.
+fn next_below(prv: &[u32], state: &[u8], held: usize) -> usize
+    requires { ⌜ Falls (now prv) (now state) held ⌝ }
+    ensures { λ r. ⌜ ((g : Graph) (v : ℕ) (answer : Next)
+        → LeftAt g v (now (prv .entry)) (now (state .entry)) held answer (aEnd held) → Link r ≡ answer) ⌝ }
+    ensures { λ r. ⌜ isUnvisited (now (state .entry)) r ≡ true ⌝ }
+{
+    let mut at = wide(prv[2 * held]);
+    while state[at / 2] != 0 {
+        at = wide(prv[at]);
+    }
+    at / 2
+}
+
 // Rule 1 at a `Bridge`: the one of link k and the other entry e that is named, by what `lead` holds at k.
 fn leading(ax: &[i32], ay: &[i32], bx: &[i32], by: &[i32], held: u8, k: usize, e: usize) -> usize
     requires { ⌜ (Links (now ax) (now ay) (now bx) (now by) (length (now ax))) × (k < length (now ax)) × (e < length (now ax)) ⌝ }
@@ -69,26 +83,31 @@ fn leading(ax: &[i32], ay: &[i32], bx: &[i32], by: &[i32], held: u8, k: usize, e
     k
 }
 
-// Rule 1: the first link of the walk that the scan starts at link k, the lowest that is unvisited.
+// Rule 1: the first link of the walk that the scan starts at link k, the lowest that is unvisited. `held` is the link that was named there before, or none.
 pub fn find_left_top_link(
     ax: &[i32],
     ay: &[i32],
     bx: &[i32],
     by: &[i32],
     nxt: &[u32],
+    prv: &[u32],
     lead: &[u8],
     state: &[u8],
     k: usize,
+    held: usize,
 ) -> Next
-    requires { ⌜ Begun (now ax) (now ay) (now bx) (now by) (now nxt) (now lead) (now state) ⌝ }
+    requires { ⌜ Asked (now ax) (now ay) (now bx) (now by) (now nxt) (now prv) (now lead) (now state) k held ⌝ }
     requires { ⌜ Links (now ax) (now ay) (now bx) (now by) (length (now state)) ⌝ }
     requires { ⌜ (isUnvisited (now state) k ≡ true) × ((x : ℕ) → isUnvisited (now state) x ≡ true → k ≤ x) ⌝ }
-    ensures { λ r. ⌜ find-left-top-link-says (now (ax .entry)) (now (ay .entry)) (now (bx .entry)) (now (by .entry)) (now (nxt .entry)) (now (lead .entry))
-        (now (state .entry)) k r ⌝ }
+    ensures { λ r. ⌜ find-left-top-link-says (now (ax .entry)) (now (ay .entry)) (now (bx .entry)) (now (by .entry)) (now (nxt .entry)) (now (prv .entry))
+        (now (lead .entry)) (now (state .entry)) k held r ⌝ }
     ensures { λ r. ⌜ NamesUnvisited (now (state .entry)) r ⌝ }
 {
     let f = nxt[2 * k];
     if CROSS <= f {
+        if held < state.len() {
+            return Next::Link(next_below(prv, state, held));
+        }
         return Next::Link(topmost(nxt, state, k));
     }
     let named = leading(ax, ay, bx, by, lead[k], k, wide(f) / 2);

@@ -13,6 +13,7 @@ use Rattle.turn.specs.Limits.{maxLinks}
 use Rattle.turn.specs.Points.{clockwise}
 use Rattle.graph.specs.Graph.{Lent, Graph, graphOf, nodeCount, pointAt}
 use Rattle.graph.specs.Fine.{FineLinks}
+use Rattle.next.specs.declared.Next.the-variants.{Link}
 use Rattle.next.specs.Next.{isUnvisited, onlyUnvisited, nextLink, firstLink}
 use Rattle.next.specs.Choice.{Mem}
 use Rattle.rings.specs.Ends.{aEnd, linkOf, isA, far, nodeOfEnd, endOf}
@@ -132,6 +133,14 @@ pub record Reads (g : Graph) (ax ay bx by : List ℤ) : Type 0 where
   pub b-is : (k : ℕ) → g .b k ≡ pointAt bx by k
 
 -- ---- what rule 1 needs
+-- asked again at link k of a `Cross`, in states t, once link f, which it named before, is visited: it is rule 3, clockwise from f's a, which is there
+pub record Again (g : Graph) (nxt t : List ℕ) (k f : ℕ) : Type 0 where
+  pub below : f < g .n
+  pub unskipped : getD t f 0 ≡ 1 → ⊥
+  pub marked : getD nxt (aEnd f) 0 < crossMark → ⊥
+  pub node : g .aNode f ≡ g .aNode k
+  pub next : firstLink g t k ≡ nextLink g true t (g .aNode k) f
+
 pub record Firsts (g : Graph) (nxt lead st : List ℕ) : Type 0 where
   pub few : g .n ≤ maxLinks
   pub size : g .n ≡ length st
@@ -143,6 +152,10 @@ pub record Firsts (g : Graph) (nxt lead st : List ℕ) : Type 0 where
   pub cross : (k : ℕ) → k < g .n → (getD nxt (aEnd k) 0 < crossMark → ⊥) → (s : List ℕ) → Later st s
       → isUnvisited s k ≡ true → ((x : ℕ) → isUnvisited s x ≡ true → k ≤ x)
       → Above g (g .aNode k) (nextOf nxt) (wrapsAt nxt) (g .n) s (firstLink g s k) (aEnd k) k
+  -- it named f in states s, of which some have been marked since; k was the lowest unvisited link then
+  pub again : (k : ℕ) → k < g .n → (getD nxt (aEnd k) 0 < crossMark → ⊥) → (s t : List ℕ) → Later st t → Later s t
+      → isUnvisited t k ≡ true → ((x : ℕ) → isUnvisited s x ≡ true → k ≤ x) → (f : ℕ) → firstLink g s k ≡ Link f
+      → isUnvisited t f ≡ false → Again g nxt t k f
 
 -- there is such a graph
 pub record Begun (ax ay bx by : List ℤ) (nxt lead st : List ℕ) : Type 0 where

@@ -14,6 +14,8 @@ pub mod Follow
 pub mod RingLoop
 pub mod Climb
 pub mod FirstLoop
+-- rule 1 asked again at the same link
+pub mod AgainByRing
 -- the pass that makes it
 pub mod Making
 pub mod Linking
@@ -22,6 +24,7 @@ pub mod LastEnd
 -- the lists that the code keeps
 pub mod Field
 pub mod Steering
+pub mod Descent
 -- worked examples
 pub mod RingTest
 pub mod Examples

@@ -4,23 +4,27 @@ use native.Mathlib.Omega.{arith}
 use native.Mathlib.Decide.{ℕ-discrete}
 use mathlib.Core.Path.{_≡_, refl, sym, ap, _∙_, subst}
 use mathlib.Core.Logic.{_⊎_, inl, inr, ⊎-elim}
-use mathlib.Core.Bool.{Bool}
+use mathlib.Core.Bool.{Bool, true, false}
 use mathlib.Core.List.{List, [], _∷_, List·Memᴰ·head, List·Memᴰ·tail, List·Memᴰ·cases-cons, List·Memᴰ·not-nil}
 use lib.ListN.{length, getD}
-use Rattle.laws.specs.Test.{pick-ind}
+use borrow.Author.Tests.{eq-eqb}
+use Rattle.laws.specs.Test.{pick-ind, pick-true}
 use Rattle.turn.specs.Limits.{maxLinks}
 use Rattle.graph.specs.Graph.{Graph}
 use Rattle.graph.specs.Fine.{FineLinks, FineLists, OnePoint, FineBand}
-use Rattle.next.specs.Next.{onlyUnvisited, nextLink, firstAt, firstLink, nodeOf}
+use Rattle.next.specs.declared.Next.the-variants.{Link}
+use Rattle.next.specs.States.{unvisited-read}
+use Rattle.next.specs.Next.{isUnvisited, onlyUnvisited, nextLink, firstAt, firstLink, nodeOf}
 use Rattle.next.specs.Choice.{Mem, next-of-first, next-of-second}
-use Rattle.rings.specs.Ends.{aEnd, linkOf, isA, far, nodeOfEnd, endOf, a-link, a-node}
+use Rattle.rings.specs.Ends.{aEnd, bEnd, linkOf, isA, far, nodeOfEnd, endOf, a-link, a-node}
 use Rattle.rings.specs.Ends.{far-far, far-link, end-link, end-below, entry-end, end-of-node, far-below}
 use Rattle.rings.specs.RingOrder.{Spoke, Spread, spread-fine}
 use Rattle.rings.specs.NextByRing.{Marked, marked-entry}
 use Rattle.rings.specs.Linked.{Ringed}
 use Rattle.rings.specs.RingLoop.{loop-start}
 use Rattle.rings.specs.FirstLoop.{first-start}
-use Rattle.rings.specs.Field.{crossMark, nextOf, prevOf, wrapsAt, named, LaidBridge, LaidCross, Laid, Later, Across, Steers, Firsts}
+use Rattle.rings.specs.AgainByRing.{NamedAgain, first-again}
+use Rattle.rings.specs.Field.{crossMark, nextOf, prevOf, wrapsAt, named, LaidBridge, LaidCross, Laid, Later, Across, Steers, Again, Firsts}
 
 -- states are later than themselves
 pub later-same : (st : List ℕ) → Later st st
@@ -192,6 +196,7 @@ module _ {g : Graph} {m : ℕ} {top state : List ℕ} (links : FineLinks g m) (l
           first-start links lists point k l (spread (g .aNode k)) (ringed (g .aNode k) c) (wrapsAt nxt) (c .last)
           (subst (λ v. length (g .entries v) ≡ 2 → ⊥) (a-node g k) (is-cross (aEnd k) (a-below k l) marked)) s
           (open-then s later (g .aNode k)) o lowest;
+      again = asked-again;
     }
       where
         by-pair : (k : ℕ) (l : k < g .n) → (getD state (linkOf (aEnd k)) 0 ≡ 1 → ⊥) → getD nxt (aEnd k) 0 < crossMark
@@ -207,3 +212,37 @@ module _ {g : Graph} {m : ℕ} {top state : List ℕ} (links : FineLinks g m) (l
         at-cross k l marked =
             subst (λ v. LaidCross g state v nxt prv) (a-node g k)
             (at-node (aEnd k) (a-below k l) .cross (is-cross (aEnd k) (a-below k l) marked))
+
+        asked-again : (k : ℕ) → k < g .n → (getD nxt (aEnd k) 0 < crossMark → ⊥) → (s t : List ℕ) → Later state t → Later s t
+            → isUnvisited t k ≡ true → ((x : ℕ) → isUnvisited s x ≡ true → k ≤ x) → (f : ℕ) → firstLink g s k ≡ Link f
+            → isUnvisited t f ≡ false → Again g nxt t k f
+        asked-again k l marked s t later since o lowest f named visited = record {
+          below = lists .below v f (c .ring .only f (by-ring .among) .listed);
+          unskipped = λ e. zero-one (sym (unvisited-read s f (by-ring .fresh)) ∙ since .skips f e);
+          marked = λ h. omega (
+            arith,
+            h,
+            subst (λ z. crossMark ≤ getD nxt z 0)
+                (pick-true (aEnd f) (bEnd f) (eq-eqb (g .aNode f) v (by-ring .starts))) (c .marked f (by-ring .among)),
+          );
+          node = by-ring .starts;
+          next = by-ring .next;
+        }
+          where
+            zero-one : _≡_ {A = ℕ} 0 1 → ⊥
+            zero-one e = omega arith
+
+            v : ℕ
+            v = g .aNode k
+
+            c : LaidCross g state v nxt prv
+            c = at-cross k l marked
+
+            -- what is unvisited in s was not skipped at entry: it would be skipped in t, and so in s
+            in-s : Marked g state v s
+            in-s x _ u e = zero-one (sym (unvisited-read s x u) ∙ since .skips x (later .stays x e))
+
+            by-ring : NamedAgain g s t (c .links) k f
+            by-ring = first-again links lists point k l (spread v) (c .ring)
+                (subst (λ u. length (g .entries u) ≡ 2 → ⊥) (a-node g k) (is-cross (aEnd k) (a-below k l) marked)) s t in-s (open-then t later v)
+                (since .opens) o lowest f named visited

@@ -118,8 +118,8 @@ module _ (n : ℕ) (st st′ : List ℕ) (c : Counts) (w : Within n (unvisited s
   -- as the code enters it
   module _ (minimum : ℕ) (hole : Bool) (first len kind first′ len′ kind′ : List ℕ) (d : Counts)
       (q : (pts : List ℤ) → tables pts first′ len′ kind′ d ≡ enter minimum hole size (f .area) (tables pts first len kind c)) where
-    pub walk-fewer : (pts : List ℤ) → Fewer n st st′ (noting.Entered d)
-    walk-fewer pts =
+    pub walk-fewer : (pts : List ℤ) (s : ℕ) → Fewer n st st′ (noting.Entered d s)
+    walk-fewer pts s =
         let u : unvisited st ≡ size + unvisited st′ = omega (arith, counted .0, counted .1) in (
           omega (arith, counted .0, counted .1),
           subst (Within n (unvisited st′)) (sym (ap (λ (x : Tables). x .counts) (q pts)))
@@ -138,10 +138,10 @@ module _ (n : ℕ) (st st′ : List ℕ) (c : Counts) (w : Within n (unvisited s
           ∙ ap (λ a. enter minimum hole (length (h .steps)) a (tables pts′ first len kind c)) (h .area-is)
           ∙ ap (λ p. enter minimum hole (length (h .steps)) (area (map (left g) (h .steps))) (tables p first len kind c)) (h .written)
 
-      pub walk-noted : WalkNoted g minimum (tables pts first len kind c) hole o (noting.Entered d) st′ pts′ first′ len′ kind′
-      walk-noted =
-          subst (λ x. WalkNoted g minimum (tables pts first len kind c) hole x (noting.Entered d) st′ pts′ first′ len′ kind′) (sym (h .is)) (
-            ap (λ (x : Tables). noting.Entered (x .counts)) entered-is,
+      pub walk-noted : (s : ℕ) → WalkNoted g minimum (tables pts first len kind c) hole s o (noting.Entered d s) st′ pts′ first′ len′ kind′
+      walk-noted s =
+          subst (λ x. WalkNoted g minimum (tables pts first len kind c) hole s x (noting.Entered d s) st′ pts′ first′ len′ kind′) (sym (h .is)) (
+            ap (λ (x : Tables). noting.Entered (x .counts) s) entered-is,
             refl,
             ap (λ (x : Tables). x .points) entered-is,
             ap (λ (x : Tables). x .first) entered-is,
@@ -149,10 +149,10 @@ module _ (n : ℕ) (st st′ : List ℕ) (c : Counts) (w : Within n (unvisited s
             ap (λ (x : Tables). x .kind) entered-is,
           )
 
-pub stuck-noted : (g : Graph) (minimum : ℕ) (t : Tables) (hole : Bool) (o : Walked) (number : ℕ) (r : Noted) (st′ : List ℕ) (pts′ : List ℤ)
+pub stuck-noted : (g : Graph) (minimum : ℕ) (t : Tables) (hole : Bool) (s : ℕ) (o : Walked) (number : ℕ) (r : Noted) (st′ : List ℕ) (pts′ : List ℤ)
     (first len kind : List ℕ)
-    → o ≡ stuck number → r ≡ noting.Stuck number → WalkNoted g minimum t hole o r st′ pts′ first len kind
-stuck-noted g minimum t hole o number r st′ pts′ first len kind e q = subst (λ x. WalkNoted g minimum t hole x r st′ pts′ first len kind) (sym e) q
+    → o ≡ stuck number → r ≡ noting.Stuck number → WalkNoted g minimum t hole s o r st′ pts′ first len kind
+stuck-noted g minimum t hole s o number r st′ pts′ first len kind e q = subst (λ x. WalkNoted g minimum t hole s x r st′ pts′ first len kind) (sym e) q
 
 -- ---- from the first link that rule 1 names
 module _ (g : Graph) (cw : Bool) (minimum : ℕ) (t : Tables) (st : List ℕ) (n : Next) (r : Noted) (st′ : List ℕ) (pts′ : List ℤ)
@@ -162,8 +162,8 @@ module _ (g : Graph) (cw : Bool) (minimum : ℕ) (t : Tables) (st : List ℕ) (n
 
   -- whose top says that it is a hole's
   pub first-link : (s : ℕ) (hole : Bool) → Link s ≡ n → g .top s ≡ hole
-      → WalkNoted g minimum t hole (walkFrom g (not (Bool·beq hole cw)) (Bool·beq hole cw) (markOf hole) st s) r st′ pts′ first len kind
+      → WalkNoted g minimum t hole s (walkFrom g (not (Bool·beq hole cw)) (Bool·beq hole cw) (markOf hole) st s) r st′ pts′ first len kind
       → FirstNoted g cw minimum t st n r st′ pts′ first len kind
   first-link s hole e h i =
       subst (λ x. FirstNoted g cw minimum t st x r st′ pts′ first len kind) e
-      (subst (λ b. WalkNoted g minimum t b (walkFrom g (not (Bool·beq b cw)) (Bool·beq b cw) (markOf b) st s) r st′ pts′ first len kind) (sym h) i)
+      (subst (λ b. WalkNoted g minimum t b s (walkFrom g (not (Bool·beq b cw)) (Bool·beq b cw) (markOf b) st s) r st′ pts′ first len kind) (sym h) i)

@@ -4,7 +4,7 @@ use mathlib.Core.Path.{sym, _∙_}
 use mathlib.Core.List.{List}
 use lib.IntN.{ℤ}
 use Rattle.graph.specs.Graph.{Graph}
-use Rattle.rings.specs.Field.{Later, Firsts, Begun, Steered, Field, Fielded}
+use Rattle.rings.specs.Field.{Later, Firsts, Steered, Field, Fielded}
 use Rattle.walk.specs.Later.{later-then, steers-later}
 
 pub firsts-later : {g : Graph} {nxt lead st s : List ℕ} → Firsts g nxt lead st → Later st s → Firsts g nxt lead s
@@ -15,6 +15,7 @@ firsts-later h k = record {
   lead-long = h .lead-long;
   bridge = λ i below unskipped. h .bridge i below (λ e. unskipped (k .stays i e));
   cross = λ i below marked t l. h .cross i below marked t (later-then k l);
+  again = λ i below marked s t l. h .again i below marked s t (later-then k l);
 }
 
 module _ {ax ay bx by : List ℤ} {top nxt prv lead st : List ℕ} where
@@ -27,13 +28,6 @@ module _ {ax ay bx by : List ℤ} {top nxt prv lead st : List ℕ} where
     tops = h .tops;
   }
 
-  pub fielded-later : {s : List ℕ} → Fielded ax ay bx by top nxt prv lead st → Later st s
-      → Fielded ax ay bx by top nxt prv lead s
-  fielded-later h k = record { graph = h .graph; field = field-later (h .field) k }
-
-  -- what rule 1 and a walk need of it
-  pub begun : Fielded ax ay bx by top nxt prv lead st → Begun ax ay bx by nxt lead st
-  begun h = record { graph = h .graph; firsts = h .field .firsts; reads = h .field .reads }
-
+  -- what a walk needs of it
   pub steered : Fielded ax ay bx by top nxt prv lead st → Steered nxt prv st
   steered h = record { graph = h .graph; steers = h .field .steers }

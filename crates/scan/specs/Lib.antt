@@ -4,5 +4,6 @@ pub mod Notes
 pub mod Visits
 pub mod Enough
 pub mod Fields
+pub mod Held
 pub mod Values
 pub mod Promises

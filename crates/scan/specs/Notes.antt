@@ -17,21 +17,21 @@ use Rattle.walk.specs.Walk.{Walked, stuck, done, points}
 use Rattle.scan.specs.Scan.{walkOf, Scanned, stopped, walks}
 use Rattle.keep.specs.Tables.{Tables, noted, allNoted, Within}
 
--- what one walk of the scan leaves, from the link that rule 1 names
-abbrev pub WalkNoted : Graph → ℕ → Tables → Bool → Walked → Noted → List ℕ → List ℤ → List ℕ → List ℕ → List ℕ → Type 0
-WalkNoted g minimum t hole (stuck number) r st′ pts′ first′ len′ kind′ = r ≡ noting.Stuck number
-WalkNoted g minimum t hole (done l st) r st′ pts′ first′ len′ kind′ =
+-- what one walk of the scan leaves, from link s, which rule 1 names
+abbrev pub WalkNoted : Graph → ℕ → Tables → Bool → ℕ → Walked → Noted → List ℕ → List ℤ → List ℕ → List ℕ → List ℕ → Type 0
+WalkNoted g minimum t hole s (stuck number) r st′ pts′ first′ len′ kind′ = r ≡ noting.Stuck number
+WalkNoted g minimum t hole s (done l st) r st′ pts′ first′ len′ kind′ =
     let t′ : Tables = noted g minimum t (record { hole = hole; steps = l }) in
-    (r ≡ noting.Entered (t′ .counts)) × (st′ ≡ st) × (pts′ ≡ t′ .points) × (first′ ≡ t′ .first) × (len′ ≡ t′ .len) × (kind′ ≡ t′ .kind)
+    (r ≡ noting.Entered (t′ .counts) s) × (st′ ≡ st) × (pts′ ≡ t′ .points) × (first′ ≡ t′ .first) × (len′ ≡ t′ .len) × (kind′ ≡ t′ .kind)
 
 abbrev pub FirstNoted : Graph → Bool → ℕ → Tables → List ℕ → Next → Noted → List ℕ → List ℤ → List ℕ → List ℕ → List ℕ → Type 0
 FirstNoted g cw minimum t st Nothing r st′ pts′ first′ len′ kind′ = r ≡ noting.Stuck 8
-FirstNoted g cw minimum t st (Link s) r st′ pts′ first′ len′ kind′ = WalkNoted g minimum t (g .top s) (walkOf g cw st s) r st′ pts′ first′ len′ kind′
+FirstNoted g cw minimum t st (Link s) r st′ pts′ first′ len′ kind′ = WalkNoted g minimum t (g .top s) s (walkOf g cw st s) r st′ pts′ first′ len′ kind′
 
 -- a walk of the scan leaves fewer links unvisited
 abbrev pub Fewer : ℕ → List ℕ → List ℕ → Noted → Type 0
 Fewer n st st′ (noting.Stuck number) = Unit
-Fewer n st st′ (noting.Entered c) = (unvisited st′ < unvisited st) × Within n (unvisited st′) c
+Fewer n st st′ (noting.Entered c s) = (unvisited st′ < unvisited st) × Within n (unvisited st′) c
 
 -- what the scan's counts stay within
 abbrev pub Ends : ℕ → Extraction → Type 0

@@ -11,6 +11,7 @@ ghost use Rattle.walk.specs.Walk.{walkFrom, markOf};
 ghost use Rattle.walk.specs.Code.{Kept};
 ghost use Rattle.keep.specs.Tables.{Tables, tables, Within};
 ghost use Rattle.scan.specs.Notes.{WalkNoted, FirstNoted, Fewer, Ends, Roomy};
+ghost use Rattle.scan.specs.Held.{Held, Standing};
 ghost use Rattle.scan.specs.Promises.{scan-links-says};
 use keep::Counts;
 use next::Next;
@@ -29,9 +30,9 @@ pub struct Settings {
     pub minimum: u64,
 }
 
-// What becomes of a walk of the scan: entered in the table or the counts, or refused with a number.
+// What becomes of a walk of the scan: entered in the table or the counts, with its first link told, or refused with a number.
 enum Noted {
-    Entered(Counts),
+    Entered { counts: Counts, first: usize },
     Stuck(u32),
 }
 
@@ -72,7 +73,7 @@ fn note_contour(
     ensures { λ r. ⌜ ((g : Graph) → Steers g (now (nxt .entry)) (now (prv .entry)) (now (state .entry))
         → Reads g (now (ax .entry)) (now (ay .entry)) (now (bx .entry)) (now (by .entry)) →
         let before : Tables = tables (now (points .entry)) (now (first .entry)) (now (len .entry)) (now (kind .entry)) c in
-        WalkNoted g (settings .minimum) before hole
+        WalkNoted g (settings .minimum) before hole s
         (walkFrom g (not (Bool·beq hole (settings .clockwise))) (Bool·beq hole (settings .clockwise)) (markOf hole) (now (state .entry)) s) r
         (now (state .exit)) (now (points .exit)) (now (first .exit)) (now (len .exit)) (now (kind .exit))) ⌝ }
     ensures { λ r. ⌜ Fewer (length (now (state .entry))) (now (state .entry)) (now (state .exit)) r ⌝ }
@@ -87,20 +88,26 @@ fn note_contour(
     let at = c.points;
     match walk::find_contour(ax, ay, bx, by, nxt, prv, course, state, points, at, s) {
         Ended::Stuck(number) => Noted::Stuck(number),
-        Ended::Done(walked) => Noted::Entered(keep::note_walk(
-            first,
-            len,
-            kind,
-            hole,
-            settings.minimum,
-            walked.to,
-            walked.area,
-            c,
-        )),
+        Ended::Done(walked) => {
+            let counts = keep::note_walk(
+                first,
+                len,
+                kind,
+                hole,
+                settings.minimum,
+                walked.to,
+                walked.area,
+                c,
+            );
+            Noted::Entered {
+                counts: counts,
+                first: s,
+            }
+        }
     }
 }
 
-// Rule 1: one walk of the scan, which stands at link k.
+// Rule 1: one walk of the scan, which stands at link k and holds the first link of its last walk from there, if there was one.
 fn scan_walk(
     ax: &[i32],
     ay: &[i32],
@@ -117,22 +124,23 @@ fn scan_walk(
     len: &mut [u32],
     kind: &mut [u8],
     k: usize,
+    held: usize,
     c: Counts,
 ) -> Noted
-    requires { ⌜ Fielded (now ax) (now ay) (now bx) (now by) (now top) (now nxt) (now prv) (now lead) (now state) ⌝ }
+    requires { ⌜ Standing (now ax) (now ay) (now bx) (now by) (now top) (now nxt) (now prv) (now lead) (now state) k held ⌝ }
     requires { ⌜ (Links (now ax) (now ay) (now bx) (now by) (length (now state))) × (length (now top) ≡ length (now state)) ⌝ }
     requires { ⌜ Roomy (length (now state)) (length (now points)) (length (now first)) (length (now len)) (length (now kind)) ⌝ }
     requires { ⌜ (isUnvisited (now state) k ≡ true) × ((x : ℕ) → isUnvisited (now state) x ≡ true → k ≤ x)
         × (Within (length (now state)) (unvisited (now state)) c) ⌝ }
     ensures { λ r. ⌜ ((g : Graph) → Field g (now (ax .entry)) (now (ay .entry)) (now (bx .entry)) (now (by .entry)) (now (top .entry))
-        (now (nxt .entry)) (now (prv .entry)) (now (lead .entry)) (now (state .entry)) →
+        (now (nxt .entry)) (now (prv .entry)) (now (lead .entry)) (now (state .entry)) → Held g (now (state .entry)) k held →
         let before : Tables = tables (now (points .entry)) (now (first .entry)) (now (len .entry)) (now (kind .entry)) c in
         FirstNoted g (settings .clockwise) (settings .minimum) before (now (state .entry)) (firstLink g (now (state .entry)) k) r (now (state .exit))
         (now (points .exit)) (now (first .exit)) (now (len .exit)) (now (kind .exit))) ⌝ }
     ensures { λ r. ⌜ Fewer (length (now (state .entry))) (now (state .entry)) (now (state .exit)) r ⌝ }
     ensures { λ _. ⌜ Kept (now (state .entry)) (now (state .exit)) ⌝ }
 {
-    match first::find_left_top_link(ax, ay, bx, by, nxt, lead, state, k) {
+    match first::find_left_top_link(ax, ay, bx, by, nxt, prv, lead, state, k, held) {
         Next::Nothing => Noted::Stuck(8),
         Next::Link(s) => {
             let hole = top[s] == 1;
@@ -157,7 +165,7 @@ fn scan_walk(
     }
 }
 
-// The scan: a walk from each lowest unvisited link. Rule 7: it moves on only when link k is visited.
+// The scan: a walk from each lowest unvisited link. Rule 7: it moves on only when link k is visited; until then it holds the last walk's first link.
 pub fn scan_links(
     ax: &[i32],
     ay: &[i32],
@@ -185,10 +193,12 @@ pub fn scan_links(
 {
     let n = state.len();
     let mut k = 0;
+    let mut held = n;
     let mut c = keep::no_counts();
     while k < n {
         if state[k] != 0 {
             k += 1;
+            held = n;
             continue;
         }
         match scan_walk(
@@ -207,6 +217,7 @@ pub fn scan_links(
             len,
             kind,
             k,
+            held,
             c,
         ) {
             Noted::Stuck(number) => {
@@ -215,8 +226,12 @@ pub fn scan_links(
                     place: k,
                 };
             }
-            Noted::Entered(d) => {
+            Noted::Entered {
+                counts: d,
+                first: s,
+            } => {
                 c = d;
+                held = s;
             }
         }
     }

@@ -123,7 +123,7 @@ returns : tie.Need-returns
 returns c =
     let o = c .before .before .before .before .before .before in
     let s = at-start o in (
-      λ g h i. stuck-noted g (s .args .settings .minimum) (t s) (s .args .hole) (rule s g) _ _ _ _ _ _ _
+      λ g h i. stuck-noted g (s .args .settings .minimum) (t s) (s .args .hole) (s .args .s) (rule s g) _ _ _ _ _ _ _
           (stuck-at g _ _ _ _ _ (rule s g) _ (left-by o g (h, i)) (c .before .number .given .1)) refl,
       (tt, o .find-contour .ensures .1 .1),
     )
@@ -152,11 +152,11 @@ returns-2 c =
     let n = rw (whole k) at (c .before .before .before .before .before .before .note-walk .ensures) in (
       λ g h i. walk-noted _ (st s) (states o) (s .args .c) (s .pre .1 .1 .2) (ended k) _ (k .walked .given .1) (e .0) (e .1)
           (s .args .settings .minimum) (s .args .hole) (s .args .first .now) (s .args .len .now) (s .args .kind .now) _ _ _ _ n
-          g (s .args .points .now) (coords o) (rule s g) (done k g (h, i)),
+          g (s .args .points .now) (coords o) (rule s g) (done k g (h, i)) (s .args .s),
       (
         walk-fewer _ (st s) (states o) (s .args .c) (s .pre .1 .1 .2) (ended k) _ (k .walked .given .1) (e .0) (e .1)
             (s .args .settings .minimum) (s .args .hole) (s .args .first .now) (s .args .len .now) (s .args .kind .now) _ _ _ _ n
-            (s .args .points .now),
+            (s .args .points .now) (s .args .s),
         o .find-contour .ensures .1 .1,
       ),
     )

@@ -15,17 +15,17 @@ use Rattle.scan.proofs.Scans.{Scanning, scan-moves, scan-refused, scan-
 use Rattle.scan.proofs.scan_links.Statement.{statement}
 use Rattle.scan.proofs.scan_links.Tie as tie
 use Rattle.scan.specs.Notes.{Roomy}
-use Rattle.scan.specs.Fields.{field-later, fielded-later}
+use Rattle.scan.specs.Fields.{field-later}
 use Rattle.walk.specs.Marks.{kept-then}
 use Rattle.walk.specs.Later.{kept-later}
 
 abbrev Inv-loop : tie.InvT-loop
-Inv-loop ax ay bx by nxt prv lead top settings state₀ points₀ first₀ len₀ kind₀ n k₀ c₀ state points first len kind k c =
+Inv-loop ax ay bx by nxt prv lead top settings state₀ points₀ first₀ len₀ kind₀ n k₀ held₀ c₀ state points first len kind k held c =
     Scanning (λ g. Field g ax ay bx by top nxt prv lead state₀) (settings .clockwise) (settings .minimum) n state₀ points₀ first₀ len₀ kind₀
-    k c state points first len kind
+    k held c state points first len kind
 
 abbrev μ-loop : tie.MeasureT-loop
-μ-loop ax ay bx by nxt prv lead top settings state₀ points₀ first₀ len₀ kind₀ n k₀ c₀ state points first len kind k c =
+μ-loop ax ay bx by nxt prv lead top settings state₀ points₀ first₀ len₀ kind₀ n k₀ held₀ c₀ state points first len kind k held c =
     n - k + unvisited state
 
 -- the graph's field of ends is the one that is lent
@@ -70,8 +70,8 @@ loop-again c =
     let l = c .before .before .before in
     let s = at-start l in
     let t = c .before .before .loop-test .taken in
-    scan-moves (Of s) (s .args .settings .clockwise) (s .args .settings .minimum) _ _ _ _ _ _ (l .loop .k) (l .loop .c) (l .loop .state)
-    (l .loop .points) (l .loop .first) (l .loop .len) (l .loop .kind) (l .loop .inv) t
+    scan-moves (Of s) (s .args .settings .clockwise) (s .args .settings .minimum) _ _ _ _ _ _ (l .loop .k) (l .loop .held) (l .loop .c)
+    (l .loop .state) (l .loop .points) (l .loop .first) (l .loop .len) (l .loop .kind) (l .loop .inv) t
     (read-shut (l .loop .state) (l .loop .k) (in-states l t) (c .if1 .taken))
 
 scan-walk-requires : tie.Need-scan-walk-requires Inv-loop μ-loop
@@ -79,7 +79,10 @@ scan-walk-requires c κs =
     let l = c .before .before .before .before .before .before .before .before in
     let s = at-start l in
     let i = l .loop .inv in (
-      fielded-later (s .pre .0) (kept-later (i .kept)),
+      record {
+        fielded = record { graph = s .pre .0 .graph; field = field-later (s .pre .0 .field) (kept-later (i .kept)) };
+        holds = i .holds (s .pre .0 .graph) (s .pre .0 .field);
+      },
       (
         (rw (i .kept .len) (s .pre .1 .0 .0), s .pre .1 .0 .1 ∙ sym (i .kept .len)),
         (
@@ -87,8 +90,8 @@ scan-walk-requires c κs =
           (
             read-unvisited (l .loop .state) (l .loop .k) (in-states l (c .before .before .before .before .before .before .before .loop-test .taken))
                 (c .before .before .before .before .before .if1 .left),
-            lowest-here (Of s) (s .args .settings .clockwise) (s .args .settings .minimum) _ _ _ _ _ _ (l .loop .k) (l .loop .c) (l .loop .state)
-                (l .loop .points) (l .loop .first) (l .loop .len) (l .loop .kind) i,
+            lowest-here (Of s) (s .args .settings .clockwise) (s .args .settings .minimum) _ _ _ _ _ _ (l .loop .k) (l .loop .held) (l .loop .c)
+                (l .loop .state) (l .loop .points) (l .loop .first) (l .loop .len) (l .loop .kind) i,
             rw (i .kept .len) (i .within),
           ),
         ),
@@ -134,10 +137,10 @@ returns c =
     let s = at-start l in
     let t = o .before .before .before .before .before .before .before .before .loop-test .taken in
     let i = l .loop .inv in (
-      λ g h. scan-refused (Of s) (s .args .settings .clockwise) (s .args .settings .minimum) _ _ _ _ _ _ (l .loop .k) (l .loop .c) (l .loop .state)
-          (l .loop .points) (l .loop .first) (l .loop .len) (l .loop .kind) i t
+      λ g h. scan-refused (Of s) (s .args .settings .clockwise) (s .args .settings .minimum) _ _ _ _ _ _ (l .loop .k) (l .loop .held) (l .loop .c)
+          (l .loop .state) (l .loop .points) (l .loop .first) (l .loop .len) (l .loop .kind) i t
           (read-unvisited (l .loop .state) (l .loop .k) (in-states l t) (o .before .before .before .before .before .before .if1 .left)) _ _ _ _ _ g h _ _
-          (c .before .number .given .1) (o .scan-walk .ensures .0 g (field-later h (kept-later (i .kept)))) _ _ _ _ _ _ refl,
+          (c .before .number .given .1) (o .scan-walk .ensures .0 g (field-later h (kept-later (i .kept))) (i .holds g h)) _ _ _ _ _ _ refl,
       (tt, kept-then (i .kept) (o .scan-walk .ensures .1 .1)),
     )
 
@@ -148,7 +151,7 @@ loop-less-2 : tie.Need-loop-less-2 Inv-loop μ-loop
 loop-less-2 c =
     let o = c .before .before .before .before .before .before .before .before .before .before .before .before in
     let l = o .before .before .before .before .before .before .before .before .before in
-    let h = fewer-of _ (l .loop .state) _ _ _ (c .before .d .given .1) (o .scan-walk .ensures .1 .0) in
+    let h = fewer-of _ (l .loop .state) _ _ _ _ (c .before .d .given .1) (o .scan-walk .ensures .1 .0) in
     omega arith
 
 loop-again-2 : tie.Need-loop-again-2 Inv-loop μ-loop
@@ -158,10 +161,10 @@ loop-again-2 c =
     let s = at-start l in
     let t = o .before .before .before .before .before .before .before .before .loop-test .taken in
     let i = l .loop .inv in
-    scan-again (Of s) (s .args .settings .clockwise) (s .args .settings .minimum) _ _ _ _ _ _ (l .loop .k) (l .loop .c) (l .loop .state)
-    (l .loop .points) (l .loop .first) (l .loop .len) (l .loop .kind) i t
-    (read-unvisited (l .loop .state) (l .loop .k) (in-states l t) (o .before .before .before .before .before .before .if1 .left)) _ _ _ _ _ _ _
-    (c .before .d .given .1) (λ g h. o .scan-walk .ensures .0 g (field-later h (kept-later (i .kept))))
+    scan-again (Of s) (s .args .settings .clockwise) (s .args .settings .minimum) _ _ _ _ _ _ (l .loop .k) (l .loop .held) (l .loop .c)
+    (l .loop .state) (l .loop .points) (l .loop .first) (l .loop .len) (l .loop .kind) i t
+    (read-unvisited (l .loop .state) (l .loop .k) (in-states l t) (o .before .before .before .before .before .before .if1 .left)) _ _ _ _ _ _ _ _
+    (c .before .d .given .1) (λ g h. o .scan-walk .ensures .0 g (field-later h (kept-later (i .kept))) (i .holds g h))
     (rw (i .kept .len) at (o .scan-walk .ensures .1 .0)) (o .scan-walk .ensures .1 .1) (o .scan-walk .kept .1 .1 .1 .1 .1 .1 .1 .1 .1 .1 .0)
     (o .scan-walk .kept .1 .1 .1 .1 .1 .1 .1 .1 .1 .1 .1 .0) (o .scan-walk .kept .1 .1 .1 .1 .1 .1 .1 .1 .1 .1 .1 .1 .0)
     (o .scan-walk .kept .1 .1 .1 .1 .1 .1 .1 .1 .1 .1 .1 .1 .1 .0)
@@ -186,8 +189,8 @@ returns-2 c =
     let l = c .before in
     let s = at-start l in
     let i = l .loop .inv in (
-      scan-over (Of s) (s .args .settings .clockwise) (s .args .settings .minimum) _ _ _ _ _ _ (l .loop .k) (l .loop .c) (l .loop .state)
-          (l .loop .points) (l .loop .first) (l .loop .len) (l .loop .kind) i (c .loop-test .left),
+      scan-over (Of s) (s .args .settings .clockwise) (s .args .settings .minimum) _ _ _ _ _ _ (l .loop .k) (l .loop .held) (l .loop .c)
+          (l .loop .state) (l .loop .points) (l .loop .first) (l .loop .len) (l .loop .kind) i (c .loop-test .left),
       (within-less _ _ (unvisited (l .loop .state)) 0 (l .loop .c) (i .within) (omega arith) (omega arith), i .kept),
     )
 

@@ -5,7 +5,8 @@ use lib.ListN.{length, getD}
 use borrow.Author.Needs.{needs}
 use Rattle.keep.specs.Tables.{Tables, tables}
 use Rattle.walk.specs.Marks.{kept-none}
-use Rattle.scan.specs.Fields.{begun, steered}
+use Rattle.scan.specs.Fields.{steered}
+use Rattle.scan.specs.Held.{resumes, asked}
 use Rattle.scan.proofs.Noting.{first-nothing, first-link}
 use Rattle.scan.proofs.scan_walk.Statement.{statement}
 use Rattle.scan.proofs.scan_walk.Tie as tie
@@ -22,7 +23,7 @@ ok c = rw (c .s .given .1) at (c .before .before .find-left-top-link .ensures .1
 find-left-top-link-requires : tie.Need-find-left-top-link-requires
 find-left-top-link-requires c κs =
     let s = c .before .before .before .before .before .before .before .before .before in
-    (begun (s .pre .0), (s .pre .1 .0 .0, (s .pre .1 .1 .1 .0, s .pre .1 .1 .1 .1)))
+    (asked (s .pre .1 .1 .1 .0) (s .pre .0), (s .pre .1 .0 .0, (s .pre .1 .1 .1 .0, s .pre .1 .1 .1 .1)))
 
 enum-told : tie.Need-enum-told
 enum-told c = search needs
@@ -36,7 +37,7 @@ shared-slice-read-hole c = let a = c .before .before in rw (at-start a .pre .1 .
 note-contour-requires : tie.Need-note-contour-requires
 note-contour-requires c κs =
     let a = c .before .before .before .before .before .before .before in let s = at-start a in
-    ((steered (s .pre .0), s .pre .1 .0 .0), (s .pre .1 .1 .0, (ok a .0, ok a .1, s .pre .1 .1 .1 .2)))
+    ((steered (s .pre .0 .fielded), s .pre .1 .0 .0), (s .pre .1 .1 .0, (ok a .0, ok a .1, s .pre .1 .1 .1 .2)))
 
 same-length : tie.Need-same-length
 same-length c = search needs
@@ -44,8 +45,8 @@ same-length c = search needs
 returns : tie.Need-returns
 returns c =
     let s = c .before .before .before .before .before .before .before .before .before .before .before .before in (
-      λ g h. first-nothing g (s .args .settings .clockwise) (s .args .settings .minimum) (t s) (s .args .state .now) _ _ _ _ _ _ _
-          (sym (c .enum-told .given .1) ∙ c .before .before .find-left-top-link .ensures .0 g (h .firsts) (h .reads)) refl,
+      λ g h d. first-nothing g (s .args .settings .clockwise) (s .args .settings .minimum) (t s) (s .args .state .now) _ _ _ _ _ _ _
+          (sym (c .enum-told .given .1) ∙ c .before .before .find-left-top-link .ensures .0 g (h .firsts) (h .reads) (resumes (s .pre .1 .1 .1 .0) h d)) refl,
       (tt, kept-none _),
     )
 
@@ -69,8 +70,8 @@ returns-2 c =
     let a = c .before .before .before .before .before .before .before .before .before .before .before .before .before .before .before .before .before in
     let s = at-start a in
     let o = c .before .before .before .before .before .before .before .before .before in (
-      λ g h. first-link g (s .args .settings .clockwise) (s .args .settings .minimum) (t s) (s .args .state .now) _ _ _ _ _ _ _ _ _
-          (sym (a .s .given .1) ∙ a .before .before .find-left-top-link .ensures .0 g (h .firsts) (h .reads))
+      λ g h d. first-link g (s .args .settings .clockwise) (s .args .settings .minimum) (t s) (s .args .state .now) _ _ _ _ _ _ _ _ _
+          (sym (a .s .given .1) ∙ a .before .before .find-left-top-link .ensures .0 g (h .firsts) (h .reads) (resumes (s .pre .1 .1 .1 .0) h d))
           (h .tops (a .s .given .0 .0)) (o .note-contour .ensures .0 g (h .steers) (h .reads)),
       o .note-contour .ensures .1,
     )
