@@ -418,6 +418,12 @@ def large():
     searched = [hole(0 if box[0] < 5108 else 1, box) for box in boxes[:1022]]
     parts = [hull(0, first), *searched[:511], hull(1, second), *searched[511:]]
     yield "limit-1022-holes-searched", edges(filled(*first), filled(*second), *[empty(*box) for box in boxes[:1022]]).file(), says(*parts)
+    # The most contours that a table can have, all but two of them holes, so that the arrays of the search are used to their ends.
+    left, right = [(-5, -5), (6815, -5), (-5, 400000)], [(6816, -5), (30000, -5), (6816, 400000)]
+    holes = triangles[:681] + [[(x + 10, y) for x, y in triangle] for triangle in triangles[681:1363]]
+    found = [("hole", 0 if i < 681 else 1, [a, c, b]) for i, (a, b, c) in enumerate(holes)]
+    outer = [("hull", owner, [c, a, b]) for owner, (a, b, c) in enumerate([left, right])]
+    yield "limit-1363-holes-searched", edges(left, right, *[loop[::-1] for loop in holes]).file(), says(outer[0], *found[:681], outer[1], *found[681:])
     # The first link of every walk is the topmost that is left, so the triangles come from the top; the scan stays at link 0 up to the last walk.
     spokes = [[(0, 0), (5000, 2 * i), (5000, 2 * i + 1)] for i in range(-682, 683)]
     yield "limit-star", edges(*spokes).file(), says(*[("hull", i, [c, a, b]) for i, (a, b, c) in enumerate(spokes[::-1])])
@@ -477,8 +483,8 @@ since what extraction writes passes them (docs/THEOREMS.md). 1 comes from the fi
 reading.
 
 Not stored, but made at test time (`make-cases.py --large`): files at the limits of 4,096 links, 4,096 nodes and 8,192
-entries and one past them, whole, cut and with more after them; 1,365 triangles, 1,024 squares, 1,023 holes, 1,022 holes
-that are searched, a star of 2,730 links at one node; and every cut of E2's file. Their outputs are by hand.
+entries and one past them, whole, cut and with more after them; 1,365 triangles, 1,024 squares, 1,023 holes, 1,022 and
+1,363 holes that are searched, a star of 2,730 links at one node; and every cut of E2's file. Their outputs are by hand.
 
 | case | what it shows | expected output from |
 |---|---|---|"""

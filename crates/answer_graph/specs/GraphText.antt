@@ -6,8 +6,7 @@ use lib.IntN.{pos}
 use lib.ListN.{replicate}
 use Rattle.turn.specs.Limits.{maxLinks}
 use Rattle.graph.specs.Graph.{Lent}
-use Rattle.table.specs.Table.{Table, table}
-use Rattle.print.specs.Room.{maxContours}
+use Rattle.table.specs.Table.{Table, table, maxContours}
 use Rattle.answer_table.specs.ExtractionText.{extractionText}
 use Rattle.finish.specs.Finish.{Buffers, buffers}
 use Rattle.extraction.specs.Extract.{extracted}

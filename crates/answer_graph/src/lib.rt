@@ -1,7 +1,7 @@
 // What the program answers to the lists of a graph: extracted, then answered into a slice of bytes.
 //
 // Each function has the arrays of its stage and makes one call with them; the stages below see slices only.
-use print::MAX_CONTOURS;
+use table::MAX_CONTOURS;
 use turn::MAX_LINKS;
 ghost use mathlib.Core.Path.{_≡_};
 ghost use Prim.Native.Nat.{_≤_};

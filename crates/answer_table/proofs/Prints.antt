@@ -10,7 +10,7 @@ use Rattle.laws.specs.Test.{pick-ind}
 use Rattle.turn.specs.declared.Checked.{Checked}
 use Rattle.turn.specs.declared.Checked.the-variants.{Fine, Refused as AtFault}
 use Rattle.laws.specs.Count.{count}
-use Rattle.table.specs.Table.{Table, contourCount, hulls, hullCount}
+use Rattle.table.specs.Table.{Table, contourCount, maxContours, hulls, hullCount}
 use Rattle.table.specs.TableChecks.{tableChecked}
 use Rattle.turn.specs.Refusals.{first-fine}
 use Rattle.table.specs.Sound.{Sound}
@@ -19,7 +19,7 @@ use Rattle.bind.specs.declared.Binding.{Binding}
 use Rattle.bind.specs.declared.Binding.the-variants.{Bound, Refused}
 use Rattle.owners.specs.declared.Given.{Given}
 use Rattle.owners.specs.declared.Given.the-variants.{All, Stuck}
-use Rattle.print.specs.Room.{maxContours, Printable}
+use Rattle.print.specs.Room.{Printable}
 use Rattle.print.specs.Answer as print
 use Rattle.answer_table.specs.BoundText.{totalsOf, bindingText, outcomeText, boundText}
 use Rattle.anchor.specs.AnchorChecks.{anchorsChecked, bothChecked}

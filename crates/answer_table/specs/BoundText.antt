@@ -3,11 +3,10 @@ use Prim.Native.Nat.{ℕ}
 use mathlib.Core.Bool.{Bool}
 use mathlib.Core.List.{List}
 use lib.ListN.{replicate}
-use Rattle.table.specs.Table.{Table, contourCount, pointCount}
+use Rattle.table.specs.Table.{Table, contourCount, maxContours, pointCount}
 use Rattle.bind.specs.declared.Binding.{Binding}
 use Rattle.bind.specs.declared.Binding.the-variants.{Bound, Refused}
 use Rattle.print_lines.specs.declared.Totals.{Totals}
-use Rattle.print.specs.Room.{maxContours}
 use Rattle.print.specs.Answer as print
 use Rattle.bind.specs.Outcome.{Outcome, bound}
 

@@ -1,9 +1,9 @@
 // What the program answers to a contour table, and to what extraction gave: bound, and printed into a slice of bytes.
 use bind::Binding;
 use keep::Counts;
-use print::MAX_CONTOURS;
 use print_lines::Totals;
 use scan::Extraction;
+use table::MAX_CONTOURS;
 ghost use mathlib.Core.Path.{_≡_};
 ghost use Prim.Native.Nat.{ℕ, _≤_};
 ghost use lib.ListN.{length};

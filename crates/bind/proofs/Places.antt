@@ -78,5 +78,5 @@ place-few t owners cw n p e = go (tableChecked t owners) refl e
     same m q f g = let z : q ≡ p = cc in omega (arith, table-place t owners m q f)
 
     go : (r : Checked) → tableChecked t owners ≡ r → followedBy r (anchorsChecked t cw) ≡ Refused n p → p ≤ maxLinks
-    go Fine f g = anchors-place t cw n p (contours-few t (passes-sound t owners .to f .0)) g
+    go Fine f g = anchors-place t cw n p (omega (arith, contours-few t (passes-sound t owners .to f .0))) g
     go (Refused m q) f g = same m q f g

@@ -92,7 +92,7 @@ fn bind_holes(
         owned r (now (owner .exit)) ≡ delivered (searchedOwners t clockwise) (now (owner .entry))) ⌝ }
 {
     let n = first.len();
-    let mut own = [0u16; turn::MAX_LINKS];
+    let mut own = [0u16; table::MAX_CONTOURS];
     bind_in(points, first, len, kind, clockwise, &mut own[..n], owner)
 }
 

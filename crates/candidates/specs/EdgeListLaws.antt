@@ -21,7 +21,7 @@ module _ (t : Table) (s : Sound t) where
   pub ranges-of : Ranges (t .first) (t .len)
   ranges-of = record {
     same = s .len-long;
-    few = contours-few t s;
+    few = omega (arith, contours-few t s);
     follow = sound-follows t s;
     within = λ c h. omega (arith, s .within c h, s .few);
   }

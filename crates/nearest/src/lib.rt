@@ -5,7 +5,7 @@ ghost use mathlib.Core.Path.{_≡_};
 ghost use Prim.Native.Nat.{ℕ, _<_, _≤_};
 ghost use lib.ListN.{length, getD};
 ghost use Rattle.turn.specs.Limits.{maxLinks};
-ghost use Rattle.table.specs.Table.{Table, table};
+ghost use Rattle.table.specs.Table.{Table, table, maxContours};
 ghost use Rattle.table.specs.Sound.{Sound};
 ghost use Rattle.anchor.specs.Anchors.{Anchors, anchors};
 ghost use Rattle.edges.specs.Edges.{On};
@@ -197,7 +197,7 @@ pub fn contours_under(
     under: &mut [u32],
 )
     requires { ⌜ Sound (table (now points) (now first) (now len) (now kind)) ⌝ }
-    requires { ⌜ (length (now first) ≤ length (now mute)) × (m ≤ maxLinks) × (m ≤ length (now under)) ⌝ }
+    requires { ⌜ (length (now first) ≤ length (now mute)) × (m ≤ maxContours) × (m ≤ length (now under)) ⌝ }
     requires { ⌜ SortedAnchors (anchors (now x) (now y) (now «to_x») (now «to_y»)) m ⌝ }
     ensures { λ _. ⌜ (let t : Table = table (now (points .entry)) (now (first .entry)) (now (len .entry)) (now (kind .entry)) in
         let h : Anchors = anchors (now (x .entry)) (now (y .entry)) (now («to_x» .entry)) (now («to_y» .entry)) in
@@ -207,7 +207,7 @@ pub fn contours_under(
     let right = (above & !clockwise) | (!above & clockwise);
     let mut next = [0u32; turn::MAX_LINKS];
     let mut of = [0u32; turn::MAX_LINKS];
-    let mut best = [0u32; turn::MAX_LINKS];
+    let mut best = [0u32; table::MAX_CONTOURS];
     candidates::list_edges(first, len, &mut next, &mut of);
     nearest_edges(
         points,

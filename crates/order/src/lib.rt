@@ -3,9 +3,8 @@ use anchor::Anchor;
 ghost use mathlib.Core.Path.{_≡_};
 ghost use Prim.Native.Nat.{ℕ, suc, _<_, _≤_};
 ghost use lib.ListN.{length, getD};
-ghost use Rattle.turn.specs.Limits.{maxLinks};
 ghost use Rattle.turn.specs.Points.{OnGrid};
-ghost use Rattle.table.specs.Table.{Table, table};
+ghost use Rattle.table.specs.Table.{Table, table, maxContours};
 ghost use Rattle.table.specs.Sound.{Sound};
 ghost use Rattle.anchor.specs.Anchors.{Anchors, anchors};
 ghost use Rattle.order.specs.HoleOrder.{goesBefore};
@@ -27,7 +26,7 @@ pub fn gather_holes(
     to_y: &mut [i32],
 ) -> usize
     requires { ⌜ Sound (table (now points) (now first) (now len) (now kind)) ⌝ }
-    requires { ⌜ Room (now who) (anchors (now x) (now y) (now «to_x») (now «to_y»)) maxLinks ⌝ }
+    requires { ⌜ Room (now who) (anchors (now x) (now y) (now «to_x») (now «to_y»)) maxContours ⌝ }
     ensures { λ m. ⌜ (let t : Table = table (now (points .entry)) (now (first .entry)) (now (len .entry)) (now (kind .entry)) in
         let h : Anchors = anchors (now (x .entry)) (now (y .entry)) (now («to_x» .entry)) (now («to_y» .entry)) in
         gather-holes-says t clockwise (now (who .entry)) h m (now (who .exit)) (now (x .exit)) (now (y .exit)) (now («to_x» .exit)) (now («to_y» .exit))) ⌝ }
@@ -70,7 +69,7 @@ fn goes_before(a: Anchor, b: Anchor, c: u32, d: u32) -> bool
 
 // Hole j goes among the first j of `ord`, in front of those at the end that it goes before.
 fn insert(who: &[u32], x: &[i32], y: &[i32], to_x: &[i32], to_y: &[i32], ord: &mut [u32], j: usize)
-    requires { ⌜ (Bounded (now who) (anchors (now x) (now y) (now «to_x») (now «to_y»)) (suc j)) × (j < maxLinks) ⌝ }
+    requires { ⌜ (Bounded (now who) (anchors (now x) (now y) (now «to_x») (now «to_y»)) (suc j)) × (j < maxContours) ⌝ }
     requires { ⌜ (j < length (now ord)) × ((i : ℕ) → i < j → getD (now ord) i 0 < j) ⌝ }
     ensures { λ _. ⌜ (let h : Anchors = anchors (now (x .entry)) (now (y .entry)) (now («to_x» .entry)) (now («to_y» .entry)) in
         InsertedInto (now (ord .entry)) (now (ord .exit)) j (slotOf h (now (who .entry)) (now (ord .entry)) j) j) ⌝ }
@@ -104,7 +103,7 @@ pub fn order_holes(
     ord: &mut [u32],
 )
     requires { ⌜ (let h : Anchors = anchors (now x) (now y) (now «to_x») (now «to_y») in
-        (Bounded (now who) h m) × (m ≤ maxLinks) × (m ≤ length (now ord))) ⌝ }
+        (Bounded (now who) h m) × (m ≤ maxContours) × (m ≤ length (now ord))) ⌝ }
     ensures { λ _. ⌜ (let h : Anchors = anchors (now (x .entry)) (now (y .entry)) (now («to_x» .entry)) (now («to_y» .entry)) in
         order-holes-says h (now (who .entry)) m (now (ord .entry)) (now (ord .exit))) ⌝ }
 {

@@ -12,9 +12,8 @@ use lib.Signed.{ltZ, _≤ℤ_, ≤ℤ-refl}
 use Rattle.laws.specs.Test.{or-false}
 use Rattle.laws.specs.Compare.{lt-no}
 use Rattle.turn.specs.declared.Point.{Point}
-use Rattle.turn.specs.Limits.{maxLinks}
 use Rattle.turn.specs.Points.{before, OnGrid}
-use Rattle.table.specs.Table.{Table, contourCount}
+use Rattle.table.specs.Table.{Table, contourCount, maxContours}
 use Rattle.table.specs.Sound.{Sound}
 use Rattle.table.specs.Passing.{contours-few}
 use Rattle.anchor.specs.declared.Anchor.{Anchor}
@@ -58,13 +57,13 @@ module _ (t : Table) (s : Sound t) (cw : Bool) (a : Anchored t cw) (m : ℕ) (wh
   among : (j : ℕ) → j < m → j < length (holes t)
   among j l = omega (arith, g .all)
 
-  pub few-holes : m ≤ maxLinks
+  pub few-holes : m ≤ maxContours
   few-holes = omega (arith, g .all, rising .few, contours-few t s)
 
   hole-below : (j : ℕ) → j < m → hole t j < contourCount t
   hole-below j l = rising .below j (among j l)
 
-  module _ (r : Room who h maxLinks) where
+  module _ (r : Room who h maxContours) where
     on-grid : AnchorsOnGrid h m
     on-grid = record {
       room = less-room h m (r .anchor-room) few-holes;
@@ -93,17 +92,18 @@ module _ (t : Table) (s : Sound t) (cw : Bool) (a : Anchored t cw) (m : ℕ) (wh
     pub sorted-anchors : SortedAnchors h m
     sorted-anchors = record { on-grid = on-grid; sorted = in-order }
 
-  module _ (under ord own : List ℕ) (u : (j : ℕ) → j < m → getD under j 0 ≡ searchUnder t true cw (giving (replicate maxLinks 0)) (listedAnchor h j))
+  module _ (under ord own : List ℕ) (u : (j : ℕ) → j < m → getD under j 0 ≡ searchUnder t true cw (giving (replicate maxContours 0)) (listedAnchor h j))
       (o : Ordered h who m ord) where
     under-is : (j : ℕ) → j < m → getD under j 0 ≡ contourBelow t cw (hole t j)
     under-is j l =
-        u j l ∙ ap (λ (e : ℕ → Bool). searchUnder t true cw e (listedAnchor h j)) (every-gives maxLinks)
+        u j l ∙ ap (λ (e : ℕ → Bool). searchUnder t true cw e (listedAnchor h j)) (every-gives maxContours)
         ∙ ap (searchUnder t true cw everyContour) (g .at j l)
 
     low : (i : ℕ) → i < m → getD ord i 0 < m
     low i l = rw (o i l) (entries (λ k. k < m) (byAnchor h who) (λ k. k) m (λ k n. n) i l)
 
-    pub listed : maxLinks ≤ length ord → maxLinks ≤ length who → maxLinks ≤ length under → length own ≡ contourCount t → Listed ord who under m (length own)
+    pub listed : maxContours ≤ length ord → maxContours ≤ length who → maxContours ≤ length under → length own ≡ contourCount t
+        → Listed ord who under m (length own)
     listed p q r e = record {
       ord-room = omega (arith, few-holes);
       ord-below = low;
@@ -119,7 +119,7 @@ module _ (t : Table) (s : Sound t) (cw : Bool) (a : Anchored t cw) (m : ℕ) (wh
         sym (ap₂ (λ (p q : Anchor). goesBefore p q (getD who i 0) (getD who j 0)) (g .at i l) (g .at j n)
         ∙ ap₂ (goesBefore (anchorEdge t cw (hole t i)) (anchorEdge t cw (hole t j))) (g .who-is i l) (g .who-is j n))
 
-    pub gave : maxLinks ≤ length ord → giveListed who under (take m ord) own ≡ giveEach (contourBelow t cw) (bindingOrder t cw) own
+    pub gave : maxContours ≤ length ord → giveListed who under (take m ord) own ≡ giveEach (contourBelow t cw) (bindingOrder t cw) own
     gave p =
         give-same (contourBelow t cw) (hole t) who under m (g .who-is) under-is (bindingOrder t cw) (take m ord) own
         (sorted-length (precedes t cw) (hole t) (length (holes t)) ∙ sym (g .all) ∙ sym taken)

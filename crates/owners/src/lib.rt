@@ -79,11 +79,11 @@ pub fn search_owners(
     ensures { λ r. ⌜ (let t : Table = table (now (points .entry)) (now (first .entry)) (now (len .entry)) (now (kind .entry)) in
         search-owners-says t clockwise (now (own .entry)) r (now (own .exit))) ⌝ }
 {
-    let mut who = [0u32; turn::MAX_LINKS];
-    let mut x = [0i32; turn::MAX_LINKS];
-    let mut y = [0i32; turn::MAX_LINKS];
-    let mut to_x = [0i32; turn::MAX_LINKS];
-    let mut to_y = [0i32; turn::MAX_LINKS];
+    let mut who = [0u32; table::MAX_CONTOURS];
+    let mut x = [0i32; table::MAX_CONTOURS];
+    let mut y = [0i32; table::MAX_CONTOURS];
+    let mut to_x = [0i32; table::MAX_CONTOURS];
+    let mut to_y = [0i32; table::MAX_CONTOURS];
     let m = order::gather_holes(
         points,
         first,
@@ -96,8 +96,8 @@ pub fn search_owners(
         &mut to_x,
         &mut to_y,
     );
-    let mute = [0u8; turn::MAX_LINKS];
-    let mut under = [0u32; turn::MAX_LINKS];
+    let mute = [0u8; table::MAX_CONTOURS];
+    let mut under = [0u32; table::MAX_CONTOURS];
     nearest::contours_under(
         points,
         first,
@@ -113,7 +113,7 @@ pub fn search_owners(
         m,
         &mut under,
     );
-    let mut ord = [0u32; turn::MAX_LINKS];
+    let mut ord = [0u32; table::MAX_CONTOURS];
     order::order_holes(&who, &x, &y, &to_x, &to_y, m, &mut ord);
     give_owners(&ord, &who, &under, m, own)
 }

@@ -11,12 +11,12 @@ use mir.Val.{Fits}
 use Rattle.laws.specs.Test.{pick, pick-ind}
 use Rattle.turn.specs.Limits.{maxLinks, maxCoordinate}
 use Rattle.turn.specs.Points.{Grid}
-use Rattle.table.specs.Table.{droppedOwner}
+use Rattle.table.specs.Table.{maxContours, droppedOwner}
 use Rattle.print_text.specs.Text.{text}
 use Rattle.print_text.specs.Decimal.{decimal, decimalZ, length-digits, said}
 use Rattle.print.specs.Answer.{OwnedTable, pointLines, contourLines, contoursFrom, printed, printedRefusal}
 use Rattle.print_lines.specs.Lines.{header, roleText, contourLine, pointLine}
-use Rattle.print.specs.Room.{maxContours, answerBytes, refusalBytes, Printable}
+use Rattle.print.specs.Room.{answerBytes, refusalBytes, Printable}
 use Rattle.print_lines.specs.declared.Totals.{Totals}
 
 -- four digits, five, ten and twenty

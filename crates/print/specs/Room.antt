@@ -1,15 +1,12 @@
 -- The room that an answer takes, and what a table must be like to be printed.
-use Prim.Native.Nat.{ℕ, _+_, _*_, _/_, _≤_, _<_}
+use Prim.Native.Nat.{ℕ, _+_, _*_, _≤_, _<_}
 use mathlib.Core.Path.{_≡_}
 use lib.ListN.{length, getD}
 use Rattle.turn.specs.Limits.{maxLinks}
 use Rattle.turn.specs.Points.{Grid}
+use Rattle.table.specs.Table.{maxContours}
 use Rattle.print.specs.Answer.{OwnedTable}
 use Rattle.print_lines.specs.declared.Totals.{Totals}
-
--- a contour has at least 3 points, and a table at most as many points as there are links
-abbrev pub maxContours : ℕ
-maxContours = maxLinks / 3
 
 -- the first line, 24 bytes a contour's line and 16 a point's
 abbrev pub answerBytes : ℕ

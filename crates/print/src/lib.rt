@@ -2,6 +2,7 @@
 //
 // Every writer takes the buffer and a position, writes its bytes there and answers the position after them.
 use print_lines::Totals;
+use table::MAX_CONTOURS;
 use turn::MAX_LINKS;
 ghost use Prim.Native.Nat.{_+_, _*_, _<_, _≤_};
 ghost use lib.ListN.{length};
@@ -10,9 +11,6 @@ ghost use Rattle.writing.specs.Write.{Wrote};
 ghost use Rattle.print.specs.Room.{answerBytes, refusalBytes, RangesInside, Printable};
 ghost use Rattle.print.specs.Answer.{OwnedTable, ownedTable, pointLines, contourLines, contoursFrom};
 ghost use Rattle.print.specs.Promises.{write-answer-says, write-refusal-says};
-
-// The most contours of a table: each has at least 3 points.
-pub const MAX_CONTOURS: usize = MAX_LINKS / 3;
 
 // Room for every answer: the first line, 24 bytes for a contour's line and 16 for a point's.
 pub const ANSWER_BYTES: usize = 51 + 24 * MAX_CONTOURS + 16 * MAX_LINKS;

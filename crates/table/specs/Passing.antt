@@ -16,7 +16,7 @@ use Rattle.turn.specs.Limits.{maxLinks}
 use Rattle.turn.specs.Points.{differ, Coord, OnGrid, Grid}
 use Rattle.turn.specs.declared.Checked.the-variants.{Fine}
 use Rattle.turn.specs.Refusals.{refuses}
-use Rattle.table.specs.Table.{Table, pointCount, point, contourCount, firstOf, lenOf, rangeEnd, kindOf, contourOf, nextIn, previousIn, next}
+use Rattle.table.specs.Table.{Table, pointCount, point, contourCount, maxContours, firstOf, lenOf, rangeEnd, kindOf, contourOf, nextIn, previousIn, next}
 use Rattle.table.specs.TableChecks.{misfit, startIn, unended, badContour, tableChecked}
 use Rattle.table.specs.TableLaws.{start-next, next-inside, next-last, previous-first, previous-inside}
 use Rattle.table.specs.Tests.{fitting, Ranged, Placed, contour-right}
@@ -210,7 +210,7 @@ pub few-contours : (t : Table) → Sound t → (n : ℕ) → n ≤ contourCount 
 few-contours t s zero h = omega arith
 few-contours t s (suc n) h = omega (arith, few-contours t s n (omega arith), s .long n h, sound-follows t s n h)
 
-pub contours-few : (t : Table) → Sound t → contourCount t ≤ maxLinks
+pub contours-few : (t : Table) → Sound t → contourCount t ≤ maxContours
 contours-few t s = omega (arith, few-contours t s (contourCount t) (omega arith), s .ends, s .few)
 
 -- a contour's points are within the list

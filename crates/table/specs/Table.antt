@@ -9,6 +9,7 @@ use Rattle.laws.specs.Test.{pick}
 use Rattle.laws.specs.Lowest.{lowest}
 use Rattle.laws.specs.Count.{count}
 use Rattle.turn.specs.declared.Point.{Point}
+use Rattle.turn.specs.Limits.{maxLinks}
 use Rattle.turn.specs.Area.{pointsOf}
 
 -- The points of all contours, x and y in turn; at a number c the other lists have contour c's first point, how many
@@ -35,6 +36,10 @@ point t p = pointIn (t .points) p
 -- ---- contours, by their number: contour c's points stand from `firstOf t c` up to `rangeEnd t c`
 abbrev pub contourCount : Table → ℕ
 contourCount t = length (t .first)
+
+-- a contour has at least 3 points, and a table at most as many points as there are links
+abbrev pub maxContours : ℕ
+maxContours = maxLinks / 3
 
 abbrev pub firstOf : Table → ℕ → ℕ
 firstOf t c = getD (t .first) c 0

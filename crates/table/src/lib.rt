@@ -12,6 +12,9 @@ ghost use Rattle.table.specs.Table.{Table, table};
 ghost use Rattle.table.specs.TableChecks.{misfit, startIn, rangeFault, somePointFault, contourFault, badContour};
 ghost use Rattle.table.specs.Promises.{point-in-says, check-table-says, hulls-before-says};
 
+// The most contours of a table: each has at least 3 points.
+pub const MAX_CONTOURS: usize = turn::MAX_LINKS / 3;
+
 // The owner of a hole where there is no hull.
 pub const DROPPED: u16 = 65535;
 

@@ -103,7 +103,7 @@ fn small(number: usize) -> u32 {
 }
 
 /// Writes the owner of every contour: a hull's own shape number, the number of the shape that a hole belongs to, or
-/// 65,535 for a dropped hole. What `owner` has beyond the contours is left as it is. It takes some 172 KiB of stack.
+/// 65,535 for a dropped hole. What `owner` has beyond the contours is left as it is. It takes some 79 KiB of stack.
 ///
 /// # Errors
 /// 10 to 12 if the table is malformed, its holes are not as extraction leaves them, or a hole finds no shape: then all

@@ -5,8 +5,7 @@ use Prim.Native.Nat.{ℕ}
 use lib.ListN.{length, take, replicate, length-replicate}
 use lib.Seq.{length-take-le}
 use borrow.Author.Needs.{needs}
-use Rattle.turn.specs.Limits.{maxLinks}
-use Rattle.table.specs.Table.{Table, table}
+use Rattle.table.specs.Table.{Table, table, maxContours}
 use Rattle.table.specs.Passing.{contours-few}
 use Rattle.bind.proofs.bind_holes.Statement.{statement}
 use Rattle.bind.proofs.bind_holes.Tie as tie
@@ -14,8 +13,8 @@ use Rattle.bind.proofs.bind_holes.Tie as tie
 abbrev t : tie.Start → Table
 t s = table (s .args .points .now) (s .args .first .now) (s .args .len .now) (s .args .kind .now)
 
-front : (s : tie.Start) → length {A = ℕ} (take (length (s .args .first .now)) (replicate maxLinks 0)) ≡ length (s .args .first .now)
-front s = length-take-le (length (s .args .first .now)) (replicate maxLinks 0) (rw (length-replicate {A = ℕ} maxLinks 0) (contours-few (t s) (s .pre .0)))
+front : (s : tie.Start) → length {A = ℕ} (take (length (s .args .first .now)) (replicate maxContours 0)) ≡ length (s .args .first .now)
+front s = length-take-le (length (s .args .first .now)) (replicate maxContours 0) (rw (length-replicate {A = ℕ} maxContours 0) (contours-few (t s) (s .pre .0)))
 
 array-borrow-prefix-own : tie.Need-array-borrow-prefix-own
 array-borrow-prefix-own c = let s = c .before .before .before .before in omega (arith, contours-few (t s) (s .pre .0))

@@ -4,8 +4,7 @@ use Prim.Native.Nat.{ℕ}
 use lib.ListN.{getD-replicate}
 use mathlib.Core.Bool.{Bool}
 use borrow.Author.Needs.{needs}
-use Rattle.turn.specs.Limits.{maxLinks}
-use Rattle.table.specs.Table.{Table, table}
+use Rattle.table.specs.Table.{Table, table, maxContours}
 use Rattle.anchor.specs.Anchors.{Anchors, anchors}
 use Rattle.candidates.specs.Candidates.{rightward}
 use Rattle.candidates.specs.EdgeListLaws.{ranges-of, fit, of-few}
@@ -50,7 +49,7 @@ nearest-edges-requires c κs =
         s .pre .0 .few,
         flags (t s) (s .pre .0) (l .last .1 .1 .0) (l .last .1 .1 .1 .0) (l .ensures .round) (s .args .mute .now) (p .0 .0),
       ),
-      (p .1, (p .0 .1, λ j h. getD-replicate {A = ℕ} maxLinks j 0 0 (omega (arith, p .0 .1)))),
+      (p .1, (p .0 .1, λ j h. getD-replicate {A = ℕ} maxContours j 0 0 (omega (arith, p .0 .1)))),
     )
 
 slice-aggregate-name-contours : tie.Need-slice-aggregate-name-contours

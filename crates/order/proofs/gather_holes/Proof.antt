@@ -2,8 +2,7 @@
 use native.Mathlib.Omega.{arith}
 use Prim.Native.Nat.{_-_, _≤_, _<_}
 use lib.ListN.{length}
-use Rattle.turn.specs.Limits.{maxLinks}
-use Rattle.table.specs.Table.{Table, table}
+use Rattle.table.specs.Table.{Table, table, maxContours}
 use Rattle.table.specs.Passing.{ranges-within, contours-few}
 use Rattle.anchor.specs.Anchors.{Anchors, anchors, less-room}
 use Rattle.anchor.specs.AnchorPositions.{on-anchor}
@@ -25,10 +24,10 @@ t s = table (s .args .points .now) (s .args .first .now) (s .args .len .now) (s 
 abbrev h : tie.Start Inv-loop μ-loop → Anchors
 h s = anchors (s .args .x .now) (s .args .y .now) (s .args .to-x .now) (s .args .to-y .now)
 
-room : (c : tie.In-loop Inv-loop μ-loop) → length (c .before .before .before .before .before .before .args .first .now) ≤ maxLinks
+room : (c : tie.In-loop Inv-loop μ-loop) → length (c .before .before .before .before .before .before .args .first .now) ≤ maxContours
 room c = contours-few (t (c .before .before .before .before .before .before)) (c .before .before .before .before .before .before .pre .0)
 
-few : (c : tie.In-loop Inv-loop μ-loop) → c .before .loop .c < maxLinks
+few : (c : tie.In-loop Inv-loop μ-loop) → c .before .loop .c < maxContours
 few c = omega (arith, room c)
 
 loop-holds : tie.Need-loop-holds Inv-loop μ-loop

@@ -4,8 +4,7 @@ use mathlib.Core.Path.{_∙_}
 use Prim.Native.Nat.{ℕ}
 use mathlib.Core.List.{List}
 use borrow.Author.Needs.{needs}
-use Rattle.turn.specs.Limits.{maxLinks}
-use Rattle.table.specs.Table.{Table, table}
+use Rattle.table.specs.Table.{Table, table, maxContours}
 use Rattle.table.specs.Passing.{contours-few}
 use Rattle.anchor.specs.Anchors.{Anchors, anchors}
 use Rattle.order.specs.HoleLists.{Room}
@@ -24,7 +23,7 @@ abbrev h : tie.After-gather-holes → Anchors
 h c = anchors (c .gather-holes .last .1 .1 .1 .1 .1 .1 .0) (c .gather-holes .last .1 .1 .1 .1 .1 .1 .1 .0)
     (c .gather-holes .last .1 .1 .1 .1 .1 .1 .1 .1 .0) (c .gather-holes .last .1 .1 .1 .1 .1 .1 .1 .1 .1 .0)
 
-room : (c : tie.After-gather-holes) → Room (who c) (h c) maxLinks
+room : (c : tie.After-gather-holes) → Room (who c) (h c) maxContours
 room c =
     let k = c .gather-holes .kept in
     record {
