@@ -3,7 +3,7 @@
  *
  * Link with libguovdamas.a (`rt staticlib guovdamas`; x86-64 Linux). examples/c/square.c is a whole program.
  *
- * What the functions do. They need no memory but what is lent and some stack: extraction 70 KiB, binding 79 KiB. They
+ * What the functions do. They need no memory but what is lent and some stack: extraction 102 KiB, binding 79 KiB. They
  * keep no pointer, have no global state and always return, so any thread may call them. They call nothing but memcpy
  * and memset of the C library.
  *

@@ -1,12 +1,13 @@
--- What the pass over the nodes tells of checks 5 to 7, both ways; and a refusal is not fine.
-use Prim.Native.Nat.{ℕ, _*_, _-_}
-use mathlib.Core.Path.{_≡_}
-use mathlib.Core.Bool.{Bool, true, false}
+-- What the pass over the nodes tells of checks 5 to 7, both ways; and that a refusal is not right.
+use Prim.Native.Nat.{ℕ, _*_, _-_, _<_}
+use mathlib.Core.Path.{_≡_, refl, subst}
+use mathlib.Core.Bool.{Bool, true, false, _||_}
 use mathlib.Core.Bool as bool
 use mathlib.Core.List.{List}
 use lib.ListN.{length}
 use Rattle.laws.specs.Test.{true≢false}
 use Rattle.laws.specs.Lowest.{some, none-of, some-no}
+use Rattle.turn.specs.declared.Checked.{Checked}
 use Rattle.turn.specs.declared.Checked.the-variants.{Fine, Refused}
 use Rattle.graph.specs.Graph.{Lent, linkCount, nodeCount}
 use Rattle.graph.specs.Checks.{aOf, bOf, nodeAt, entriesOf, badStarts, nodesChecked}
@@ -17,9 +18,28 @@ use Rattle.graph.specs.Tests.{rising}
 use Rattle.graph.specs.Told.{LinksTold}
 use Rattle.graph.specs.Sound.{fine-node, nodes-fine}
 use Rattle.graph.specs.Complete.{not-wrong}
+use Rattle.lay.specs.declared.Found.{Found}
+use Rattle.lay.specs.declared.Found.the-variants.{Fault, Nothing, Wide}
+use Rattle.lay.specs.Promises.{Finds}
+use Rattle.check_graph.specs.declared.Looked.the-variants.{Right, Wrong}
+use Rattle.check_graph.specs.declared.Looked.the-variants as looked
+use Rattle.check_graph.specs.Looks.{lookedAs}
 
-pub not-fine : (number place : ℕ) → Refused number place ≡ Fine → ⊥
-not-fine number place e = bool.true≢false (cc)
+pub not-right : (number place : ℕ) → Wrong number place ≡ Right → ⊥
+not-right number place e = bool.true≢false (cc)
+
+pub not-done : looked.Wide ≡ Right → ⊥
+not-done e = bool.true≢false (cc)
+
+pub right-fine : (c : Checked) → lookedAs c ≡ Right → c ≡ Fine
+right-fine Fine e = refl
+right-fine (Refused number place) e = absurd (not-right number place e)
+
+-- a test that may stand for another wherever the second fails
+pub stands-for : (r b ne : Bool) → (ne ≡ false → r ≡ b) → r || ne ≡ true → b || ne ≡ true
+stands-for r true true h e = refl
+stands-for r false true h e = refl
+stands-for r b false h e = rw (h refl) at e
 
 module _ (g : Lent) (state : List ℕ) (told : LinksTold g state) where
   -- something is wrong with node v
@@ -40,3 +60,14 @@ module _ (g : Lent) (state : List ℕ) (told : LinksTold g state) where
   -- something is: they find something
   pub some-wrong : some wrong (nodeCount g) ≡ true → nodesChecked g state ≡ Fine → ⊥
   some-wrong e f = true≢false e (some-no wrong (nodeCount g) (λ v l. not-wrong g state (told .starts) f v l))
+
+  -- ---- by what the pass finds
+  module _ (most : ℕ) (r : Found) (found : Finds (some wrong (nodeCount g)) (length (g .list)) most r) where
+    pub fault-refused : r ≡ Fault → nodesChecked g state ≡ Fine → ⊥
+    fault-refused e = some-wrong (subst (Finds (some wrong (nodeCount g)) (length (g .list)) most) e found)
+
+    pub nothing-fine : r ≡ Nothing → badStarts (g .start) (g .list) ≡ false → length (g .list) ≡ 2 * linkCount g → nodesChecked g state ≡ Fine
+    nothing-fine e s t = none-wrong s t (subst (Finds (some wrong (nodeCount g)) (length (g .list)) most) e found)
+
+    pub wide-more : r ≡ Wide → most < length (g .list)
+    wide-more e = subst (Finds (some wrong (nodeCount g)) (length (g .list)) most) e found

@@ -1,16 +1,10 @@
--- What each public function promises, written once: its contract names it, and any two outcomes that it allows are equal.
+-- What the public function promises, written once: its contract names it, and any two outcomes that it allows are equal.
 use mathlib.Core.List.{List}
 use mathlib.Core.Path.{_≡_}
 use mathlib.Core.Bool.{Bool}
 use Prim.Native.Nat.{ℕ}
 use Rattle.laws.specs.Unique.{Determines, by-equation}
-use Rattle.graph.specs.Checks.{badStarts, badNodes}
-
-abbrev pub bad-starts-says : List ℕ → List ℕ → Bool → Type 0
-bad-starts-says start list r = r ≡ badStarts start list
-
-pub bad-starts-once : (start list : List ℕ) → Determines (bad-starts-says start list)
-bad-starts-once start list = by-equation (badStarts start list)
+use Rattle.graph.specs.Checks.{badNodes}
 
 abbrev pub bad-nodes-says : (aId bId start list : List ℕ) → Bool → Type 0
 bad-nodes-says aId bId start list r = r ≡ badNodes aId bId start list

@@ -8,7 +8,7 @@ ghost use Rattle.laws.specs.Count.{count};
 ghost use Rattle.graph.specs.Checks.{short, badStarts, stray, strayIn, strayAt, notOnce, missed, badNodes};
 ghost use Rattle.graph.specs.Passes.{Rising};
 ghost use Rattle.graph.specs.Known.{Ids};
-ghost use Rattle.check_lists.specs.Promises.{bad-starts-says, bad-nodes-says};
+ghost use Rattle.check_lists.specs.Promises.{bad-nodes-says};
 use graph::entries;
 use turn::wide;
 
@@ -43,9 +43,9 @@ fn any_short(start: &[u32]) -> bool
 }
 
 // Whether the starts are wrong for this list.
-pub fn bad_starts(start: &[u32], list: &[u32]) -> bool
+fn bad_starts(start: &[u32], list: &[u32]) -> bool
     requires { ⌜ 1 ≤ length (now start) ⌝ }
-    ensures { λ r. ⌜ bad-starts-says (now (start .entry)) (now (list .entry)) r ⌝ }
+    ensures { λ r. ⌜ r ≡ badStarts (now (start .entry)) (now (list .entry)) ⌝ }
 {
     let m = start.len() - 1;
     (wide(start[0]) != 0) | (wide(start[m]) != list.len()) | any_short(start)

@@ -71,11 +71,6 @@ Lends g top b nxt prv lead =
     × (Links (g .ax) (g .ay) (g .bx) (g .by) (length (b .state))) × (length top ≡ length (b .state))
     × (Roomy (length (b .state)) (length (b .points)) (length (b .first)) (length (b .len)) (length (b .kind))) × (map unmark (b .state) ≡ b .state)
 
--- arrays of the same lengths
-pub as-wide : (n nxts prvs leads : ℕ) {x y z : ℕ} → Spacious n nxts prvs leads → x ≡ nxts → y ≡ prvs → z ≡ leads → Spacious n x y z
-as-wide n nxts prvs leads w p q r =
-    record { nxt-room = omega (arith, w .nxt-room, p); prv-room = omega (arith, w .prv-room, q); lead-room = omega (arith, w .lead-room, r) }
-
 -- ---- the checks come first
 module _ (g : Lent) (top : List ℕ) (cw : Bool) (minimum : ℕ) (b : Buffers) where
   abbrev checks : Checked

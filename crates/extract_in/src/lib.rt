@@ -48,7 +48,7 @@ pub fn extract_in(
         lens: len.len(),
         kinds: kind.len(),
     };
-    match check_graph::check_graph(
+    match check_any::check_any(
         ax,
         ay,
         bx,
@@ -124,7 +124,7 @@ pub fn extract_few_in(
         lens: len.len(),
         kinds: kind.len(),
     };
-    match check_graph::check_graph(
+    match check_any::check_few(
         ax,
         ay,
         bx,

@@ -4,6 +4,7 @@ use native.Mathlib.Omega.{arith}
 use native.Mathlib.Decide.{ℕ-discrete}
 use mathlib.Core.Path.{_≡_, refl, sym, _∙_, subst}
 use mathlib.Core.Bool.{Bool, true, false}
+use mathlib.Core.Bool as bool
 use mathlib.Core.List.{List}
 use lib.ListN.{length, getD}
 use Rattle.laws.specs.Test.{true≢false}
@@ -14,9 +15,12 @@ use Rattle.graph.specs.Passes.{Rising}
 use Rattle.graph.specs.Total.{part-length}
 use Rattle.graph.specs.Sound.{FineNode, fine-node}
 use Rattle.rings.specs.Field.{Laid, ElseKept, OthersKept}
+use Rattle.lay.specs.declared.Found.{Found}
+use Rattle.lay.specs.declared.Found.the-variants.{Fault, Nothing, Wide}
 use Rattle.lay.specs.declared.Passed.{Passed}
 use Rattle.lay.specs.declared.Passed.the-variants.{Wrong, Bridges, Crosses}
 use Rattle.lay.specs.Kinds.{Bridge, Cross, wrongAt, KindLaid, BridgesLaid, CrossesLaid, BridgesKept}
+use Rattle.lay.specs.Promises.{Finds}
 use Rattle.lay.proofs.Kept.{laid-still, laid-kept}
 
 -- a search finds something where its test passes at one number
@@ -165,8 +169,9 @@ module _ (g : Lent) (state : List ℕ) where
       same = crossing-same nxt′ n kn;
     }
 
-  pub crossing-all : {from v : ℕ} {nxt₀ nxt prv : List ℕ} (m : ℕ) → m ≤ v → Crossing from v nxt₀ nxt prv → CrossesLaid g state m nxt prv false
-  crossing-all {v = v} m past c lead = kind-less (Cross g) m v past (c .done lead)
+  pub crossing-all : {from v : ℕ} {nxt₀ nxt prv : List ℕ} (m : ℕ) → m ≤ v → Crossing from v nxt₀ nxt prv
+      → (most : ℕ) → CrossesLaid g state m most nxt prv Nothing
+  crossing-all {v = v} m past c most lead = kind-less (Cross g) m v past (c .done lead)
 
   -- something is wrong with node v
   pub found-wrong : (m v : ℕ) → v < m → (r : Bool) → r ≡ wrongAt g state v → r ≡ true → some (wrongAt g state) m ≡ true
@@ -174,27 +179,35 @@ module _ (g : Lent) (state : List ℕ) where
 
   -- ---- all nodes, by what the two loops leave
   module _ (m : ℕ) where
-    abbrev Answers : Bool → Type 0
-    Answers r = r ≡ some (wrongAt g state) m
+    abbrev Answers : ℕ → Found → Type 0
+    Answers = Finds (some (wrongAt g state) m) (length (g .list))
 
-    abbrev Lays : Bool → List ℕ → List ℕ → List ℕ → Type 0
-    Lays r nxt prv lead = r ≡ false → (top : List ℕ) (v : ℕ) → v < m → Laid (graphOf g top) state v nxt prv lead
+    abbrev Lays : Found → List ℕ → List ℕ → List ℕ → Type 0
+    Lays r nxt prv lead = r ≡ Nothing → (top : List ℕ) (v : ℕ) → v < m → Laid (graphOf g top) state v nxt prv lead
 
-    pub nodes-wrong : (nxt prv lead : List ℕ) (p : Passed) → p ≡ Wrong → BridgesLaid g state m nxt lead p → Answers true × Lays true nxt prv lead
-    nodes-wrong nxt prv lead p e h =
-        (sym (subst (BridgesLaid g state m nxt lead) e h), λ z. absurd (true≢false refl z))
+    fault-found : Fault ≡ Nothing → ⊥
+    fault-found e = bool.true≢false (cc)
 
-    pub nodes-bridges : (nxt prv lead : List ℕ) (p : Passed) → p ≡ Bridges → BridgesLaid g state m nxt lead p
-        → Answers false × Lays false nxt prv lead
-    nodes-bridges nxt prv lead p e h =
+    stopped : Wide ≡ Nothing → ⊥
+    stopped e = bool.true≢false (cc)
+
+    pub nodes-wrong : (most : ℕ) (nxt prv lead : List ℕ) (p : Passed) → p ≡ Wrong → BridgesLaid g state m nxt lead p
+        → Answers most Fault × Lays Fault nxt prv lead
+    nodes-wrong most nxt prv lead p e h =
+        (subst (BridgesLaid g state m nxt lead) e h, λ z. absurd (fault-found z))
+
+    pub nodes-bridges : (most : ℕ) (nxt prv lead : List ℕ) (p : Passed) → p ≡ Bridges → BridgesLaid g state m nxt lead p
+        → Answers most Nothing × Lays Nothing nxt prv lead
+    nodes-bridges most nxt prv lead p e h =
         let b = subst (BridgesLaid g state m nxt lead) e h in
-        (sym (some-no _ m (λ v l. b .1 prv .fine v l (b .0 v l))), λ z top v l. b .1 prv .laid top v l (b .0 v l))
+        (some-no _ m (λ v l. b .1 prv .fine v l (b .0 v l)), λ z top v l. b .1 prv .laid top v l (b .0 v l))
 
-    pub nodes-crosses : (nxt₀ nxt prv lead : List ℕ) (p : Passed) → p ≡ Crosses → BridgesLaid g state m nxt₀ lead p
-        → (r : Bool) → CrossesLaid g state m nxt prv r → BridgesKept g nxt₀ nxt → Answers r × Lays r nxt prv lead
-    nodes-crosses nxt₀ nxt prv lead p e h true c k = (sym c, λ z. absurd (true≢false refl z))
-    nodes-crosses nxt₀ nxt prv lead p e h false c k =
-        (sym (some-no _ m (λ v l. right v l (ℕ-discrete (length (entriesOf g v)) 2))), λ z top v l. at top v l (ℕ-discrete (length (entriesOf g v)) 2))
+    pub nodes-crosses : (most : ℕ) (nxt₀ nxt prv lead : List ℕ) (p : Passed) → p ≡ Crosses → BridgesLaid g state m nxt₀ lead p
+        → (r : Found) → CrossesLaid g state m most nxt prv r → BridgesKept g nxt₀ nxt → Answers most r × Lays r nxt prv lead
+    nodes-crosses most nxt₀ nxt prv lead p e h Fault c k = (c, λ z. absurd (fault-found z))
+    nodes-crosses most nxt₀ nxt prv lead p e h Wide c k = (c, λ z. absurd (stopped z))
+    nodes-crosses most nxt₀ nxt prv lead p e h Nothing c k =
+        (some-no _ m (λ v l. right v l (ℕ-discrete (length (entriesOf g v)) 2)), λ z top v l. at top v l (ℕ-discrete (length (entriesOf g v)) 2))
       where
         b : (prv : List ℕ) → KindLaid g state (Bridge g) m nxt₀ prv lead
         b = subst (BridgesLaid g state m nxt₀ lead) e h

@@ -9,6 +9,8 @@ use Rattle.graph.specs.Graph.{Lent, graphOf}
 use Rattle.graph.specs.Checks.{aOf, bOf, nodeAt, entriesOf}
 use Rattle.graph.specs.Quick.{nodeWrong}
 use Rattle.rings.specs.Field.{Laid, endNode}
+use Rattle.lay.specs.declared.Found.{Found}
+use Rattle.lay.specs.declared.Found.the-variants.{Fault, Nothing, Wide}
 use Rattle.lay.specs.declared.Passed.{Passed}
 use Rattle.lay.specs.declared.Passed.the-variants.{Wrong, Bridges, Crosses}
 
@@ -33,10 +35,11 @@ BridgesLaid g state m nxt lead Wrong = some (wrongAt g state) m ≡ true
 BridgesLaid g state m nxt lead Bridges = ((v : ℕ) → v < m → Bridge g v) × ((prv : List ℕ) → KindLaid g state (Bridge g) m nxt prv lead)
 BridgesLaid g state m nxt lead Crosses = (prv : List ℕ) → KindLaid g state (Bridge g) m nxt prv lead
 
--- by whether the pass over the `Cross`es below m finds something wrong
-abbrev pub CrossesLaid : Lent → List ℕ → ℕ → List ℕ → List ℕ → Bool → Type 0
-CrossesLaid g state m nxt prv true = some (wrongAt g state) m ≡ true
-CrossesLaid g state m nxt prv false = (lead : List ℕ) → KindLaid g state (Cross g) m nxt prv lead
+-- by what the pass over the `Cross`es below m finds; it stops at one of more than `most` entries
+abbrev pub CrossesLaid : Lent → List ℕ → ℕ → ℕ → List ℕ → List ℕ → Found → Type 0
+CrossesLaid g state m most nxt prv Fault = some (wrongAt g state) m ≡ true
+CrossesLaid g state m most nxt prv Nothing = (lead : List ℕ) → KindLaid g state (Cross g) m nxt prv lead
+CrossesLaid g state m most nxt prv Wide = most < length (g .list)
 
 -- a list by ends is as it was at the ends at `Bridge`s
 abbrev pub BridgesKept : Lent → List ℕ → List ℕ → Type 0

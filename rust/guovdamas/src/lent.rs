@@ -74,7 +74,7 @@ pub struct ContourRecord {
 }
 
 /// Walks the graph and writes the kept contours, hulls and holes, in the order in which they were found. On success
-/// everything past the last contour is zero. It takes some 70 KiB of stack.
+/// everything past the last contour is zero. It takes some 102 KiB of stack.
 ///
 /// # Errors
 /// 1 to 7 if a check finds the graph at fault: then all that was lent is as before. 8 and 9 if a walk cannot be gone on

@@ -4,7 +4,8 @@ use borrow.Author.Needs.{needs}
 use Rattle.turn.specs.declared.Checked.the-variants.{Fine}
 use Rattle.graph.specs.Graph.{Lent, lent, graphOf}
 use Rattle.finish.specs.Finish.{Buffers, buffers}
-use Rattle.extract_in.proofs.Lends.{as-wide, Lends, after-refusal, after-fine, lent-on}
+use Rattle.check_any.specs.Lengths.{as-wide}
+use Rattle.extract_in.proofs.Lends.{Lends, after-refusal, after-fine, lent-on}
 use Rattle.extract_in.proofs.extract_few_in.Statement.{statement}
 use Rattle.extract_in.proofs.extract_few_in.Tie as tie
 
@@ -15,12 +16,12 @@ g s = lent (s .args .ax .now) (s .args .ay .now) (s .args .bx .now) (s .args .by
 abbrev b : tie.Start → Buffers
 b s = buffers (s .args .state .now) (s .args .points .now) (s .args .first .now) (s .args .len .now) (s .args .kind .now)
 
-check-graph-requires : tie.Need-check-graph-requires
-check-graph-requires c κs = c .before .before .before .before .before .before .before .before .before .before .before .before .before .before .before
+check-few-requires : tie.Need-check-few-requires
+check-few-requires c κs = c .before .before .before .before .before .before .before .before .before .before .before .before .before .before .before
     .before .pre
 
 -- what the checks' answer, if it is that all is fine, lends to the scan
-abbrev at-start : tie.After-check-graph → tie.Start
+abbrev at-start : tie.After-check-few → tie.Start
 at-start o = o .before .before .before .before .before .before .before .before .before .before .before .before .before .before .before .before .before
 
 enum-known-number : tie.Need-enum-known-number
@@ -29,14 +30,14 @@ enum-known-number c = search needs
 enum-told : tie.Need-enum-told
 enum-told c = search needs
 
-lends : (o : tie.After-check-graph) → o .check-graph .result ≡ Fine → Lends (g (at-start o)) (at-start o .args .top .now) (b (at-start o))
-    (o .check-graph .last .1 .1 .1 .1 .1 .1 .1 .1 .1 .1 .1 .0) (o .check-graph .last .1 .1 .1 .1 .1 .1 .1 .1 .1 .1 .1 .1 .0) (o .check-graph .last .1
+lends : (o : tie.After-check-few) → o .check-few .result ≡ Fine → Lends (g (at-start o)) (at-start o .args .top .now) (b (at-start o))
+    (o .check-few .last .1 .1 .1 .1 .1 .1 .1 .1 .1 .1 .1 .0) (o .check-few .last .1 .1 .1 .1 .1 .1 .1 .1 .1 .1 .1 .1 .0) (o .check-few .last .1
     .1 .1 .1 .1 .1 .1 .1 .1 .1 .1 .1 .1 .0)
 lends o t =
     let s = at-start o in
-    let k = o .check-graph .kept .1 .1 .1 .1 .1 .1 .1 .1 .1 .1 .1 in
-    lent-on (g s) (s .args .top .now) (s .args .settings .clockwise) (s .args .settings .minimum) (b s) (sym (o .check-graph .ensures .0 .2) ∙ t)
-    (o .check-graph .ensures .1 t) (λ few. as-wide _ _ _ _ (s .pre .0 few) (k .0) (k .1 .0) (k .1 .1 .0))
+    let k = o .check-few .kept .1 .1 .1 .1 .1 .1 .1 .1 .1 .1 .1 in
+    lent-on (g s) (s .args .top .now) (s .args .settings .clockwise) (s .args .settings .minimum) (b s) (sym (o .check-few .ensures .0 .2) ∙ t)
+    (o .check-few .ensures .1 t) (λ few. as-wide _ _ _ _ (s .pre .0 few) (k .0) (k .1 .0) (k .1 .1 .0))
 
 extract-fine-requires : tie.Need-extract-fine-requires
 extract-fine-requires c κs =
@@ -62,7 +63,7 @@ returns c =
     let o = c .before .before .before .before .before .before .before .before .before in
     let s = at-start o in
     after-refusal (g s) (s .args .top .now) (s .args .settings .clockwise) (s .args .settings .minimum) (b s) _ _
-    (sym (o .check-graph .ensures .0 .2) ∙ c .before .number .given .1)
+    (sym (o .check-few .ensures .0 .2) ∙ c .before .number .given .1)
 
 same-length-5 : tie.Need-same-length-5
 same-length-5 c = search needs
@@ -96,9 +97,9 @@ returns-2 c =
     let t = c .before .before .before .before .before .before .before .before .before .before .before .before .before .before .before .before
     .before .before .enum-told .given .1 in
     c .before .before .before .before .before .before .before .before .before .extract-fine .ensures (graphOf (g s) (s .args .top .now)) (lends o t .0)
-    ∙ after-fine (g s) (s .args .top .now) (s .args .settings .clockwise) (s .args .settings .minimum) (b s) (sym (o .check-graph .ensures .0 .2) ∙ t)
+    ∙ after-fine (g s) (s .args .top .now) (s .args .settings .clockwise) (s .args .settings .minimum) (b s) (sym (o .check-few .ensures .0 .2) ∙ t)
 
 pub extract-few-in-spec : {M : Type 1} → statement M
-extract-few-in-spec = tie.close (tie.spec check-graph-requires enum-known-number enum-told extract-fine-requires same-length
+extract-few-in-spec = tie.close (tie.spec check-few-requires enum-known-number enum-told extract-fine-requires same-length
     same-length-2 same-length-3 same-length-4 returns same-length-5 same-length-6 same-length-7 same-length-8
     same-length-9 same-length-10 same-length-11 same-length-12 returns-2)

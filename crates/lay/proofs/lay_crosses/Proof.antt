@@ -1,5 +1,5 @@
 -- `lay::lay_crosses` meets its contract; the invariant: nothing is wrong with the `Cross`es below v, and they are laid.
-use Prim.Native.Nat.{ℕ, _+_, _≤_, _-_}
+use Prim.Native.Nat.{ℕ, _+_, _≤_, _<_, _-_}
 use native.Mathlib.Omega.{arith}
 use mathlib.Core.Path.{_≡_, refl, sym, _∙_}
 use mathlib.Core.List.{List}
@@ -14,12 +14,12 @@ use Rattle.lay.proofs.lay_crosses.Statement.{statement}
 use Rattle.lay.proofs.lay_crosses.Tie as tie
 
 abbrev Inv-loop : tie.InvT-loop
-Inv-loop ax ay bx by aid bid start list state nxt₀ prv₀ m from₀ v₀ nxt prv from v =
-    (v ≤ m) × (length nxt ≡ length nxt₀) × (length prv ≡ length prv₀)
+Inv-loop ax ay bx by aid bid start list state most nxt₀ prv₀ from₀ v₀ nxt prv from v =
+    (v ≤ length start - 1) × (length nxt ≡ length nxt₀) × (length prv ≡ length prv₀)
     × (Crossing (lent ax ay bx by aid bid start list) state from v nxt₀ nxt prv)
 
 abbrev μ-loop : tie.MeasureT-loop
-μ-loop ax ay bx by aid bid start list state nxt₀ prv₀ m from₀ v₀ nxt prv from v = m - v
+μ-loop ax ay bx by aid bid start list state most nxt₀ prv₀ from₀ v₀ nxt prv from v = length start - 1 - v
 
 -- what is lent of the graph
 abbrev lists : tie.Start Inv-loop μ-loop → Lent
@@ -28,18 +28,23 @@ lists s = let x = s .args in lent (x .ax .now) (x .ay .now) (x .bx .now) (x .by 
 rising : (s : tie.Start Inv-loop μ-loop) → Rising (s .args .start .now) (s .args .list .now)
 rising s = s .pre .1 .1 .1 .0 .1
 
-sub-m : tie.Need-sub-m Inv-loop μ-loop
-sub-m c = omega (arith, rising (c .before .before .before .before .before .before .before) .any)
-
 loop-holds : tie.Need-loop-holds Inv-loop μ-loop
 loop-holds c =
     let s = c .before .before .before .before .before .before .before in
     let x = s .args in
     (omega arith, refl, refl, crossing-none (lists s) (x .state .now) (rising s) (x .nxt .now) (x .prv .now))
 
--- the start, from a turn of the loop
+-- the start, from a turn of the loop; and the node that it looks at
 abbrev begin : tie.In-loop Inv-loop μ-loop → tie.Start Inv-loop μ-loop
 begin c = c .before .before .before .before .before .before .before .before .before
+
+below : (c : tie.In-loop Inv-loop μ-loop) → c .before .loop .v < length (begin c .args .start .now) - 1
+below c = omega (arith, c .loop-test .taken)
+
+add-loop : tie.Need-add-loop Inv-loop μ-loop
+add-loop c =
+    let s = c .before .before .before .before .before .before .before .before in
+    omega (arith, c .loop .inv .0, rising s .any, s .good)
 
 add-wide : tie.Need-add-wide Inv-loop μ-loop
 add-wide c = omega (arith, c .loop-test .taken, begin c .good)
@@ -66,7 +71,7 @@ add-if1 : tie.Need-add-if1 Inv-loop μ-loop
 add-if1 c =
     let t = turn c in
     let l = t .before .loop in
-    omega (arith, l .inv .3 .place, c .wide .ensures, rising (begin t) .step (l .v) (t .loop-test .taken), within c, begin t .good)
+    omega (arith, l .inv .3 .place, c .wide .ensures, rising (begin t) .step (l .v) (below t), within c, begin t .good)
 
 -- ---- a `Bridge`
 add-v : tie.Need-add-v Inv-loop μ-loop
@@ -84,21 +89,40 @@ loop-again c =
       omega (arith, t .loop-test .taken),
       l .inv .1,
       l .inv .2,
-      crossing-other (lists s) (s .args .state .now) (rising s) (l .inv .3) (d .wide .result) (t .loop-test .taken) (d .wide .ensures) (c .if1 .taken),
+      crossing-other (lists s) (s .args .state .now) (rising s) (l .inv .3) (d .wide .result) (below t) (d .wide .ensures) (c .if1 .taken),
     )
 
 -- ---- a `Cross`
+add-if2 : tie.Need-add-if2 Inv-loop μ-loop
+add-if2 c =
+    let t = turn (c .before) in
+    let s = begin t in
+    let l = t .before .loop in
+    omega (arith, l .inv .3 .place, c .before .wide .ensures, rising s .step (l .v) (below t), within (c .before), s .pre .1 .1 .1 .1 .3, s .good)
+
+-- more entries than are to be laid
+same-length : tie.Need-same-length Inv-loop μ-loop
+same-length c = turn (c .before .before) .before .loop .inv .1
+
+same-length-2 : tie.Need-same-length-2 Inv-loop μ-loop
+same-length-2 c = turn (c .before .before) .before .loop .inv .2
+
+returns : tie.Need-returns Inv-loop μ-loop
+returns c =
+    let l = turn (c .before .before) .before .loop in
+    (omega (arith, c .if2 .taken, within (c .before .before)), l .inv .3 .same)
+
 entries-requires : tie.Need-entries-requires Inv-loop μ-loop
-entries-requires c κs = let t = turn (c .before) in (rising (begin t), t .loop-test .taken)
+entries-requires c κs = let t = turn (c .before .before) in (rising (begin t), below t)
 
 lay-cross-requires : tie.Need-lay-cross-requires Inv-loop μ-loop
 lay-cross-requires c κs =
-    let t = turn (c .before .before .before .before) in
+    let t = turn (c .before .before .before .before .before) in
     let s = begin t in
     let p = s .pre in
     let l = t .before .loop in
     let n = p .1 .1 .1 .1 in
-    let k = any-entry (rising s) (l .v) (t .loop-test .taken) _ (c .before .before .entries .ensures) in
+    let k = any-entry (rising s) (l .v) (below t) _ (c .before .before .entries .ensures) in
     (p .0, (p .1 .0, (p .1 .1 .0, (p .1 .1 .1 .0 .0, ((n .0, omega (arith, n .1, l .inv .1), omega (arith, n .2, l .inv .2)), k)))))
 
 -- what the call for a `Cross` leaves, and where it stands
@@ -109,7 +133,7 @@ abbrev prv-left : tie.After-lay-cross Inv-loop μ-loop → List ℕ
 prv-left c = c .lay-cross .last .1 .1 .1 .1 .1 .1 .1 .1 .1 .1 .0
 
 abbrev cross : tie.After-lay-cross Inv-loop μ-loop → tie.Else1 Inv-loop μ-loop
-cross c = c .before .before .before .before
+cross c = c .before .before .before .before .before
 
 abbrev ended : tie.After-lay-cross Inv-loop μ-loop → tie.After-wide Inv-loop μ-loop
 ended c = cross c .before
@@ -120,14 +144,14 @@ nxt-same c = c .lay-cross .kept .1 .1 .1 .1 .1 .1 .1 .1 .1 .0 ∙ turn (ended c)
 prv-same : (c : tie.After-lay-cross Inv-loop μ-loop) → length (prv-left c) ≡ length (begin (turn (ended c)) .args .prv .now)
 prv-same c = c .lay-cross .kept .1 .1 .1 .1 .1 .1 .1 .1 .1 .1 .0 ∙ turn (ended c) .before .loop .inv .2
 
-same-length : tie.Need-same-length Inv-loop μ-loop
-same-length c = nxt-same (c .before .before .before .before .before)
+same-length-3 : tie.Need-same-length-3 Inv-loop μ-loop
+same-length-3 c = nxt-same (c .before .before .before .before .before)
 
-same-length-2 : tie.Need-same-length-2 Inv-loop μ-loop
-same-length-2 c = prv-same (c .before .before .before .before .before)
+same-length-4 : tie.Need-same-length-4 Inv-loop μ-loop
+same-length-4 c = prv-same (c .before .before .before .before .before)
 
-returns : tie.Need-returns Inv-loop μ-loop
-returns c =
+returns-2 : tie.Need-returns-2 Inv-loop μ-loop
+returns-2 c =
     let d = c .before .before .before .before .before in
     let h = d .lay-cross in
     let to = ended d .wide in
@@ -136,10 +160,10 @@ returns c =
     let s = begin t in
     let x = s .args in
     let o = cross-outcome (x .ax .now) (x .ay .now) (x .bx .now) (x .by .now) (x .aid .now) (x .bid .now) (x .state .now) (x .start .now) (x .list .now)
-    (l .v) (h .result) (nxt-left d) (rising s) (t .loop-test .taken) (l .from) (to .result) (l .inv .3 .place) (to .ensures)
+    (l .v) (h .result) (nxt-left d) (rising s) (below t) (l .from) (to .result) (l .inv .3 .place) (to .ensures)
     (prv-left d) (cross d .if1 .left) _ (d .before .before .before .entries .ensures) (h .ensures .0) (h .ensures .1 .0) in (
-      found-wrong (lists s) (x .state .now) _ (l .v) (t .loop-test .taken) (h .result) (o .0) (c .if2 .taken),
-      crossing-same (lists s) (x .state .now) (rising s) (l .inv .3) (to .result) (t .loop-test .taken) (to .ensures) (nxt-left d) (cross d .if1 .left)
+      found-wrong (lists s) (x .state .now) _ (l .v) (below t) (h .result) (o .0) (c .if3 .taken),
+      crossing-same (lists s) (x .state .now) (rising s) (l .inv .3) (to .result) (below t) (to .ensures) (nxt-left d) (cross d .if1 .left)
           (h .ensures .1 .1 .0),
     )
 
@@ -159,29 +183,30 @@ loop-again-2 c =
     let s = begin t in
     let x = s .args in
     let o = cross-outcome (x .ax .now) (x .ay .now) (x .bx .now) (x .by .now) (x .aid .now) (x .bid .now) (x .state .now)
-    (x .start .now) (x .list .now) (l .v) (h .result) (nxt-left d) (rising s) (t .loop-test .taken) (l .from) (to .result)
+    (x .start .now) (x .list .now) (l .v) (h .result) (nxt-left d) (rising s) (below t) (l .from) (to .result)
     (l .inv .3 .place) (to .ensures) (prv-left d) (cross d .if1 .left) _ (d .before .before .before .entries .ensures) (h .ensures .0) (h .ensures .1 .0) in (
       omega (arith, t .loop-test .taken),
       nxt-same d,
       prv-same d,
-      crossing-more (lists s) (x .state .now) (rising s) (l .inv .3) (to .result) (t .loop-test .taken) (to .ensures) (cross d .if1 .left)
-          (sym (o .0) ∙ c .if2 .left) (o .1 (c .if2 .left)) (h .ensures .1 .1 .0) (h .ensures .1 .1 .1),
+      crossing-more (lists s) (x .state .now) (rising s) (l .inv .3) (to .result) (below t) (to .ensures) (cross d .if1 .left)
+          (sym (o .0) ∙ c .if3 .left) (o .1 (c .if3 .left)) (h .ensures .1 .1 .0) (h .ensures .1 .1 .1),
     )
 
 -- ---- all nodes are past
-same-length-3 : tie.Need-same-length-3 Inv-loop μ-loop
-same-length-3 c = c .before .loop .inv .1
+same-length-5 : tie.Need-same-length-5 Inv-loop μ-loop
+same-length-5 c = c .before .loop .inv .1
 
-same-length-4 : tie.Need-same-length-4 Inv-loop μ-loop
-same-length-4 c = c .before .loop .inv .2
+same-length-6 : tie.Need-same-length-6 Inv-loop μ-loop
+same-length-6 c = c .before .loop .inv .2
 
-returns-2 : tie.Need-returns-2 Inv-loop μ-loop
-returns-2 c =
+returns-3 : tie.Need-returns-3 Inv-loop μ-loop
+returns-3 c =
     let s = c .before .before .before .before .before .before .before .before .before in
     let i = c .before .loop .inv .3 in
-    (crossing-all (lists s) (s .args .state .now) _ (omega (arith, c .loop-test .left)) i, i .same)
+    (crossing-all (lists s) (s .args .state .now) _ (omega (arith, c .loop-test .left)) i (s .args .most), i .same)
 
 pub lay-crosses-spec : {M : Type 1} → statement M
 lay-crosses-spec =
-    tie.close (tie.spec Inv-loop μ-loop sub-m loop-holds add-wide mul-wide shared-slice-read-wide wide-requires add-if1 add-v loop-less loop-again
-    entries-requires lay-cross-requires same-length same-length-2 returns add-v-2 loop-less-2 loop-again-2 same-length-3 same-length-4 returns-2)
+    tie.close (tie.spec Inv-loop μ-loop loop-holds add-loop add-wide mul-wide shared-slice-read-wide wide-requires add-if1 add-v loop-less loop-again
+    add-if2 same-length same-length-2 returns entries-requires lay-cross-requires same-length-3 same-length-4 returns-2 add-v-2 loop-less-2 loop-again-2
+    same-length-5 same-length-6 returns-3)

@@ -50,7 +50,7 @@ lay-crosses-requires c κs =
     let d = c .before .before .before .before .before .before .before .before in
     let p = start d .pre in
     let n = p .1 .1 .1 .1 .0 in
-    (p .0, (p .1 .0, (p .1 .1 .0, ((p .1 .1 .1 .0 .0, p .1 .1 .1 .0 .1), (n .0, omega (arith, n .1, nxt-same d), n .2)))))
+    (p .0, (p .1 .0, (p .1 .1 .0, ((p .1 .1 .1 .0 .0, p .1 .1 .1 .0 .1), (n .0, omega (arith, n .1, nxt-same d), n .2, n .4)))))
 
 same-length : tie.Need-same-length
 same-length c = nxt-same (c .before .before .before .before .before .before)
@@ -62,7 +62,8 @@ returns : tie.Need-returns
 returns c =
     let d = c .before .before .before .before .before .before in
     let s = start d in
-    nodes-wrong (lists s) (s .args .state .now) _ (nxt-left d) (s .args .prv .now) (lead-left d) (d .lay-bridges .result) (c .enum-told .given .1)
+    nodes-wrong (lists s) (s .args .state .now) _ (s .args .most) (nxt-left d) (s .args .prv .now) (lead-left d) (d .lay-bridges .result) (c
+    .enum-told .given .1)
     (d .lay-bridges .ensures)
 
 same-length-3 : tie.Need-same-length-3
@@ -75,7 +76,8 @@ returns-2 : tie.Need-returns-2
 returns-2 c =
     let d = c .before .before .before .before .before .before in
     let s = start d in
-    nodes-bridges (lists s) (s .args .state .now) _ (nxt-left d) (s .args .prv .now) (lead-left d) (d .lay-bridges .result) (c .enum-told2 .given .1)
+    nodes-bridges (lists s) (s .args .state .now) _ (s .args .most) (nxt-left d) (s .args .prv .now) (lead-left d) (d .lay-bridges .result) (c
+    .enum-told2 .given .1)
     (d .lay-bridges .ensures)
 
 -- the pass over the `Cross`es; that there are some; and the pass over the `Bridge`s, which said so
@@ -89,10 +91,10 @@ abbrev bridged : tie.After-enum-told3 → tie.After-lay-bridges
 bridged c = c .before .before .before .before .before .before
 
 same-length-5 : tie.Need-same-length-5
-same-length-5 c = crossed c .lay-crosses .kept .1 .1 .1 .1 .1 .1 .1 .1 .1 .0 ∙ nxt-same (bridged (told (crossed c)))
+same-length-5 c = crossed c .lay-crosses .kept .1 .1 .1 .1 .1 .1 .1 .1 .1 .1 .0 ∙ nxt-same (bridged (told (crossed c)))
 
 same-length-6 : tie.Need-same-length-6
-same-length-6 c = crossed c .lay-crosses .kept .1 .1 .1 .1 .1 .1 .1 .1 .1 .1 .0
+same-length-6 c = crossed c .lay-crosses .kept .1 .1 .1 .1 .1 .1 .1 .1 .1 .1 .1 .0
 
 same-length-7 : tie.Need-same-length-7
 same-length-7 c = lead-same (bridged (told (crossed c)))
@@ -103,7 +105,8 @@ returns-3 c =
     let d = bridged e in
     let k = crossed c .lay-crosses in
     let s = start d in
-    nodes-crosses (lists s) (s .args .state .now) _ (nxt-left d) (k .last .1 .1 .1 .1 .1 .1 .1 .1 .1 .0) (k .last .1 .1 .1 .1 .1 .1 .1 .1 .1 .1 .0)
+    nodes-crosses (lists s) (s .args .state .now) _ (s .args .most) (nxt-left d) (k .last .1 .1 .1 .1 .1 .1 .1 .1 .1 .1 .0) (k .last .1 .1 .1 .1 .1
+    .1 .1 .1 .1 .1 .1 .0)
     (lead-left d) (d .lay-bridges .result) (e .enum-told3 .given .1) (d .lay-bridges .ensures) (k .result) (k .ensures .0) (k .ensures .1)
 
 pub lay-nodes-spec : {M : Type 1} → statement M

@@ -1,0 +1,3 @@
+-- What the pass over the starts tells.
+pub mod Odds
+pub mod Promises
