@@ -1,7 +1,7 @@
 //! The library against the reading of document 01: every answer and every byte of every buffer, on generated graphs and
 //! tables, good and damaged. Seeds are fixed; the counts are printed (`cargo test -- --nocapture`).
 
-use generators::planar::{FAMILIES, sample};
+use generators::planar::{FAMILIES, Family, sample};
 use generators::rng::Rng;
 use generators::{Sample, damage, planar, tables, wild};
 use lending::LIBRARY;
@@ -97,6 +97,26 @@ fn large_graphs() {
         compare_extraction(&sample.graph, &lent, settings, &mut tally);
     }
     tally.report("large", &[0]);
+}
+
+/// More entries at a node than are laid in the order in which they come.
+#[test]
+fn nodes_of_many_links() {
+    let mut tally = Tally::default();
+    let mut graphs_with_many = 0;
+    for seed in 0..600 {
+        let mut rng = Rng::new(seed ^ 11 << 40);
+        let sample = sample(rng.choose(&[Family::Fan, Family::Flower]), 40, &mut rng);
+        let (settings, mut lent) = (settings(&sample, &mut rng), sample.soiled_buffers(&mut rng));
+        let mut graph = sample.graph;
+        graphs_with_many += (0..graph.nodes()).any(|node| graph.entries(node).count() > 32) as usize;
+        if rng.chance(50) {
+            damage::graph(rng.choose(&[5, 6, 7]), &mut graph, &mut lent, &mut rng);
+        }
+        compare_extraction(&graph, &lent, settings, &mut tally);
+    }
+    assert!(graphs_with_many > 200, "only {graphs_with_many} graphs have such a node");
+    tally.report("many links at a node", &[0, 5, 6, 7]);
 }
 
 #[test]
