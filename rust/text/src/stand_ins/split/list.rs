@@ -11,9 +11,26 @@ use crate::int::number::int::IntNumber;
 use crate::segm::segment::Segment;
 use crate::segm::winding::WindingCount;
 
+/// Each layout by its name: what stands for it is the same.
+macro_rules! layouts {
+    ($($layout:ident)*) => {$(
+        pub(super) fn $layout<C: WindingCount, D: OverlayEdgeData<C>>(
+            &mut self,
+            snap_radius: SnapRadius,
+            segments: &mut Vec<Segment<C, I, D>>,
+            solver: &Solver,
+            store: &mut D::Store,
+        ) -> bool {
+            self.split_at_crossings(snap_radius, segments, solver, store)
+        }
+    )*};
+}
+
 impl<I: OverlayInt> SplitSolver<I> {
+    layouts! { list_split tree_split fragment_split }
+
     /// Splits at the crossings, and again as long as one of them was rounded.
-    pub(super) fn list_split<C: WindingCount, D: OverlayEdgeData<C>>(
+    fn split_at_crossings<C: WindingCount, D: OverlayEdgeData<C>>(
         &mut self,
         mut snap_radius: SnapRadius,
         segments: &mut Vec<Segment<C, I, D>>,
@@ -33,26 +50,6 @@ impl<I: OverlayInt> SplitSolver<I> {
             snap_radius.increment();
         }
         any_intersection
-    }
-
-    pub(super) fn tree_split<C: WindingCount, D: OverlayEdgeData<C>>(
-        &mut self,
-        snap_radius: SnapRadius,
-        segments: &mut Vec<Segment<C, I, D>>,
-        solver: &Solver,
-        store: &mut D::Store,
-    ) -> bool {
-        self.list_split(snap_radius, segments, solver, store)
-    }
-
-    pub(super) fn fragment_split<C: WindingCount, D: OverlayEdgeData<C>>(
-        &mut self,
-        snap_radius: SnapRadius,
-        segments: &mut Vec<Segment<C, I, D>>,
-        solver: &Solver,
-        store: &mut D::Store,
-    ) -> bool {
-        self.list_split(snap_radius, segments, solver, store)
     }
 
     /// Whether a crossing was rounded.
