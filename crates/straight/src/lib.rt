@@ -1,0 +1,1 @@
+// Points on a straight line are dropped (request a): the corners of a contour.
