@@ -161,6 +161,10 @@ corners-short prev home (p ∷ l) = by (onLine prev p (headOr home l)) (corners-
     by true h = omega arith
     by false h = omega arith
 
+pub corners-few : (l : List Point) → length (allCorners l) ≤ length l
+corners-few [] = omega arith
+corners-few (p ∷ l) = corners-short (lastOr p l) p (p ∷ l)
+
 corners-full : (prev home : Point) (l : List Point) → length l ≤ length (corners prev home l) → corners prev home l ≡ l
 corners-full prev home [] h = refl
 corners-full prev home (p ∷ l) h = by (onLine prev p (headOr home l)) h (corners-short p home l) (corners-full p home l)

@@ -1,1 +1,1 @@
-// Points on a straight line are dropped (request a): the corners of a contour.
+// No function: the rule that drops points on a straight line (document 02, a)) and what is true of it stand in specs/.

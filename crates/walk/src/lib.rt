@@ -12,9 +12,9 @@ ghost use Rattle.rings.specs.Ends.{aEnd, bEnd, linkOf, isA, far, nodeOfEnd};
 ghost use Rattle.rings.specs.Linked.{stepOf};
 ghost use Rattle.rings.specs.Field.{crossMark, nextOf, prevOf, Steers, Steered, Reads};
 ghost use Rattle.walk.specs.Walk.{walkOn};
-ghost use Rattle.walk.specs.Code.{put, Kept, Marks, Arrived, GoesTo, EndsUnvisited, Summed, stepOut, stepBy, Goes};
+ghost use Rattle.walk.specs.Code.{Kept, Marks, Arrived, GoesTo, EndsUnvisited, Summed, stepOut, stepBy, Goes};
 ghost use Rattle.walk.specs.Code.{RestLeaves, Counted, Sized, SizedFrom};
-ghost use Rattle.walk.specs.Promises.{find-contour-says};
+ghost use Rattle.walk.specs.Promises.{put-point-says, find-contour-says};
 use rings::CROSS;
 use rings::far;
 use turn::Point;
@@ -119,9 +119,9 @@ fn start_point(ax: &[i32], ay: &[i32], bx: &[i32], by: &[i32], h: usize) -> Poin
 }
 
 // Point number `at` is written.
-fn put_point(points: &mut [i32], at: usize, p: Point)
+pub fn put_point(points: &mut [i32], at: usize, p: Point)
     requires { ⌜ at * 2 + 1 < length (now points) ⌝ }
-    ensures { λ _. ⌜ now (points .exit) ≡ put (now (points .entry)) at p ⌝ }
+    ensures { λ _. ⌜ put-point-says (now (points .entry)) at p (now (points .exit)) ⌝ }
 {
     let i = at * 2;
     let x = p.x;

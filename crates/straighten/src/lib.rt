@@ -1,0 +1,79 @@
+// Points on a straight line are dropped from what extraction wrote, in one pass over it. Where no contour has a spike this is the rule of `straight`.
+ghost use mathlib.Core.Path.{_≡_};
+ghost use mathlib.Core.List.{List};
+ghost use Prim.Native.Nat.{ℕ, _+_, _*_, _<_, _≤_};
+ghost use lib.ListN.{length};
+ghost use lib.Seq.{sets};
+ghost use Rattle.laws.specs.Test.{pick};
+ghost use Rattle.turn.specs.Points.{OnGrid};
+ghost use Rattle.walk.specs.Code.{put, paste};
+ghost use Rattle.table.specs.Table.{pointIn};
+ghost use Rattle.straight.specs.Straight.{onLine};
+ghost use Rattle.straight.specs.Corners.{allCorners};
+ghost use Rattle.keep.specs.Outcome.{firsts, sum};
+ghost use Rattle.straighten.specs.Runs.{run, RunOnGrid, contoursOf, cornersOf, sizes, joined, Stands};
+use table::point_in;
+use turn::Point;
+use turn::turn_of;
+use turn::wide;
+use walk::put_point;
+
+// A corner is written as point number `to`; a point on one line with its neighbours is not.
+fn keep_corner(points: &mut [i32], prev: Point, p: Point, next: Point, to: usize) -> usize
+    requires { ⌜ (OnGrid prev) × (OnGrid p) × (OnGrid next) × (to * 2 + 1 < length (now points)) ⌝ }
+    ensures { λ r. ⌜ r ≡ pick (onLine prev p next) to (to + 1) ⌝ }
+    ensures { λ _. ⌜ now (points .exit) ≡ pick (onLine prev p next) (now (points .entry)) (put (now (points .entry)) to p) ⌝ }
+{
+    if turn_of(prev, p, next) == 0 {
+        return to;
+    }
+    put_point(points, to, p);
+    to + 1
+}
+
+// The corners of the contour of `size` points from number `from` on are written from number `to` on.
+fn keep_corners(points: &mut [i32], from: usize, size: usize, to: usize) -> usize
+    requires { ⌜ (to ≤ from) × (0 < size) × ((from + size) * 2 ≤ length (now points)) × (RunOnGrid (now points) from size) ⌝ }
+    ensures { λ r. ⌜ r ≡ to + length (allCorners (run (now (points .entry)) from size)) ⌝ }
+    ensures { λ _. ⌜ now (points .exit) ≡ paste (now (points .entry)) to (allCorners (run (now (points .entry)) from size)) ⌝ }
+{
+    let end = from + size;
+    let home = point_in(points, from);
+    let mut prev = point_in(points, end - 1);
+    let mut p = home;
+    let mut w = to;
+    let mut i = from + 1;
+    while i < end {
+        let next = point_in(points, i);
+        w = keep_corner(points, prev, p, next, w);
+        prev = p;
+        p = next;
+        i += 1;
+    }
+    keep_corner(points, prev, p, home, w)
+}
+
+// The pass: the corners of each contour are written after those of the contour before it, and the table has their place and number.
+fn pass_contours(points: &mut [i32], first: &mut [u32], len: &mut [u32], contours: usize) -> usize
+    requires { ⌜ Stands (now points) (now first) (now len) contours ⌝ }
+    ensures { λ r. ⌜ r ≡ sum (sizes (cornersOf (contoursOf (now (points .entry)) (now (len .entry)) contours))) ⌝ }
+    ensures { λ _. ⌜ now (points .exit)
+        ≡ paste (now (points .entry)) 0 (joined (cornersOf (contoursOf (now (points .entry)) (now (len .entry)) contours))) ⌝ }
+    ensures { λ _. ⌜ now (first .exit)
+        ≡ sets (now (first .entry)) 0 (firsts 0 (sizes (cornersOf (contoursOf (now (points .entry)) (now (len .entry)) contours)))) ⌝ }
+    ensures { λ _. ⌜ now (len .exit) ≡ sets (now (len .entry)) 0 (sizes (cornersOf (contoursOf (now (points .entry)) (now (len .entry)) contours))) ⌝ }
+{
+    let mut c = 0;
+    let mut at = 0;
+    let mut to = 0;
+    while c < contours {
+        let size = wide(len[c]);
+        let end = keep_corners(points, at, size, to);
+        first[c] = to as u32;
+        len[c] = (end - to) as u32;
+        at += size;
+        to = end;
+        c += 1;
+    }
+    to
+}
