@@ -38,7 +38,7 @@ nines state points contours = buffers state (replicate (2 * points) (p 9)) (repl
 
 -- ---- E1: no links, no nodes
 pub e1 : extracted (lent [] [] [] [] [] [] (0 ∷ []) []) [] false 0 (nines [] 1 1)
-    ≡ extractedAs (Done (record { contours = 0; points = 0; rejected = 0; walked = 0; «kept_area» = p 0; «rejected_area» = p 0 }))
+    ≡ extractedAs (Done (record { contours = 0; points = 0; rejected = 0; walked = 0; «left_out» = 0; «kept_area» = p 0; «rejected_area» = p 0 }))
     (buffers [] (p 0 ∷ p 0 ∷ []) (0 ∷ []) (0 ∷ []) (0 ∷ []))
 unfolding extracted checked linksChecked eachChecked nodesChecked lowest count scanOn
 e1 = refl
@@ -50,7 +50,7 @@ extractSquare clockwise minimum state = extracted square tops clockwise minimum 
 -- one hull (0,4) (0,0) (4,0) (4,4), doubled area 32
 abbrev pub oneHull : Extracted
 oneHull =
-    extractedAs (Done (record { contours = 1; points = 4; rejected = 0; walked = 4; «kept_area» = p 32; «rejected_area» = p 0 }))
+    extractedAs (Done (record { contours = 1; points = 4; rejected = 0; walked = 4; «left_out» = 0; «kept_area» = p 32; «rejected_area» = p 0 }))
     (buffers (3 ∷ 3 ∷ 3 ∷ 3 ∷ []) (p 0 ∷ p 4 ∷ p 0 ∷ p 0 ∷ p 4 ∷ p 0 ∷ p 4 ∷ p 4 ∷ p 0 ∷ p 0 ∷ []) (0 ∷ 0 ∷ []) (4 ∷ 0 ∷ []) (0 ∷ 0 ∷ []))
 
 pub e2 : extractSquare false 0 unvisited ≡ oneHull
@@ -63,7 +63,7 @@ e2-walks = refl
 
 -- E3: clockwise, (0,0) (0,4) (4,4) (4,0)
 pub e3 : extractSquare true 0 unvisited
-    ≡ extractedAs (Done (record { contours = 1; points = 4; rejected = 0; walked = 4; «kept_area» = m 32; «rejected_area» = p 0 }))
+    ≡ extractedAs (Done (record { contours = 1; points = 4; rejected = 0; walked = 4; «left_out» = 0; «kept_area» = m 32; «rejected_area» = p 0 }))
     (buffers (3 ∷ 3 ∷ 3 ∷ 3 ∷ []) (p 0 ∷ p 0 ∷ p 0 ∷ p 4 ∷ p 4 ∷ p 4 ∷ p 4 ∷ p 0 ∷ p 0 ∷ p 0 ∷ []) (0 ∷ 0 ∷ []) (4 ∷ 0 ∷ []) (0 ∷ 0 ∷ []))
 unfolding extracted checked linksChecked eachChecked nodesChecked lowest count scanOn walkOn walkFrom nextLink firstLink
 e3 = refl
@@ -79,7 +79,7 @@ e4 = refl
 
 -- E5: 17 rejects, links walked 4
 pub e5 : extractSquare false 17 unvisited
-    ≡ extractedAs (Done (record { contours = 0; points = 0; rejected = 1; walked = 4; «kept_area» = p 0; «rejected_area» = p 32 }))
+    ≡ extractedAs (Done (record { contours = 0; points = 0; rejected = 1; walked = 4; «left_out» = 0; «kept_area» = p 0; «rejected_area» = p 32 }))
     (buffers (3 ∷ 3 ∷ 3 ∷ 3 ∷ []) (replicate 10 (p 0)) (0 ∷ 0 ∷ []) (0 ∷ 0 ∷ []) (0 ∷ 0 ∷ []))
 unfolding extracted checked linksChecked eachChecked nodesChecked lowest count scanOn walkOn walkFrom nextLink firstLink
 e5 = refl
@@ -100,14 +100,14 @@ extractTriangle minimum =
 
 -- minimum 0 keeps it
 pub e6 : extractTriangle 0
-    ≡ extractedAs (Done (record { contours = 1; points = 3; rejected = 0; walked = 3; «kept_area» = p 1; «rejected_area» = p 0 }))
+    ≡ extractedAs (Done (record { contours = 1; points = 3; rejected = 0; walked = 3; «left_out» = 0; «kept_area» = p 1; «rejected_area» = p 0 }))
     (buffers (3 ∷ 3 ∷ 3 ∷ []) (p 0 ∷ p 1 ∷ p 0 ∷ p 0 ∷ p 1 ∷ p 0 ∷ []) (0 ∷ []) (3 ∷ []) (0 ∷ []))
 unfolding extracted checked linksChecked eachChecked nodesChecked lowest count scanOn walkOn walkFrom nextLink firstLink
 e6 = refl
 
 -- 1 rejects it
 pub e6-rejected : extractTriangle 1
-    ≡ extractedAs (Done (record { contours = 0; points = 0; rejected = 1; walked = 3; «kept_area» = p 0; «rejected_area» = p 1 }))
+    ≡ extractedAs (Done (record { contours = 0; points = 0; rejected = 1; walked = 3; «left_out» = 0; «kept_area» = p 0; «rejected_area» = p 1 }))
     (buffers (3 ∷ 3 ∷ 3 ∷ []) (replicate 6 (p 0)) (0 ∷ []) (0 ∷ []) (0 ∷ []))
 unfolding extracted checked linksChecked eachChecked nodesChecked lowest count scanOn walkOn walkFrom nextLink firstLink
 e6-rejected = refl
@@ -127,7 +127,7 @@ abbrev pub fanTops : List ℕ
 fanTops = 1 ∷ 0 ∷ 1 ∷ 0 ∷ 1 ∷ 0 ∷ 1 ∷ 1 ∷ 1 ∷ []
 
 pub e8 : extracted fan fanTops false 2 (nines (replicate 9 0) 9 3)
-    ≡ extractedAs (Done (record { contours = 1; points = 3; rejected = 2; walked = 9; «kept_area» = p 100; «rejected_area» = p 4 }))
+    ≡ extractedAs (Done (record { contours = 1; points = 3; rejected = 2; walked = 9; «left_out» = 0; «kept_area» = p 100; «rejected_area» = p 4 }))
     (buffers (replicate 9 3) (p 10 ∷ m 10 ∷ p 0 ∷ p 0 ∷ p 10 ∷ m 20 ∷ replicate 12 (p 0)) (0 ∷ 0 ∷ 0 ∷ []) (3 ∷ 0 ∷ 0 ∷ []) (0 ∷ 0 ∷ 0 ∷ []))
 unfolding extracted checked linksChecked eachChecked nodesChecked lowest count scanOn walkOn walkFrom nextLink firstLink
 e8 = refl

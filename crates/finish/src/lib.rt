@@ -7,7 +7,7 @@ ghost use lib.IntN.{pos};
 ghost use Rattle.laws.specs.Lists.{mapFrom};
 ghost use Rattle.walk.specs.Code.{unmark};
 ghost use Rattle.finish.specs.Finish.{buffers, Holds};
-ghost use Rattle.finish.specs.Promises.{finish-says};
+ghost use Rattle.finish.specs.Promises.{zero-points-says, finish-says};
 use scan::Extraction;
 
 fn unmarked(x: u8) -> u8
@@ -38,9 +38,10 @@ fn zero_numbers(s: &mut [u32], from: usize)
     }
 }
 
-fn zero_points(s: &mut [i32], from: usize)
+// Coordinates from index `from` on become 0.
+pub fn zero_points(s: &mut [i32], from: usize)
     requires { ⌜ from ≤ length (now s) ⌝ }
-    ensures { λ _. ⌜ now (s .exit) ≡ mapFrom (λ _. pos 0) from (now (s .entry)) ⌝ }
+    ensures { λ _. ⌜ zero-points-says (now (s .entry)) from (now (s .exit)) ⌝ }
 {
     let mut i = from;
     while i < s.len() {

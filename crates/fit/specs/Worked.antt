@@ -72,7 +72,7 @@ triangle =
 
 -- one hull (0,4) (0,0) (4,0) (4,4), doubled area 32
 abbrev hull : Extracted
-hull = extractedAs (Done (record { contours = 1; points = 4; rejected = 0; walked = 4; «kept_area» = p 32; «rejected_area» = p 0 }))
+hull = extractedAs (Done (record { contours = 1; points = 4; rejected = 0; walked = 4; «left_out» = 0; «kept_area» = p 32; «rejected_area» = p 0 }))
     (buffers (3 ∷ 3 ∷ 3 ∷ 3 ∷ []) (p 0 ∷ p 4 ∷ p 0 ∷ p 0 ∷ p 4 ∷ p 0 ∷ p 4 ∷ p 4 ∷ p 0 ∷ p 0 ∷ []) none (4 ∷ 0 ∷ []) none)
 
 -- The buffers that are lent hold nines, with room to spare, and the owners sevens.
@@ -80,33 +80,33 @@ abbrev pub rows : List Row
 rows =
     -- E1: no links, no nodes: done, nothing found
     extraction (lent [] [] [] [] [] [] (0 ∷ []) []) [] false 0 (nines [] 1 1)
-    (extractedAs (Done (record { contours = 0; points = 0; rejected = 0; walked = 0; «kept_area» = p 0; «rejected_area» = p 0 }))
+    (extractedAs (Done (record { contours = 0; points = 0; rejected = 0; walked = 0; «left_out» = 0; «kept_area» = p 0; «rejected_area» = p 0 }))
     (buffers [] (p 0 ∷ p 0 ∷ []) (0 ∷ []) (0 ∷ []) (0 ∷ [])))
     -- E2: the square, counterclockwise, minimum 0
     ∷ extraction square tops false 0 (nines unvisited 5 2) hull
     -- E3: E2 clockwise: (0,0) (0,4) (4,4) (4,0)
     ∷ extraction square tops true 0 (nines unvisited 5 2)
-    (extractedAs (Done (record { contours = 1; points = 4; rejected = 0; walked = 4; «kept_area» = m 32; «rejected_area» = p 0 }))
+    (extractedAs (Done (record { contours = 1; points = 4; rejected = 0; walked = 4; «left_out» = 0; «kept_area» = m 32; «rejected_area» = p 0 }))
     (buffers (3 ∷ 3 ∷ 3 ∷ 3 ∷ []) (p 0 ∷ p 0 ∷ p 0 ∷ p 4 ∷ p 4 ∷ p 4 ∷ p 4 ∷ p 0 ∷ p 0 ∷ p 0 ∷ []) none (4 ∷ 0 ∷ []) none))
     -- E4: E2 with minimum 16 kept
     ∷ extraction square tops false 16 (nines unvisited 5 2) hull
     -- E5: 17 rejected, links walked 4
     ∷ extraction square tops false 17 (nines unvisited 5 2)
-    (extractedAs (Done (record { contours = 0; points = 0; rejected = 1; walked = 4; «kept_area» = p 0; «rejected_area» = p 32 }))
+    (extractedAs (Done (record { contours = 0; points = 0; rejected = 1; walked = 4; «left_out» = 0; «kept_area» = p 0; «rejected_area» = p 32 }))
     (buffers (3 ∷ 3 ∷ 3 ∷ 3 ∷ []) (replicate 10 (p 0)) none none none))
     -- E6: the triangle of doubled area 1: minimum 0 keeps, 1 rejects
     ∷ extraction triangle (0 ∷ 1 ∷ 0 ∷ []) false 0 (nines (0 ∷ 0 ∷ 0 ∷ []) 3 1)
-    (extractedAs (Done (record { contours = 1; points = 3; rejected = 0; walked = 3; «kept_area» = p 1; «rejected_area» = p 0 }))
+    (extractedAs (Done (record { contours = 1; points = 3; rejected = 0; walked = 3; «left_out» = 0; «kept_area» = p 1; «rejected_area» = p 0 }))
     (buffers (3 ∷ 3 ∷ 3 ∷ []) (p 0 ∷ p 1 ∷ p 0 ∷ p 0 ∷ p 1 ∷ p 0 ∷ []) (0 ∷ []) (3 ∷ []) (0 ∷ [])))
     ∷ extraction triangle (0 ∷ 1 ∷ 0 ∷ []) false 1 (nines (0 ∷ 0 ∷ 0 ∷ []) 3 1)
-    (extractedAs (Done (record { contours = 0; points = 0; rejected = 1; walked = 3; «kept_area» = p 0; «rejected_area» = p 1 }))
+    (extractedAs (Done (record { contours = 0; points = 0; rejected = 1; walked = 3; «left_out» = 0; «kept_area» = p 0; «rejected_area» = p 1 }))
     (buffers (3 ∷ 3 ∷ 3 ∷ []) (replicate 6 (p 0)) (0 ∷ []) (0 ∷ []) (0 ∷ [])))
     -- E7: E2 with link 0 skipped: 8 at 1
     ∷ extraction square tops false 0 (nines (1 ∷ 0 ∷ 0 ∷ 0 ∷ []) 5 2)
     (extractedAs (Refused 8 1) (buffers (1 ∷ 0 ∷ 0 ∷ 0 ∷ []) (replicate 10 (p 0)) none none none))
     -- E8: two walks of doubled area 2 rejected; one hull (10,-10) (0,0) (10,-20), doubled 100
     ∷ extraction fan fanTops false 2 (nines (replicate 9 0) 9 3)
-    (extractedAs (Done (record { contours = 1; points = 3; rejected = 2; walked = 9; «kept_area» = p 100; «rejected_area» = p 4 }))
+    (extractedAs (Done (record { contours = 1; points = 3; rejected = 2; walked = 9; «left_out» = 0; «kept_area» = p 100; «rejected_area» = p 4 }))
     (buffers (replicate 9 3) (p 10 ∷ m 10 ∷ p 0 ∷ p 0 ∷ p 10 ∷ m 20 ∷ replicate 12 (p 0)) (0 ∷ 0 ∷ 0 ∷ []) (3 ∷ 0 ∷ 0 ∷ []) (0 ∷ 0 ∷ 0 ∷ [])))
     ∷ rejections fan fanTops false 2 (replicate 9 0) (p 2 ∷ p 2 ∷ [])
     -- E9: both holes get shape 1, the first from the hull, contour 1, the second through the first, contour 2

@@ -69,6 +69,7 @@ countsOf g minimum ws = record {
   points = sum (lens (kept g minimum ws));
   rejected = length (rejected g minimum ws);
   walked = sum (lens ws);
+  «left_out» = 0;
   «kept_area» = total (areas g (kept g minimum ws));
   «rejected_area» = total (areas g (rejected g minimum ws));
 }

@@ -11,12 +11,14 @@ ghost use Rattle.turn.specs.Area.{wedgeBound};
 ghost use Rattle.keep.specs.Tables.{tables, enterKept, enterRejected, Within};
 ghost use Rattle.keep.specs.Promises.{no-counts-says, note-walk-says};
 
-// What extraction returns on success. `kept_area` and `rejected_area` are the signed doubled totals of kept and of rejected walks.
+// What extraction returns on success. `left_out` counts the contours of which dropping points on a line left fewer than 3: the scan leaves none out.
+// `kept_area` and `rejected_area` are the signed doubled totals of kept and of rejected walks.
 pub struct Counts {
     pub contours: usize,
     pub points: usize,
     pub rejected: usize,
     pub walked: usize,
+    pub left_out: usize,
     pub kept_area: i64,
     pub rejected_area: i64,
 }
@@ -30,6 +32,7 @@ pub fn no_counts() -> Counts
         points: 0,
         rejected: 0,
         walked: 0,
+        left_out: 0,
         kept_area: 0,
         rejected_area: 0,
     }
@@ -47,6 +50,7 @@ fn kept_counts(size: usize, area: i64, c: Counts) -> Counts
         points: c.points + size,
         rejected: c.rejected,
         walked: c.walked + size,
+        left_out: c.left_out,
         kept_area: kept_area,
         rejected_area: rejected_area,
     }
@@ -64,6 +68,7 @@ fn rejected_counts(size: usize, area: i64, c: Counts) -> Counts
         points: c.points,
         rejected: c.rejected + 1,
         walked: c.walked + size,
+        left_out: c.left_out,
         kept_area: kept_area,
         rejected_area: rejected_area,
     }

@@ -42,6 +42,11 @@ run-length : (l : List ℤ) (at n : ℕ) → length (run l at n) ≡ n
 run-length l at zero = refl
 run-length l at (suc n) = ap suc (run-length l (at + 1) n)
 
+-- the corners of some contours are no more than their points
+pub corners-total : (l : List ℤ) (at : ℕ) (ns : List ℕ) → sum (sizes (cornersOf (contoursFrom l at ns))) ≤ sum ns
+corners-total l at [] = omega arith
+corners-total l at (n ∷ ns) = omega (arith, corners-total l (at + n) ns, corners-few (run l at n), run-length l at n)
+
 -- ---- the invariant
 module _ (l : List ℤ) (firsts₀ lens : List ℕ) (m : ℕ) where
   abbrev left : ℕ → List ℕ

@@ -12,6 +12,8 @@ ghost use Rattle.straight.specs.Straight.{onLine};
 ghost use Rattle.straight.specs.Corners.{allCorners};
 ghost use Rattle.keep.specs.Outcome.{firsts, sum};
 ghost use Rattle.straighten.specs.Runs.{run, RunOnGrid, contoursOf, cornersOf, sizes, joined, Stands};
+ghost use Rattle.straighten.specs.Promises.{drop-straight-says};
+use keep::Counts;
 use table::point_in;
 use turn::Point;
 use turn::turn_of;
@@ -76,4 +78,25 @@ fn pass_contours(points: &mut [i32], first: &mut [u32], len: &mut [u32], contour
         c += 1;
     }
     to
+}
+
+// Every contour of a table loses its points on a straight line; past the last point that is left the list is zero.
+pub fn drop_straight(points: &mut [i32], first: &mut [u32], len: &mut [u32], c: Counts) -> Counts
+    requires { ⌜ Stands (now points) (now first) (now len) (c .contours) ⌝ }
+    ensures { λ r. ⌜ drop-straight-says (now (points .entry)) (now (first .entry)) (now (len .entry)) c r (now (points .exit)) (now (first .exit))
+        (now (len .exit)) ⌝ }
+{
+    let to = pass_contours(points, first, len, c.contours);
+    finish::zero_points(points, to * 2);
+    let kept_area = c.kept_area;
+    let rejected_area = c.rejected_area;
+    Counts {
+        contours: c.contours,
+        points: to,
+        rejected: c.rejected,
+        walked: c.walked,
+        left_out: c.left_out,
+        kept_area: kept_area,
+        rejected_area: rejected_area,
+    }
 }
