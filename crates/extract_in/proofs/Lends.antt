@@ -19,7 +19,7 @@ use Rattle.rings.specs.Steering as steering
 use Rattle.scan.specs.declared.Extraction.the-variants.{Refused}
 use Rattle.scan.specs.Scan.{scan}
 use Rattle.finish.specs.Finish.{Buffers}
-use Rattle.scan.specs.Notes.{Roomy}
+use Rattle.contour.specs.Notes.{Roomy}
 use Rattle.walk.specs.Code.{unmark}
 use Rattle.extraction.specs.Extract.{extractedAs, afterScan, afterChecks, extracted}
 

@@ -7,9 +7,9 @@ ghost use Rattle.rings.specs.Field.{Spacious, Unled};
 ghost use Rattle.finish.specs.Finish.{Buffers, buffers};
 ghost use Rattle.extract_in.specs.Promises.{extract-in-says, extract-few-in-says};
 use check_graph::Room;
+use contour::Settings;
 use extraction::extract_fine;
 use scan::Extraction;
-use scan::Settings;
 use turn::Checked;
 
 // Extraction over lists lent to work in: checks 1 to 7, and the scan over the field of ends that they lay there.

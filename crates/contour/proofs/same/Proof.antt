@@ -1,8 +1,8 @@
--- `scan::same` meets its contract: by all four cases.
+-- `contour::same` meets its contract: by all four cases.
 use mathlib.Core.Path.{_≡_, refl}
 use mathlib.Core.Bool.{Bool, true, false, not, _&&_, _||_, Bool·beq}
-use Rattle.scan.proofs.same.Statement.{statement}
-use Rattle.scan.proofs.same.Tie as tie
+use Rattle.contour.proofs.same.Statement.{statement}
+use Rattle.contour.proofs.same.Tie as tie
 
 both : (a b : Bool) → (a && b) || (not a && not b) ≡ Bool·beq a b
 both true true = refl

@@ -1,4 +1,4 @@
--- `scan::note_contour` meets its contract: one walk by rules 2 to 4, then noted by rule 6, or refused.
+-- `contour::note_contour` meets its contract: one walk by rules 2 to 4, then noted by rule 6, or refused.
 use Prim.Native.Nat.{ℕ}
 use mathlib.Core.Path.{_≡_, refl}
 use mathlib.Core.Bool.{not, Bool·beq}
@@ -15,10 +15,10 @@ use Rattle.keep.specs.Tables.{Tables, tables}
 use Rattle.walk.specs.declared.Finished.{Finished}
 use Rattle.walk.specs.Walk.{Walked, walkFrom, markOf}
 use Rattle.walk.specs.Code.{WalkLeaves}
-use Rattle.scan.proofs.Noting.{marks-of, Finish, finish, stuck-at, stuck-noted, area-within, area-small, counted, to-fits, walk-within}
-use Rattle.scan.proofs.Noting.{walk-noted, walk-fewer}
-use Rattle.scan.proofs.note_contour.Statement.{statement}
-use Rattle.scan.proofs.note_contour.Tie as tie
+use Rattle.contour.proofs.Noting.{marks-of, Finish, finish, stuck-at, stuck-noted, area-within, area-small, counted, to-fits, walk-within}
+use Rattle.contour.proofs.Noting.{walk-noted, walk-fewer}
+use Rattle.contour.proofs.note_contour.Statement.{statement}
+use Rattle.contour.proofs.note_contour.Tie as tie
 
 abbrev st : tie.Start → List ℕ
 st s = s .args .state .now
