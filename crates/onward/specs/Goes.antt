@@ -6,7 +6,6 @@ use mathlib.Core.List.{List}
 use lib.ListN.{length, getD}
 use Rattle.graph.specs.Graph.{Graph}
 use Rattle.graph.specs.Fine.{FineLinks}
-use Rattle.next.specs.declared.Next.{Next}
 use Rattle.next.specs.declared.Next.the-variants.{Link, Nothing}
 use Rattle.next.specs.Next.{nextLink}
 use Rattle.rings.specs.Ends.{linkOf, far, nodeOfEnd, endOf, far-far, far-link, end-of-node}
