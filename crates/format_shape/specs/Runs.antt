@@ -4,15 +4,15 @@ use mathlib.Core.Path.{_≡_, refl, sym, ap, _∙_, subst}
 use mathlib.Core.List.{List, [], _∷_}
 use native.Mathlib.Omega.{arith}
 use lib.ListN.{length}
 use Rattle.format_records.specs.Limits.{maxRecords}
 use Rattle.format_records.specs.Records.{lengthAt, bodyAt, runTo, past, stepAt, RunBodies, ran, fault, with, onStep, runFrom, runAt, looks}
-use Rattle.format_records.specs.Shape.{runEndOf}
+use Rattle.format_shape.specs.Shape.{runEndOf}
 use Rattle.format_records.specs.Steps.{Told, next-tells, count-below}
 use Rattle.format_records.specs.declared.Run.{Run}
 use Rattle.format_records.specs.declared.Refusal.{Refusal}
 use Rattle.format_records.specs.declared.RunStep.{RunStep}
 use Rattle.format_records.specs.declared.RunStep.the-variants.{Next, Other, Fault}
-use Rattle.format_records.specs.declared.RunEnd.the-variants as end
+use Rattle.format_shape.specs.declared.RunEnd.the-variants as end
 
 -- ---- the loop that looks for a run's end
 

@@ -9,17 +9,17 @@ use lib.Dec.{leb, eqb}
 use lib.ListN.{length, length-take, length-drop, length-append}
 use Rattle.laws.specs.Test.{and-true, pick-ind, pick}
 use Rattle.format_numbers.specs.Bytes.{u16At, length-every}
 use Rattle.format_records.specs.Limits.{maxRecords}
 use Rattle.format_records.specs.Records.{lengthAt, bodyAt, refusal, runTo, past, RunBodies, ran, fault, runAt, looks, form, nodesAfter, formOf}
 use Rattle.format_records.specs.Records.{settingsRight, nodeEntries, flatList, onRan, Form, refused}
-use Rattle.format_records.specs.Shape.{runEndOf, fileShapeOf}
+use Rattle.format_shape.specs.Shape.{runEndOf, fileShapeOf}
 use Rattle.format_records.specs.Steps.{Told, link-zero, node-zero, count-below}
-use Rattle.format_records.specs.Runs.{never, RecordsStand, stands}
+use Rattle.format_shape.specs.Runs.{never, RecordsStand, stands}
 use Rattle.format_records.specs.declared.Run.{Run}
 use Rattle.format_records.specs.declared.Refusal.{Refusal}
-use Rattle.format_records.specs.declared.RunEnd.the-variants as end
-use Rattle.format_records.specs.declared.FileShape.{FileShape}
-use Rattle.format_records.specs.declared.FileShape.the-variants as shape
+use Rattle.format_shape.specs.declared.RunEnd.the-variants as end
+use Rattle.format_shape.specs.declared.FileShape.{FileShape}
+use Rattle.format_shape.specs.declared.FileShape.the-variants as shape
 
 -- ---- a run's end with the bodies that were taken
 

@@ -1,9 +1,9 @@
 -- `format::nodes_after` meets its contract.
 use mathlib.Core.Path.{sym, _∙_}
-use Rattle.format_records.specs.Forms.{nodes-right, nodes-wrong, nodes-fault}
+use Rattle.format_shape.specs.Forms.{nodes-right, nodes-wrong, nodes-fault}
 use borrow.Author.Needs.{needs}
-use Rattle.format_records.proofs.nodes_after.Statement.{statement}
-use Rattle.format_records.proofs.nodes_after.Tie as tie
+use Rattle.format_shape.proofs.nodes_after.Statement.{statement}
+use Rattle.format_shape.proofs.nodes_after.Tie as tie
 
 run-at-requires : tie.Need-run-at-requires
 run-at-requires c κs = search needs

@@ -2,10 +2,10 @@
 use mathlib.Core.Path.{sym, _∙_}
 use Prim.Native.Nat.{_-_}
 use borrow.Author.Needs.{needs}
 use Rattle.format_records.specs.Records.{looks}
-use Rattle.format_records.specs.Runs.{Running, running-first, running-next, running-less, running-other, running-fault}
-use Rattle.format_records.proofs.run_at.Statement.{statement}
-use Rattle.format_records.proofs.run_at.Tie as tie
+use Rattle.format_shape.specs.Runs.{Running, running-first, running-next, running-less, running-other, running-fault}
+use Rattle.format_shape.proofs.run_at.Statement.{statement}
+use Rattle.format_shape.proofs.run_at.Tie as tie
 
 abbrev Inv-loop : tie.InvT-loop
 Inv-loop s kind at r₀ r = Running kind s at r

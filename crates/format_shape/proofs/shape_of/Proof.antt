@@ -1,10 +1,10 @@
 -- `format::shape_of` meets its contract.
 use mathlib.Core.Path.{sym, _∙_}
 use borrow.Author.Tests.{not-true, not-false}
-use Rattle.format_records.specs.Forms.{settings-wrong, settings-long, links-fault, links-inside, links-then}
+use Rattle.format_shape.specs.Forms.{settings-wrong, settings-long, links-fault, links-inside, links-then}
 use borrow.Author.Needs.{needs}
-use Rattle.format_records.proofs.shape_of.Statement.{statement}
-use Rattle.format_records.proofs.shape_of.Tie as tie
+use Rattle.format_shape.proofs.shape_of.Statement.{statement}
+use Rattle.format_shape.proofs.shape_of.Tie as tie
 
 settings-right-requires : tie.Need-settings-right-requires
 settings-right-requires c κs = search needs
