@@ -5,11 +5,11 @@ use mathlib.Core.Bool.{false}
 use lib.ListN.{length}
 use borrow.Author.Needs.{needs}
 use Rattle.turn.specs.Refusals.{tells}
 use Rattle.table.specs.Table.{table}
 use Rattle.table.specs.Tests.{fitting}
-use Rattle.table.proofs.Answers.{fit, table-misfit, table-unended, table-bad, table-fine}
-use Rattle.table.proofs.check_table.Statement.{statement}
-use Rattle.table.proofs.check_table.Tie as tie
+use Rattle.check_table.proofs.Answers.{fit, table-misfit, table-unended, table-bad, table-fine}
+use Rattle.check_table.proofs.check_table.Statement.{statement}
+use Rattle.check_table.proofs.check_table.Tie as tie
 
 misfit-requires : tie.Need-misfit-requires
 misfit-requires c κs = search needs

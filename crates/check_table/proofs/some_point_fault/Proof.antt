@@ -7,11 +7,11 @@ use borrow.Author.Needs.{needs}
 use borrow.Author.Count.{below-none, below-more}
 use denote.Ref.{now}
 use Rattle.laws.specs.Lowest.{None, some-yes, some-no}
 use Rattle.table.specs.Table.{pointIn, previousIn}
 use Rattle.table.specs.TableChecks.{pointFault}
-use Rattle.table.proofs.Places.{previous-start, previous-later, fault-at}
-use Rattle.table.proofs.some_point_fault.Statement.{statement}
-use Rattle.table.proofs.some_point_fault.Tie as tie
+use Rattle.check_table.proofs.Places.{previous-start, previous-later, fault-at}
+use Rattle.check_table.proofs.some_point_fault.Statement.{statement}
+use Rattle.check_table.proofs.some_point_fault.Tie as tie
 
 abbrev Inv-loop : tie.InvT-loop
 Inv-loop points from len last₀ k₀ last k =

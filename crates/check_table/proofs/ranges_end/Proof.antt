@@ -4,9 +4,9 @@ use native.Mathlib.Omega.{arith}
 use denote.Ref.{now}
 use lib.ListN.{length}
 use borrow.Author.Needs.{needs}
 use Rattle.table.specs.TableLaws.{start-last}
-use Rattle.table.proofs.ranges_end.Statement.{statement}
-use Rattle.table.proofs.ranges_end.Tie as tie
+use Rattle.check_table.proofs.ranges_end.Statement.{statement}
+use Rattle.check_table.proofs.ranges_end.Tie as tie
 
 returns : tie.Need-returns
 returns c = rw (c .if1 .taken)

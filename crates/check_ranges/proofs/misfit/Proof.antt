@@ -1,7 +1,7 @@
 -- `misfit`: its test is the definition's.
 use mathlib.Core.Path.{refl}
-use Rattle.table.proofs.misfit.Statement.{statement}
-use Rattle.table.proofs.misfit.Tie as tie
+use Rattle.check_ranges.proofs.misfit.Statement.{statement}
+use Rattle.check_ranges.proofs.misfit.Tie as tie
 
 returns : tie.Need-returns
 returns c = refl

@@ -5,10 +5,10 @@ use Prim.Native.Nat.{_/_}
 use lib.ListN.{length}
 use denote.Ref.{now}
 use borrow.Author.Needs.{needs}
 use Rattle.table.specs.Tests.{Ranged, ranged}
-use Rattle.table.proofs.Places.{true-or, or-rest}
-use Rattle.table.proofs.contour_fault.Statement.{statement}
-use Rattle.table.proofs.contour_fault.Tie as tie
+use Rattle.check_table.proofs.Places.{true-or, or-rest}
+use Rattle.check_table.proofs.contour_fault.Statement.{statement}
+use Rattle.check_table.proofs.contour_fault.Tie as tie
 
 range-fault-requires : tie.Need-range-fault-requires
 range-fault-requires c κs = search needs

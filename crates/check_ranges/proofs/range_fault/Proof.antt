@@ -1,8 +1,8 @@
 -- `range_fault`: its test is the definition's.
 use mathlib.Core.Path.{refl}
 use borrow.Author.Needs.{needs}
-use Rattle.table.proofs.range_fault.Statement.{statement}
-use Rattle.table.proofs.range_fault.Tie as tie
+use Rattle.check_ranges.proofs.range_fault.Statement.{statement}
+use Rattle.check_ranges.proofs.range_fault.Tie as tie
 
 add-result : tie.Need-add-result
 add-result c = search needs

@@ -6,11 +6,11 @@ use borrow.Author.Needs.{needs}
 use borrow.Author.Count.{below-none, below-more}
 use lib.ListN.{length, getD}
 use Rattle.laws.specs.Lowest.{None, none, found}
 use Rattle.table.specs.Table.{table}
 use Rattle.table.specs.TableChecks.{badContour, startIn, contourFault}
 use Rattle.table.specs.TableLaws.{start-next}
-use Rattle.table.proofs.bad_contour.Statement.{statement}
-use Rattle.table.proofs.bad_contour.Tie as tie
+use Rattle.check_table.proofs.bad_contour.Statement.{statement}
+use Rattle.check_table.proofs.bad_contour.Tie as tie
 
 abbrev Inv-loop : tie.InvT-loop
 Inv-loop points first len kind start₀ c₀ start c = (c ≤ length first) × (start ≡ startIn first len c) × None (badContour (table points first len kind)) c
