@@ -1,6 +1,6 @@
--- `bridge::lay_two_a` meets its contract: by the two tests, of which the second asks for the sign of the cross product; the sign tells the lead.
-use Rattle.bridge.proofs.lay_two_a.Statement.{statement}
-use Rattle.bridge.proofs.lay_two_a.Tie as tie
+-- `twins::lay_two_a` meets its contract: by the two tests, of which the second asks for the sign of the cross product; the sign tells the lead.
+use Rattle.twins.proofs.lay_two_a.Statement.{statement}
+use Rattle.twins.proofs.lay_two_a.Tie as tie
 use Prim.Native.Nat.{ℕ, _*_, _<_, _≤_}
 use native.Mathlib.Omega.{arith}
 use mathlib.Core.Path.{_≡_, refl, sym, ap, ap₂, _∙_}
@@ -21,8 +21,8 @@ use Rattle.turn.specs.Points.{differ, fromTo, cross, clockwise}
 use Rattle.graph.specs.Graph.{pointAt}
 use Rattle.graph.specs.Checks.{skipped}
 use Rattle.graph.specs.Quick.{likeWrong}
-use Rattle.bridge.specs.Stores.{led}
-use Rattle.bridge.proofs.Bridges.{like-turn}
+use Rattle.twins.specs.Stores.{led}
+use Rattle.twins.proofs.Turns.{like-turn}
 
 abbrev a : tie.Start → ℕ → Point
 a s = pointAt (s .args .ax .now) (s .args .ay .now)

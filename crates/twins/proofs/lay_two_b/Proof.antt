@@ -1,8 +1,8 @@
--- `bridge::lay_two_b` meets its contract: nothing is wrong, and both entries' ends are stored.
+-- `twins::lay_two_b` meets its contract: nothing is wrong, and both entries' ends are stored.
 use mathlib.Core.Path.{refl, sym, _∙_}
 use borrow.Author.Needs.{needs}
-use Rattle.bridge.proofs.lay_two_b.Statement.{statement}
-use Rattle.bridge.proofs.lay_two_b.Tie as tie
+use Rattle.twins.proofs.lay_two_b.Statement.{statement}
+use Rattle.twins.proofs.lay_two_b.Tie as tie
 
 like-wrong-requires : tie.Need-like-wrong-requires
 like-wrong-requires c κs = let p = c .before .before .before .pre in (p .0, (p .1 .0, (p .1 .1 .0, p .1 .1 .1 .0)))
