@@ -1,11 +1,11 @@
--- `finish::zero_points` meets its contract: a loop that rewrites from an index on (`Rewriting`).
+-- `zeros::zero_points` meets its contract: a loop that rewrites from an index on (`Rewriting`).
 use Prim.Native.Nat.{_-_}
 use mathlib.Core.Path.{refl}
 use borrow.Author.Needs.{needs}
 use lib.ListN.{length}
-use Rattle.finish.proofs.Rewrites.{Rewriting, rewriting-again, rewritten}
-use Rattle.finish.proofs.zero_points.Statement.{statement}
-use Rattle.finish.proofs.zero_points.Tie as tie
+use Rattle.zeros.proofs.Rewrites.{Rewriting, rewriting-again, rewritten}
+use Rattle.zeros.proofs.zero_points.Statement.{statement}
+use Rattle.zeros.proofs.zero_points.Tie as tie
 use lib.IntN.{pos}
 
 abbrev Inv-loop : tie.InvT-loop

@@ -1,11 +1,11 @@
--- `finish::restore` meets its contract: a loop that rewrites every state (`Rewriting`).
+-- `zeros::restore` meets its contract: a loop that rewrites every state (`Rewriting`).
 use Prim.Native.Nat.{_-_}
 use mathlib.Core.Path.{refl}
 use borrow.Author.Needs.{needs}
 use lib.ListN.{length}
-use Rattle.finish.proofs.Rewrites.{Rewriting, rewriting-again, rewritten}
-use Rattle.finish.proofs.restore.Statement.{statement}
-use Rattle.finish.proofs.restore.Tie as tie
+use Rattle.zeros.proofs.Rewrites.{Rewriting, rewriting-again, rewritten}
+use Rattle.zeros.proofs.restore.Statement.{statement}
+use Rattle.zeros.proofs.restore.Tie as tie
 use Rattle.walk.specs.Code.{unmark}
 
 abbrev Inv-loop : tie.InvT-loop

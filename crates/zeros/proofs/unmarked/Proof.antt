@@ -1,7 +1,7 @@
--- `finish::unmarked` meets its contract: 1 stays, any other state goes back to 0.
+-- `zeros::unmarked` meets its contract: 1 stays, any other state goes back to 0.
 use borrow.Author.Tests.{eq-eqb, ne-eqb}
-use Rattle.finish.proofs.unmarked.Statement.{statement}
-use Rattle.finish.proofs.unmarked.Tie as tie
+use Rattle.zeros.proofs.unmarked.Statement.{statement}
+use Rattle.zeros.proofs.unmarked.Tie as tie
 
 returns : tie.Need-returns
 returns c = rw (eq-eqb _ _ (c .if1 .taken))

@@ -1,10 +1,10 @@
--- `finish::clear` meets its contract, a promise of each buffer's function in turn.
+-- `clear::trim` meets its contract, a promise of each buffer's function in turn.
 use borrow.Author.Needs.{needs}
-use Rattle.finish.proofs.clear.Statement.{statement}
-use Rattle.finish.proofs.clear.Tie as tie
+use Rattle.clear.proofs.trim.Statement.{statement}
+use Rattle.clear.proofs.trim.Tie as tie
 
-restore-requires : tie.Need-restore-requires
-restore-requires c κs = search needs
+mul-zero-points : tie.Need-mul-zero-points
+mul-zero-points c = search needs
 
 zero-points-requires : tie.Need-zero-points-requires
 zero-points-requires c κs = search needs
@@ -30,12 +30,9 @@ same-length-3 c = search needs
 same-length-4 : tie.Need-same-length-4
 same-length-4 c = search needs
 
-same-length-5 : tie.Need-same-length-5
-same-length-5 c = search needs
-
 returns : tie.Need-returns
-returns c = (search needs, (search needs, (search needs, (search needs, search needs))))
+returns c = (search needs, (search needs, (search needs, search needs)))
 
-pub clear-spec : {M : Type 1} → statement M
-clear-spec = tie.close (tie.spec restore-requires zero-points-requires zero-numbers-requires zero-numbers-requires-2
-    zero-bytes-requires same-length same-length-2 same-length-3 same-length-4 same-length-5 returns)
+pub trim-spec : {M : Type 1} → statement M
+trim-spec = tie.close (tie.spec mul-zero-points zero-points-requires zero-numbers-requires zero-numbers-requires-2
+    zero-bytes-requires same-length same-length-2 same-length-3 same-length-4 returns)
