@@ -1,6 +1,6 @@
--- `check_links::bad_link` meets its contract: the lowest link that is wrong; the invariant: none below k is.
-use Rattle.check_links.proofs.bad_link.Statement.{statement}
-use Rattle.check_links.proofs.bad_link.Tie as tie
+-- `each_link::bad_link` meets its contract: the lowest link that is wrong; the invariant: none below k is.
+use Rattle.each_link.proofs.bad_link.Statement.{statement}
+use Rattle.each_link.proofs.bad_link.Tie as tie
 use Prim.Native.Nat.{_≤_, _-_}
 use native.Mathlib.Omega.{arith}
 use mathlib.Core.Path.{sym, _∙_}

@@ -1,6 +1,6 @@
--- `check_links::out_of_order` meets its contract: the lowest link out of order; the invariant: none below k is.
-use Rattle.check_links.proofs.out_of_order.Statement.{statement}
-use Rattle.check_links.proofs.out_of_order.Tie as tie
+-- `each_link::out_of_order` meets its contract: the lowest link out of order; the invariant: none below k is.
+use Rattle.each_link.proofs.out_of_order.Statement.{statement}
+use Rattle.each_link.proofs.out_of_order.Tie as tie
 use Prim.Native.Nat.{_≤_, _-_}
 use mathlib.Core.Path.{_≡_, refl, sym, _∙_}
 use native.Mathlib.Omega.{arith}

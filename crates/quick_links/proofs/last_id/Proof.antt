@@ -1,11 +1,11 @@
--- `check_links::last_id` meets its contract: by which of the three m is.
-use Rattle.check_links.proofs.last_id.Statement.{statement}
-use Rattle.check_links.proofs.last_id.Tie as tie
+-- `quick_links::last_id` meets its contract: by which of the three m is.
+use Rattle.quick_links.proofs.last_id.Statement.{statement}
+use Rattle.quick_links.proofs.last_id.Tie as tie
 use borrow.Author.Needs.{needs}
 use native.Mathlib.Omega.{arith}
 use Prim.Native.Nat.{_-_}
 use mathlib.Core.Path.{_≡_, sym, _∙_}
-use Rattle.check_links.specs.Quick.{last-great, last-small}
+use Rattle.quick_links.specs.Quick.{last-great, last-small}
 
 returns : tie.Need-returns
 returns c = sym (last-great _ (c .if1 .taken))

@@ -1,7 +1,7 @@
--- `check_links::misplaced_after` meets its contract: what the callees ensure, put together; a field
+-- `quick_links::misplaced_after` meets its contract: what the callees ensure, put together; a field
 -- of a struct is read back from its bits.
-use Rattle.check_links.proofs.misplaced_after.Statement.{statement}
-use Rattle.check_links.proofs.misplaced_after.Tie as tie
+use Rattle.quick_links.proofs.misplaced_after.Statement.{statement}
+use Rattle.quick_links.proofs.misplaced_after.Tie as tie
 use borrow.Author.Needs.{needs}
 use mir.ValLaws.{toZ-ofZ}
 use mir.Syntax.{w32}

@@ -1,7 +1,7 @@
--- `check_links::misplaced` meets its contract: what the callees ensure, put together.
+-- `each_link::misplaced` meets its contract: what the callees ensure, put together.
 use borrow.Author.Needs.{needs}
-use Rattle.check_links.proofs.misplaced.Statement.{statement}
-use Rattle.check_links.proofs.misplaced.Tie as tie
+use Rattle.each_link.proofs.misplaced.Statement.{statement}
+use Rattle.each_link.proofs.misplaced.Tie as tie
 
 off-grid-requires : tie.Need-off-grid-requires
 off-grid-requires c κs = search needs

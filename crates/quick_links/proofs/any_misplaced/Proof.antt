@@ -1,7 +1,7 @@
--- `check_links::any_misplaced` meets its contract; the invariant: so far the answer tells
+-- `quick_links::any_misplaced` meets its contract; the invariant: so far the answer tells
 -- whether a link below k has wrong points.
-use Rattle.check_links.proofs.any_misplaced.Statement.{statement}
-use Rattle.check_links.proofs.any_misplaced.Tie as tie
+use Rattle.quick_links.proofs.any_misplaced.Statement.{statement}
+use Rattle.quick_links.proofs.any_misplaced.Tie as tie
 use Prim.Native.Nat.{_≤_, _-_}
 use native.Mathlib.Omega.{arith}
 use mathlib.Core.Path.{_≡_, sym, ap₂, _∙_}
@@ -12,7 +12,7 @@ use borrow.Author.Count.{below-none}
 use Rattle.laws.specs.Lowest.{some, some-no}
 use Rattle.graph.specs.Graph.{pointAt}
 use Rattle.graph.specs.Checks.{misplaced}
-use Rattle.check_links.specs.Quick.{misplacedAfter, misplacedAt, first-link, next-link}
+use Rattle.quick_links.specs.Quick.{misplacedAfter, misplacedAt, first-link, next-link}
 
 abbrev Inv-loop : tie.InvT-loop
 Inv-loop ax ay bx by n wrong₀ k₀ wrong k =

@@ -1,7 +1,7 @@
--- `check_links::any_misflagged` meets its contract; the invariant: so far the answer tells
+-- `quick_links::any_misflagged` meets its contract; the invariant: so far the answer tells
 -- whether a link below k has a wrong top or state.
-use Rattle.check_links.proofs.any_misflagged.Statement.{statement}
-use Rattle.check_links.proofs.any_misflagged.Tie as tie
+use Rattle.quick_links.proofs.any_misflagged.Statement.{statement}
+use Rattle.quick_links.proofs.any_misflagged.Tie as tie
 use Prim.Native.Nat.{_≤_, _-_}
 use native.Mathlib.Omega.{arith}
 use mathlib.Core.Path.{_≡_, sym, ap₂, _∙_}

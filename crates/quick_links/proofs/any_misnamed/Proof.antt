@@ -1,7 +1,7 @@
--- `check_links::any_misnamed` meets its contract; the invariant: so far the answer tells
+-- `quick_links::any_misnamed` meets its contract; the invariant: so far the answer tells
 -- whether a link below k has wrong ids.
-use Rattle.check_links.proofs.any_misnamed.Statement.{statement}
-use Rattle.check_links.proofs.any_misnamed.Tie as tie
+use Rattle.quick_links.proofs.any_misnamed.Statement.{statement}
+use Rattle.quick_links.proofs.any_misnamed.Tie as tie
 use Prim.Native.Nat.{_≤_, _-_}
 use native.Mathlib.Omega.{arith}
 use mathlib.Core.Path.{_≡_, sym, ap, ap₂, _∙_}
@@ -11,7 +11,7 @@ use borrow.Author.Needs.{needs}
 use borrow.Author.Count.{below-none}
 use Rattle.laws.specs.Lowest.{some, some-no, some-more}
 use Rattle.graph.specs.Checks.{nodeAt}
-use Rattle.check_links.specs.Quick.{misnamedPast, misnamedAt, ids}
+use Rattle.quick_links.specs.Quick.{misnamedPast, misnamedAt, ids}
 
 abbrev Inv-loop : tie.InvT-loop
 Inv-loop m aid bid n last wrong₀ k₀ wrong k = (k ≤ n) × (wrong ≡ some (misnamedAt m aid bid) k)

@@ -1,6 +1,6 @@
--- `check_links::link_wrong` meets its contract: by what the calls say of link k.
-use Rattle.check_links.proofs.link_wrong.Statement.{statement}
-use Rattle.check_links.proofs.link_wrong.Tie as tie
+-- `each_link::link_wrong` meets its contract: by what the calls say of link k.
+use Rattle.each_link.proofs.link_wrong.Statement.{statement}
+use Rattle.each_link.proofs.link_wrong.Tie as tie
 use native.Mathlib.Omega.{arith}
 use borrow.Author.Needs.{needs}
 
