@@ -150,7 +150,7 @@ fn check(
     ensures { λ r. ⌜ (let t : Table = table (now (points .entry)) (now (first .entry)) (now (len .entry)) (now (kind .entry)) in
         r ≡ bothChecked t owners clockwise) ⌝ }
 {
-    match table::check_table(points, first, len, kind, owners) {
+    match check_table::check_table(points, first, len, kind, owners) {
         Checked::Fine => anchor::check_anchors(points, first, len, kind, clockwise),
         Checked::Refused { number, place } => Checked::Refused {
             number: number,

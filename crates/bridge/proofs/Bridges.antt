@@ -13,12 +13,11 @@ use borrow.Author.Tests.{eq-eqb, ne-eqb}
 use Rattle.laws.specs.Test.{pick, pick-true, pick-false}
 use Rattle.laws.specs.Ring.{ring, var, con, _:-_, _:*_}
 use Rattle.turn.specs.declared.Point.{Point}
-use Rattle.turn.specs.Points.{before, differ, fromTo, cross, turn, clockwise}
+use Rattle.turn.specs.Points.{before, differ, turn, clockwise}
 use Rattle.graph.specs.Graph.{Graph}
-use Rattle.graph.specs.PointLaws.{same-point}
 use Rattle.rings.specs.Ends.{aEnd, bEnd, linkOf, far, endOf, a-link, b-link, far-a, far-b}
 use Rattle.rings.specs.Field.{named, LaidBridge}
-use Rattle.bridge.specs.Stores.{paired, led}
+use Rattle.twins.specs.Stores.{paired, led}
 use Rattle.bridge.proofs.Stored.{at-first, at-second}
 
 -- ---- two points are one whichever is asked first, and one that is the start of a turn makes none
@@ -30,10 +29,6 @@ differ-either p q = by (before p q) (before q p)
     by true false = refl
     by false true = refl
     by false false = refl
-
--- the product of two links from one point is their turn
-pub like-turn : (p r q s : Point) → differ p r ≡ false → ltZ (cross (fromTo p q) (fromTo r s)) (pos 0) ≡ clockwise p q s
-like-turn p r q s h = ap (λ (t : Point). ltZ (cross (fromTo p q) (fromTo t s)) (pos 0)) (sym (same-point p r h))
 
 no-turn : (p q r : Point) → r ≡ p → clockwise p q r ≡ false
 no-turn p q r e = ap (λ (s : Point). clockwise p q s) e ∙ ap (λ (z : ℤ). ltZ z (pos 0)) none

@@ -1,3 +1,2 @@
--- The definitions that the contracts cite, then the laws of them.
-pub mod Quick
+-- What the contract cites.
 pub mod Promises

@@ -2,10 +2,10 @@
 ghost use Rattle.graph.specs.Graph.{Lent, lent};
 ghost use Rattle.finish.specs.Finish.{Buffers, buffers};
 ghost use Rattle.extract.specs.Promises.{extract-says};
-use extract_in::extract_few_in;
+use contour::Settings;
+use extract_few_in::extract_few_in;
 use extract_in::extract_in;
 use scan::Extraction;
-use scan::Settings;
 
 // A graph with few links is walked over small arrays, which cost little to make.
 const FEW_LINKS: usize = 128;

@@ -21,7 +21,8 @@ use Rattle.scan.specs.Visits.{scanned}
 use Rattle.keep.specs.Ledger.{Fits, finished}
 use Rattle.keep.specs.Tables.{Tables, tables, noCounts, allNoted}
 use Rattle.finish.specs.Finish.{finishedBy, Holds, Buffers, buffers}
-use Rattle.scan.specs.Notes.{Ends, ScanLeaves, Roomy}
+use Rattle.contour.specs.Notes.{Roomy}
+use Rattle.scan.specs.Notes.{Ends, ScanLeaves}
 use Rattle.walk.specs.Code.{Kept, unmark}
 use Rattle.walk.specs.States.{unvisited-some}
 use Rattle.extraction.specs.Extract.{extractedAs, afterScan}

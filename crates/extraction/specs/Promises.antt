@@ -7,8 +7,8 @@ use Prim.Native.Nat.{ℕ}
 use Rattle.laws.specs.Unique.{same-part}
 use Rattle.graph.specs.Graph.{Graph, Lent}
 use Rattle.rings.specs.Field.{Field, Fielded}
+use Rattle.contour.specs.declared.Settings.{Settings}
 use Rattle.scan.specs.declared.Extraction.{Extraction}
-use Rattle.scan.specs.declared.Settings.{Settings}
 use Rattle.scan.specs.Scan.{scan}
 use Rattle.finish.specs.Finish.{Buffers}
 use Rattle.finish.specs.Promises.{SameBuffers, same-buffers}

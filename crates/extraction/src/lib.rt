@@ -5,11 +5,11 @@ ghost use lib.ListN.{length};
 ghost use Rattle.next.specs.Known.{Links};
 ghost use Rattle.rings.specs.Field.{Fielded};
 ghost use Rattle.walk.specs.Code.{unmark};
-ghost use Rattle.scan.specs.Notes.{Roomy};
+ghost use Rattle.contour.specs.Notes.{Roomy};
 ghost use Rattle.finish.specs.Finish.{buffers};
 ghost use Rattle.extraction.specs.Promises.{extract-fine-says};
+use contour::Settings;
 use scan::Extraction;
-use scan::Settings;
 
 // Extraction of a graph that passes checks 1 to 7, over the field of its ends.
 pub fn extract_fine(

@@ -1,18 +1,11 @@
 -- What each public function promises, written once: its contract names it, and any two outcomes that it allows are equal.
 use mathlib.Core.List.{List}
 use mathlib.Core.Path.{_≡_}
-use lib.IntN.{ℤ, pos}
+use lib.IntN.{ℤ}
 use Prim.Native.Nat.{ℕ}
-use Rattle.laws.specs.Unique.{Determines, by-equation, same-part}
-use Rattle.laws.specs.Lists.{mapFrom}
+use Rattle.laws.specs.Unique.{same-part}
 use Rattle.scan.specs.declared.Extraction.{Extraction}
 use Rattle.finish.specs.Finish.{Buffers, finishedBy}
-
-abbrev pub zero-points-says : List ℤ → ℕ → List ℤ → Type 0
-zero-points-says s from s′ = s′ ≡ mapFrom (λ _. pos 0) from s
-
-pub zero-points-once : (s : List ℤ) (from : ℕ) → Determines (zero-points-says s from)
-zero-points-once s from = by-equation (mapFrom (λ _. pos 0) from s)
 
 abbrev pub finish-says : Extraction → Buffers → Buffers → Type 0
 finish-says answer before after = after ≡ finishedBy answer before

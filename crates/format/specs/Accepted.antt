@@ -13,8 +13,8 @@ use Rattle.laws.specs.Test.{and-true}
 use Rattle.format_numbers.specs.Bytes.{u16At, u32At}
 use Rattle.format_records.specs.Records.{lengthAt, kindAt, bodyAt, recordEnd, runTo, past, settingsRight, form, formOf}
 use Rattle.format.specs.Encoded.{little, recordBytes, recordsBytes}
-use Rattle.format_records.specs.Runs.{RecordsStand}
-use Rattle.format_records.specs.Forms.{form-placed}
+use Rattle.format_shape.specs.Runs.{RecordsStand}
+use Rattle.format_shape.specs.Forms.{form-placed}
 use Rattle.format_records.specs.declared.Run.{Run}
 
 -- a list of bytes

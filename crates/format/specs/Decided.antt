@@ -17,8 +17,8 @@ use Rattle.format_records.specs.Records.{RunBodies, ran, fault, with, onStep, r
 use Rattle.format_records.specs.Records.{nodesAfter, formOf}
 use Rattle.format.specs.File.{fileFrom, fileOf}
 use Rattle.format_records.specs.Steps.{Told, next-tells, link-zero, node-zero}
-use Rattle.format_records.specs.Runs.{RecordsStand, stands}
-use Rattle.format_records.specs.Forms.{form-placed}
+use Rattle.format_shape.specs.Runs.{RecordsStand, stands}
+use Rattle.format_shape.specs.Forms.{form-placed}
 use Rattle.format_records.specs.declared.Run.{Run}
 use Rattle.format_records.specs.declared.RunStep.{RunStep}
 use Rattle.format_records.specs.declared.RunStep.the-variants.{Next, Other, Fault}

@@ -15,17 +15,17 @@ use Rattle.turn.specs.Limits.{maxLinks}
 use Rattle.format_records.specs.Limits.{maxNodes, maxEntries}
 use Rattle.format_records.specs.Records.{lengthAt, bodyAt, recordEnd, runTo, past, formOf, flatList}
 use Rattle.format.specs.File.{startsOf, fileOf, FileLists, fileLists, reading, readInto}
-use Rattle.format_records.specs.Shape.{fileShapeOf}
+use Rattle.format_shape.specs.Shape.{fileShapeOf}
 use Rattle.format_lists.specs.Columns.{Columns, columns, column, linksInto}
 use Rattle.format_lists.specs.NodeLists.{entriesFrom, startsFrom, NodesStand}
 use Rattle.format_records.specs.Steps.{link-zero, node-zero}
-use Rattle.format_records.specs.Runs.{RecordsStand}
-use Rattle.format_records.specs.Forms.{length-body, stands-count, stands-few, stands-inside, stands-links, settings-long, Formed, wronged, FormPlaced}
-use Rattle.format_records.specs.Forms.{form-placed}
+use Rattle.format_shape.specs.Runs.{RecordsStand}
+use Rattle.format_shape.specs.Forms.{length-body, stands-count, stands-few, stands-inside, stands-links, settings-long, Formed, wronged, FormPlaced}
+use Rattle.format_shape.specs.Forms.{form-placed}
 use Rattle.format_records.specs.declared.Run.{Run}
 use Rattle.format_records.specs.declared.Refusal.{Refusal}
 use Rattle.format.specs.declared.FileRead.the-variants as answer
-use Rattle.format_records.specs.declared.FileShape.the-variants as shape
+use Rattle.format_shape.specs.declared.FileShape.the-variants as shape
 
 -- ---- the bytes of a body, where they stand in the file
 

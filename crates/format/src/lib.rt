@@ -4,10 +4,10 @@
 // then the lists are filled.
 ghost use Rattle.format.specs.File.{FileLists, fileLists, FileRoom};
 ghost use Rattle.format.specs.Promises.{read-graph-says};
-use format_records::FileShape;
 use format_records::MAX_ENTRIES;
 use format_records::MAX_NODES;
 use format_records::Refusal;
+use format_shape::FileShape;
 use turn::MAX_LINKS;
 
 // The bytes that decide every input: the settings, as many links, nodes and entries as may be, and one head more.
@@ -56,7 +56,7 @@ pub fn read_graph(
         (now (start .exit)) (now (list .exit)) in
         read-graph-says (now (s .entry)) before r after) ⌝ }
 {
-    match format_records::shape_of(s) {
+    match format_shape::shape_of(s) {
         FileShape::Wrong(e) => FileRead::Refused(e),
         FileShape::Right {
             links,

@@ -1,8 +1,5 @@
--- The form of the file and the laws of it, leaves first.
+-- The form of the file, and what a step of a run of records is, leaves first.
 pub mod Limits
 pub mod Records
-pub mod Shape
 pub mod Steps
-pub mod Runs
-pub mod Forms
 pub mod Promises

@@ -3,12 +3,12 @@ use Prim.Native.Nat.{ℕ}
 use mathlib.Core.Path.{_≡_}
 use mathlib.Core.List.{List}
 use Rattle.laws.specs.Unique.{Determines, by-equation}
-use Rattle.format_records.specs.Records.{formOf}
-use Rattle.format_records.specs.Shape.{fileShapeOf}
-use Rattle.format_records.specs.declared.FileShape.{FileShape}
+use Rattle.format_records.specs.Records.{stepAt}
+use Rattle.format_records.specs.declared.Run.{Run}
+use Rattle.format_records.specs.declared.RunStep.{RunStep}
 
-abbrev pub shape-of-says : List ℕ → FileShape → Type 0
-shape-of-says s r = r ≡ fileShapeOf (formOf s)
+abbrev pub step-at-says : ℕ → List ℕ → Run → RunStep → Type 0
+step-at-says kind s r n = n ≡ stepAt kind s r
 
-pub shape-of-once : (s : List ℕ) → Determines (shape-of-says s)
-shape-of-once s = by-equation (fileShapeOf (formOf s))
+pub step-at-once : (kind : ℕ) (s : List ℕ) (r : Run) → Determines (step-at-says kind s r)
+step-at-once kind s r = by-equation (stepAt kind s r)

@@ -1,12 +1,10 @@
-// The form of the file, by the heads of its records: how many links, nodes and entries it has, or its first fault.
+// The file's records, one by one: what a head may say, and one more record of a run, or its fault.
 ghost use mathlib.Core.Path.{_≡_};
-ghost use Prim.Native.Nat.{ℕ, _+_, _^_, _<_, _≤_};
-ghost use mathlib.Core.List.{List};
+ghost use Prim.Native.Nat.{_+_, _^_, _<_, _≤_};
 ghost use lib.ListN.{length};
 ghost use Rattle.format_records.specs.Limits.{maxRecords};
-ghost use Rattle.format_records.specs.Records.{headNumber, refusal, stepAt, runAt, settingsRight, nodesAfter};
-ghost use Rattle.format_records.specs.Shape.{runEndOf, fileShapeOf};
-ghost use Rattle.format_records.specs.Promises.{shape-of-says};
+ghost use Rattle.format_records.specs.Records.{headNumber, refusal};
+ghost use Rattle.format_records.specs.Promises.{step-at-says};
 use turn::MAX_LINKS;
 
 // "a 4,097th node or 8,193rd list entry" ends the reading with 5, as a link past MAX_LINKS does with 1.
@@ -32,22 +30,6 @@ pub enum RunStep {
     Next(Run),
     Other,
     Fault(Refusal),
-}
-
-// A whole run, or the fault in it.
-pub enum RunEnd {
-    To(Run),
-    Fault(Refusal),
-}
-
-// The form of a file: how many links, nodes and list entries it has, or its first fault.
-pub enum FileShape {
-    Right {
-        links: usize,
-        nodes: usize,
-        entries: usize,
-    },
-    Wrong(Refusal),
 }
 
 // Document 01's number for a head of kind 1 or 2, or 0.
@@ -84,9 +66,9 @@ fn refused(number: u32, at: usize) -> Refusal
 }
 
 // The record at a run's end.
-fn step_at(s: &[u8], kind: u32, r: Run) -> RunStep
+pub fn step_at(s: &[u8], kind: u32, r: Run) -> RunStep
     requires { ⌜ (r .at ≤ length (now s)) × (r .size ≤ r .at) × (r .count ≤ maxRecords) ⌝ }
-    ensures { λ n. ⌜ n ≡ stepAt kind (now (s .entry)) r ⌝ }
+    ensures { λ n. ⌜ step-at-says kind (now (s .entry)) r n ⌝ }
 {
     let at = r.at;
     if s.len() - at < 6 {
@@ -112,79 +94,4 @@ fn step_at(s: &[u8], kind: u32, r: Run) -> RunStep
         count: r.count + 1,
         size: r.size + len,
     })
-}
-
-// The run of a kind from an offset on.
-fn run_at(s: &[u8], kind: u32, at: usize) -> RunEnd
-    requires { ⌜ at ≤ length (now s) ⌝ }
-    ensures { λ r. ⌜ r ≡ runEndOf (runAt kind (now (s .entry)) at) ⌝ }
-{
-    let mut r = Run {
-        at,
-        count: 0,
-        size: 0,
-    };
-    loop {
-        match step_at(s, kind, r) {
-            RunStep::Next(next) => {
-                r = next;
-            }
-            RunStep::Other => {
-                return RunEnd::To(r);
-            }
-            RunStep::Fault(e) => {
-                return RunEnd::Fault(e);
-            }
-        }
-    }
-}
-
-// Kind 3 first, 9 bytes, and a direction of 0 or 1.
-fn settings_right(s: &[u8]) -> bool
-    ensures { λ r. ⌜ r ≡ settingsRight (now (s .entry)) ⌝ }
-{
-    if s.len() < 15 {
-        return false;
-    }
-    (format_numbers::u32_at(s, 0) == 9) & ((format_numbers::u16_at(s, 4) == 3) & (s[6] <= 1))
-}
-
-// The form of what follows so many links: the nodes, and after them the end.
-fn nodes_after(s: &[u8], links: usize, at: usize) -> FileShape
-    requires { ⌜ at ≤ length (now s) ⌝ }
-    ensures { λ r. ⌜ ((bodies : List (List ℕ)) → length bodies ≡ links
-        → r ≡ fileShapeOf (nodesAfter (now (s .entry)) bodies at)) ⌝ }
-{
-    match run_at(s, 2, at) {
-        RunEnd::Fault(e) => FileShape::Wrong(e),
-        RunEnd::To(r) => {
-            if r.at != s.len() {
-                return FileShape::Wrong(Refusal {
-                    number: 13,
-                    place: r.at,
-                });
-            }
-            FileShape::Right {
-                links,
-                nodes: r.count,
-                entries: r.size / 2,
-            }
-        }
-    }
-}
-
-// The form of the whole file: the settings, then the links.
-pub fn shape_of(s: &[u8]) -> FileShape
-    ensures { λ r. ⌜ shape-of-says (now (s .entry)) r ⌝ }
-{
-    if !settings_right(s) {
-        return FileShape::Wrong(Refusal {
-            number: 13,
-            place: 0,
-        });
-    }
-    match run_at(s, 1, 15) {
-        RunEnd::Fault(e) => FileShape::Wrong(e),
-        RunEnd::To(r) => nodes_after(s, r.count, r.at),
-    }
 }

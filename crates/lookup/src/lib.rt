@@ -71,7 +71,7 @@ pub fn lookup(
     if first.len() <= contour {
         return Lookup::Missing;
     }
-    match table::check_table(points, first, len, kind, owner.len()) {
+    match check_table::check_table(points, first, len, kind, owner.len()) {
         Checked::Fine => record_at(first, len, kind, owner, contour),
         Checked::Refused {
             number: _,

@@ -25,9 +25,10 @@ use Rattle.walk.specs.Visits.{one, fresh-times, Leaves, walk-leaves, mark-of}
 use Rattle.walk.specs.Named.{LinkUnvisited, first-is-unvisited}
 use Rattle.keep.specs.declared.Counts.{Counts}
 use Rattle.keep.specs.Tables.{Tables}
-use Rattle.scan.specs.declared.Noted.the-variants as noting
+use Rattle.contour.specs.declared.Noted.the-variants as noting
 use Rattle.scan.specs.Scan.{senseOf, walkOf}
-use Rattle.scan.specs.Notes.{WalkNoted, FirstNoted}
+use Rattle.contour.specs.Notes.{WalkNoted}
+use Rattle.scan.specs.Notes.{FirstNoted}
 
 -- rule 1 named held at link k in states of which some have been marked since, its own among them
 pub record Named (g : Graph) (st : List ℕ) (k held : ℕ) : Type 0 where

@@ -8,7 +8,7 @@ use Rattle.graph.specs.Graph.{Graph}
 use Rattle.rings.specs.Field.{Field, Fielded}
 use Rattle.keep.specs.declared.Counts.{Counts}
 use Rattle.keep.specs.Tables.{Tables, tables, noCounts}
-use Rattle.scan.specs.declared.Settings.{Settings}
+use Rattle.contour.specs.declared.Settings.{Settings}
 use Rattle.scan.specs.declared.Extraction.{Extraction}
 use Rattle.scan.specs.declared.Extraction.the-variants.{Done, Refused}
 use Rattle.scan.specs.Scan.{Scanned, stopped, walks, scan}

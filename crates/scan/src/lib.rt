@@ -1,110 +1,28 @@
 // The scan (rules 1, 2 and 7): a walk from each lowest unvisited link, as its first link's top says.
 ghost use mathlib.Core.Path.{_≡_};
-ghost use mathlib.Core.Bool.{true, not, Bool·beq};
-ghost use Prim.Native.Nat.{ℕ, _+_, _-_, _<_, _≤_};
-ghost use lib.ListN.{length, getD};
+ghost use mathlib.Core.Bool.{true};
+ghost use Prim.Native.Nat.{ℕ, _≤_};
+ghost use lib.ListN.{length};
 ghost use Rattle.graph.specs.Graph.{Graph};
 ghost use Rattle.next.specs.Next.{isUnvisited, unvisited, firstLink};
 ghost use Rattle.next.specs.Known.{Links};
-ghost use Rattle.rings.specs.Field.{Steers, Steered, Reads, Field, Fielded};
-ghost use Rattle.walk.specs.Walk.{walkFrom, markOf};
+ghost use Rattle.rings.specs.Field.{Field, Fielded};
 ghost use Rattle.walk.specs.Code.{Kept};
 ghost use Rattle.keep.specs.Tables.{Tables, tables, Within};
-ghost use Rattle.scan.specs.Notes.{WalkNoted, FirstNoted, Fewer, Ends, Roomy};
+ghost use Rattle.contour.specs.Notes.{Fewer, Roomy};
+ghost use Rattle.scan.specs.Notes.{FirstNoted, Ends};
 ghost use Rattle.scan.specs.Held.{Held, Standing};
 ghost use Rattle.scan.specs.Promises.{scan-links-says};
+use contour::Noted;
+use contour::Settings;
+use contour::note_contour;
 use keep::Counts;
 use next::Next;
-use walk::Course;
-use walk::Ended;
 
 // The answer of extraction.
 pub enum Extraction {
     Done(Counts),
     Refused { number: u32, place: usize },
-}
-
-// How outlines are asked for: the output direction, and the area below which a walk is rejected.
-pub struct Settings {
-    pub clockwise: bool,
-    pub minimum: u64,
-}
-
-// What becomes of a walk of the scan: entered in the table or the counts, with its first link told, or refused with a number.
-enum Noted {
-    Entered { counts: Counts, first: usize },
-    Stuck(u32),
-}
-
-fn mark_of(hole: bool) -> u8
-    ensures { λ r. ⌜ r ≡ markOf hole ⌝ }
-{
-    if hole { 2 } else { 3 }
-}
-
-// Whether two flags are equal.
-fn same(a: bool, b: bool) -> bool
-    ensures { λ r. ⌜ r ≡ Bool·beq a b ⌝ }
-{
-    (a & b) | (!a & !b)
-}
-
-// Rules 2 to 6: the walk that starts with link s, a hole's or a hull's, entered in the table or counted as rejected.
-fn note_contour(
-    ax: &[i32],
-    ay: &[i32],
-    bx: &[i32],
-    by: &[i32],
-    nxt: &[u32],
-    prv: &[u32],
-    settings: Settings,
-    hole: bool,
-    state: &mut [u8],
-    points: &mut [i32],
-    first: &mut [u32],
-    len: &mut [u32],
-    kind: &mut [u8],
-    s: usize,
-    c: Counts,
-) -> Noted
-    requires { ⌜ (Steered (now nxt) (now prv) (now state)) × (Links (now ax) (now ay) (now bx) (now by) (length (now state))) ⌝ }
-    requires { ⌜ Roomy (length (now state)) (length (now points)) (length (now first)) (length (now len)) (length (now kind)) ⌝ }
-    requires { ⌜ (s < length (now state)) × (getD (now state) s 1 ≡ 0) × (Within (length (now state)) (unvisited (now state)) c) ⌝ }
-    ensures { λ r. ⌜ ((g : Graph) → Steers g (now (nxt .entry)) (now (prv .entry)) (now (state .entry))
-        → Reads g (now (ax .entry)) (now (ay .entry)) (now (bx .entry)) (now (by .entry)) →
-        let before : Tables = tables (now (points .entry)) (now (first .entry)) (now (len .entry)) (now (kind .entry)) c in
-        WalkNoted g (settings .minimum) before hole s
-        (walkFrom g (not (Bool·beq hole (settings .clockwise))) (Bool·beq hole (settings .clockwise)) (markOf hole) (now (state .entry)) s) r
-        (now (state .exit)) (now (points .exit)) (now (first .exit)) (now (len .exit)) (now (kind .exit))) ⌝ }
-    ensures { λ r. ⌜ Fewer (length (now (state .entry))) (now (state .entry)) (now (state .exit)) r ⌝ }
-    ensures { λ _. ⌜ Kept (now (state .entry)) (now (state .exit)) ⌝ }
-{
-    let sense = same(hole, settings.clockwise);
-    let course = Course {
-        forward: !sense,
-        sense: sense,
-        mark: mark_of(hole),
-    };
-    let at = c.points;
-    match walk::find_contour(ax, ay, bx, by, nxt, prv, course, state, points, at, s) {
-        Ended::Stuck(number) => Noted::Stuck(number),
-        Ended::Done(walked) => {
-            let counts = keep::note_walk(
-                first,
-                len,
-                kind,
-                hole,
-                settings.minimum,
-                walked.to,
-                walked.area,
-                c,
-            );
-            Noted::Entered {
-                counts: counts,
-                first: s,
-            }
-        }
-    }
 }
 
 // Rule 1: one walk of the scan, which stands at link k and holds the first link of its last walk from there, if there was one.

@@ -19,6 +19,7 @@ use turn::Point;
 use turn::turn_of;
 use turn::wide;
 use walk::put_point;
+use zeros::zero_points;
 
 // A corner is written as point number `to`; a point on one line with its neighbours is not.
 fn keep_corner(points: &mut [i32], prev: Point, p: Point, next: Point, to: usize) -> usize
@@ -87,7 +88,7 @@ pub fn drop_straight(points: &mut [i32], first: &mut [u32], len: &mut [u32], c: 
         (now (len .exit)) ⌝ }
 {
     let to = pass_contours(points, first, len, c.contours);
-    finish::zero_points(points, to * 2);
+    zero_points(points, to * 2);
     let kept_area = c.kept_area;
     let rejected_area = c.rejected_area;
     Counts {

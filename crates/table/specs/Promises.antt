@@ -6,22 +6,13 @@ use lib.IntN.{ℤ}
 use lib.ListN.{take}
 use Rattle.laws.specs.Unique.{Determines, by-equation, by-equation-with}
 use Rattle.turn.specs.declared.Point.{Point}
-use Rattle.turn.specs.declared.Checked.{Checked}
-use Rattle.turn.specs.Refusals.{Tells, tells-once}
-use Rattle.table.specs.Table.{Table, pointIn, hulls}
-use Rattle.table.specs.TableChecks.{tableChecked}
+use Rattle.table.specs.Table.{pointIn, hulls}
 
 abbrev pub point-in-says : List ℤ → ℕ → Point → Type 0
 point-in-says points p r = r ≡ pointIn points p
 
 pub point-in-once : (points : List ℤ) (p : ℕ) → Determines (point-in-says points p)
 point-in-once points p = by-equation (pointIn points p)
-
-abbrev pub check-table-says : Table → ℕ → Checked → Type 0
-check-table-says t owners r = Tells r (tableChecked t owners)
-
-pub check-table-once : (t : Table) (owners : ℕ) → Determines (check-table-says t owners)
-check-table-once t owners = tells-once (tableChecked t owners)
 
 abbrev pub hulls-before-says : List ℕ → ℕ → ℕ → Type 0
 hulls-before-says kind n r = (r ≡ hulls (take n kind)) × (r ≤ n)

@@ -8,7 +8,7 @@ use borrow.Author.Tests.{not-false}
 use Rattle.laws.specs.Test.{not-is}
 use Rattle.turn.specs.declared.Checked.the-variants.{Refused}
 use Rattle.graph.specs.Graph.{lent}
-use Rattle.check_links.specs.Quick.{anyWrong, fine, refused-3, refused-4}
+use Rattle.quick_links.specs.Quick.{anyWrong, fine, refused-3, refused-4}
 
 any-misplaced-requires : tie.Need-any-misplaced-requires
 any-misplaced-requires c κs =

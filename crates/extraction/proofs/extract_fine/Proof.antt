@@ -1,7 +1,7 @@
 -- `extraction::extract_fine` meets its contract: what the scan leaves is finished.
 use borrow.Author.Needs.{needs}
 use lib.ListN.{length}
-use Rattle.scan.specs.Notes.{Roomy}
+use Rattle.contour.specs.Notes.{Roomy}
 use Rattle.finish.specs.Finish.{Buffers, buffers}
 use Rattle.extraction.proofs.Answers.{holds, finished-as}
 use Rattle.extraction.proofs.extract_fine.Statement.{statement}

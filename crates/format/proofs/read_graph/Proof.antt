@@ -2,7 +2,7 @@
 use mathlib.Core.Path.{refl, sym, _∙_}
 use native.Mathlib.Nat.{le-trans}
 use native.Mathlib.Omega.{arith}
-use Rattle.format_records.specs.Forms.{formed}
+use Rattle.format_shape.specs.Forms.{formed}
 use Rattle.format.specs.ReadLists.{file-long, links-fit, links-few, nodes-few, nodes-fit, read-right, read-wrong}
 use borrow.Author.Needs.{needs}
 use Rattle.format.proofs.read_graph.Statement.{statement}

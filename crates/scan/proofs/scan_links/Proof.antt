@@ -10,11 +10,10 @@ use Rattle.graph.specs.Graph.{Graph}
 use Rattle.rings.specs.Field.{Field}
 use Rattle.next.specs.Next.{unvisited}
 use Rattle.next.specs.States.{read-unvisited, read-shut}
-use Rattle.scan.proofs.Noting.{within-less}
 use Rattle.scan.proofs.Scans.{Scanning, scan-moves, scan-refused, scan-again, scan-over, lowest-here, none-yet, fewer-of}
 use Rattle.scan.proofs.scan_links.Statement.{statement}
 use Rattle.scan.proofs.scan_links.Tie as tie
-use Rattle.scan.specs.Notes.{Roomy}
+use Rattle.contour.specs.Notes.{Roomy, within-less}
 use Rattle.scan.specs.Fields.{field-later}
 use Rattle.walk.specs.Marks.{kept-then}
 use Rattle.walk.specs.Later.{kept-later}

@@ -1,0 +1,3 @@
+-- The quick question, and what the contracts cite.
+pub mod Quick
+pub mod Promises
