@@ -18,7 +18,7 @@ use Rattle.extraction.specs.Extract.{Extracted, extractedAs, afterScan, 
 abbrev pub SameOutcome : Extraction → Extraction → Buffers → Buffers → Type 0
 SameOutcome r s b c = (r ≡ s) × (SameBuffers b c)
 
-same-outcome : {r s : Extraction} {b c : Buffers} {defined : Extracted} → extractedAs r b ≡ defined → extractedAs s c ≡ defined → SameOutcome r s b c
+pub same-outcome : {r s : Extraction} {b c : Buffers} {defined : Extracted} → extractedAs r b ≡ defined → extractedAs s c ≡ defined → SameOutcome r s b c
 same-outcome p q = (
   same-part (λ (e : Extracted). e .answer) p q,
   same-buffers (same-part (λ (e : Extracted). e .lent) p q) refl,

@@ -19,7 +19,7 @@ use Rattle.keep.specs.Outcome.{kept, rejected, lens, firsts, coordinates, sum, 
 use Rattle.contour.specs.declared.Settings.{Settings}
 use Rattle.scan.specs.Scan.{Scanned, stopped, walks, scan}
 use Rattle.finish.specs.Finish.{Buffers, buffers}
-use Rattle.extraction.specs.Extract.{Extracted, done, refusal, zeroed, extracted}
+use Rattle.extraction.specs.Extract.{Extracted, done, refusal, zeroed, afterScan, extracted}
 use Rattle.straight.specs.Straight.{dropStraight}
 
 -- a contour as it is written: whether it is a hole, and its points
@@ -89,6 +89,10 @@ unfoldable pub extractedStraight : Lent → List ℕ → Bool → ℕ → Buffer
 extractedStraight g top clockwise minimum b =
     straightChecks (graphOf g top) clockwise minimum b
     (checked g top (b .state) (room (length (b .points)) (length (b .first)) (length (b .len)) (length (b .kind))))
+
+-- ---- after the scan of a graph that passes its checks
+abbrev pub drawn : Graph → Settings → Buffers → Scanned → Extracted
+drawn g settings b o = pick (settings .«drop_straight») (straightScan g (settings .minimum) b o) (afterScan g (settings .minimum) b o)
 
 -- ---- extraction as its settings ask for it: with the setting off, that of document 01
 abbrev pub outlined : Lent → List ℕ → Settings → Buffers → Extracted

@@ -1,3 +1,4 @@
 -- The definitions that the contracts cite.
 pub mod Runs
 pub mod Promises
+pub mod Reread

@@ -1,0 +1,83 @@
+// Extraction of a graph that passes its checks, as its settings ask for it: its contours, and then, where asked for, without points on a straight line.
+ghost use mathlib.Core.Path.{_≡_};
+ghost use mathlib.Core.List.{map};
+ghost use lib.ListN.{length};
+ghost use Rattle.next.specs.Known.{Links};
+ghost use Rattle.rings.specs.Field.{Fielded};
+ghost use Rattle.walk.specs.Code.{unmark};
+ghost use Rattle.contour.specs.Notes.{Roomy};
+ghost use Rattle.finish.specs.Finish.{buffers};
+ghost use Rattle.outlines.specs.Promises.{answered, straightBy, StandsFor, extract-outlines-says};
+use contour::Settings;
+use extraction::extract_fine;
+use scan::Extraction;
+use straighten::drop_straight;
+
+// An answer that is done loses its points on a straight line, if that is asked for.
+fn straighten_if(
+    drop: bool,
+    answer: Extraction,
+    points: &mut [i32],
+    first: &mut [u32],
+    len: &mut [u32],
+) -> Extraction
+    requires { ⌜ StandsFor answer (now points) (now first) (now len) ⌝ }
+    ensures { λ r. ⌜ answered r (now (points .exit)) (now (first .exit)) (now (len .exit))
+        ≡ straightBy drop answer (now (points .entry)) (now (first .entry)) (now (len .entry)) ⌝ }
+{
+    if !drop {
+        return answer;
+    }
+    match answer {
+        Extraction::Refused { number, place } => Extraction::Refused {
+            number: number,
+            place: place,
+        },
+        Extraction::Done(c) => Extraction::Done(drop_straight(points, first, len, c)),
+    }
+}
+
+// Extraction of a graph that passes checks 1 to 7, over the field of its ends.
+pub fn extract_outlines(
+    ax: &[i32],
+    ay: &[i32],
+    bx: &[i32],
+    by: &[i32],
+    nxt: &[u32],
+    prv: &[u32],
+    lead: &[u8],
+    top: &[u8],
+    settings: Settings,
+    state: &mut [u8],
+    points: &mut [i32],
+    first: &mut [u32],
+    len: &mut [u32],
+    kind: &mut [u8],
+) -> Extraction
+    requires { ⌜ Fielded (now ax) (now ay) (now bx) (now by) (now top) (now nxt) (now prv) (now lead) (now state) ⌝ }
+    requires { ⌜ (Links (now ax) (now ay) (now bx) (now by) (length (now state))) × (length (now top) ≡ length (now state)) ⌝ }
+    requires { ⌜ Roomy (length (now state)) (length (now points)) (length (now first)) (length (now len)) (length (now kind)) ⌝ }
+    requires { ⌜ map unmark (now state) ≡ now state ⌝ }
+    ensures { λ r. ⌜ extract-outlines-says (now (ax .entry)) (now (ay .entry)) (now (bx .entry)) (now (by .entry)) (now (nxt .entry)) (now (prv .entry))
+        (now (lead .entry)) (now (top .entry)) settings
+        (buffers (now (state .entry)) (now (points .entry)) (now (first .entry)) (now (len .entry)) (now (kind .entry))) r
+        (buffers (now (state .exit)) (now (points .exit)) (now (first .exit)) (now (len .exit)) (now (kind .exit))) ⌝ }
+{
+    let answer = extract_fine(
+        ax,
+        ay,
+        bx,
+        by,
+        nxt,
+        prv,
+        lead,
+        top,
+        settings,
+        state,
+        points,
+        first,
+        len,
+        kind,
+    );
+    straighten_if(settings.drop_straight, answer, points, first, len)
+}
