@@ -127,14 +127,14 @@ module _ (g : Graph) (ok : Listed g) where
 
 -- ---- a closed walk along different links has three steps or more
 module _ (g : Graph) (st : List ℕ) (ok : Sound g st) where
-  abbrev Known : Step → Type 0
+  abbrev pub Known : Step → Type 0
   Known s = Unvisited st (s .link)
 
   differ : (s : Step) → Known s → g .aNode (s .link) ≡ g .bNode (s .link) → ⊥
   differ s o = ok .lists .differ (s .link) (below g st ok (s .link) o)
 
   -- how a link runs from the node that a step along it leaves, and from the one that it reaches
-  away-left : (h : ℕ) (s : Step) → Known s → nodeLeft g s ≡ h → awayFrom g h (s .link) ≡ fromTo (left g s) (reached g s)
+  pub away-left : (h : ℕ) (s : Step) → Known s → nodeLeft g s ≡ h → awayFrom g h (s .link) ≡ fromTo (left g s) (reached g s)
   away-left h s o = by (s .forward)
     where
       k : ℕ
@@ -144,7 +144,7 @@ module _ (g : Graph) (st : List ℕ) (ok : Sound g st) where
       by true e = pick-true (fromTo (g .a k) (g .b k)) (fromTo (g .b k) (g .a k)) (eq-eqb (g .aNode k) h e)
       by false e = pick-false (fromTo (g .a k) (g .b k)) (fromTo (g .b k) (g .a k)) (ne-eqb (g .aNode k) h (λ q. differ s o (q ∙ sym e)))
 
-  away-reached : (h : ℕ) (s : Step) → Known s → nodeReached g s ≡ h → awayFrom g h (s .link) ≡ fromTo (reached g s) (left g s)
+  pub away-reached : (h : ℕ) (s : Step) → Known s → nodeReached g s ≡ h → awayFrom g h (s .link) ≡ fromTo (reached g s) (left g s)
   away-reached h s o = by (s .forward)
     where
       k : ℕ
@@ -154,7 +154,7 @@ module _ (g : Graph) (st : List ℕ) (ok : Sound g st) where
       by true e = pick-false (fromTo (g .a k) (g .b k)) (fromTo (g .b k) (g .a k)) (ne-eqb (g .aNode k) h (λ q. differ s o (q ∙ sym e)))
       by false e = pick-true (fromTo (g .a k) (g .b k)) (fromTo (g .b k) (g .a k)) (eq-eqb (g .aNode k) h e)
 
-  at-node : (h : ℕ) (s : Step) → Known s → (nodeLeft g s ≡ h) ⊎ (nodeReached g s ≡ h) → Mem (s .link) (g .entries h)
+  pub at-node : (h : ℕ) (s : Step) → Known s → (nodeLeft g s ≡ h) ⊎ (nodeReached g s ≡ h) → Mem (s .link) (g .entries h)
   at-node h s o e = ⊎-elim (left-of (s .forward)) (reached-of (s .forward)) e
     where
       k : ℕ
@@ -199,7 +199,7 @@ module _ (g : Graph) (st : List ℕ) (ok : Sound g st) where
   three-steps m now (s ∷ (t ∷ (u ∷ l))) n f sub c z = omega arith
 
   -- what is unvisited after a walk was unvisited before
-  unvisited-before : (m : ℕ) (now : List ℕ) (l : List Step) → Mark m → Fresh m now l → (k : ℕ) → Unvisited (marked m l now) k → Unvisited now k
+  pub unvisited-before : (m : ℕ) (now : List ℕ) (l : List Step) → Mark m → Fresh m now l → (k : ℕ) → Unvisited (marked m l now) k → Unvisited now k
   unvisited-before m now [] n f k o = o
   unvisited-before m now (s ∷ l) n f k o = set-of now (s .link) m k (f .0) n (unvisited-before m (set now (s .link) m) l n (f .1) k o) .0
 
