@@ -21,14 +21,10 @@ use Rattle.keep.specs.Outcome.{lens, firsts, kinds, allPoints, coordinates, kep
 use Rattle.finish.specs.Finish.{Buffers}
 use Rattle.extraction.specs.Extract.{Extracted, extractedAs, afterScan, afterChecks, extracted}
 use Rattle.laws.specs.Lists.{padded}
-use Rattle.keep.specs.Ledger.{coordinates-length, all-points-length}
+use Rattle.keep.specs.Ledger.{coordinates-length, all-points-length, firsts-length}
 
 padded-long : {A : Type 0} (z : A) (l : List A) (n : ℕ) → length l ≤ length (padded z l n)
 padded-long z l n = omega (arith, length-append l (replicate (n - length l) z))
-
-firsts-length : (at : ℕ) (ns : List ℕ) → length (firsts at ns) ≡ length ns
-firsts-length at [] = refl
-firsts-length at (n ∷ ns) = ap suc (firsts-length (at + n) ns)
 
 module _ (g : Graph) (minimum : ℕ) (b : Buffers) where
   scan-fits : (o : Scanned) → ExtractionFits (afterScan g minimum b o .answer) (lentTable (afterScan g minimum b o .lent))

@@ -1,6 +1,7 @@
 // What the program answers to the lists of a graph: extracted, then answered into a slice of bytes.
 //
 // Each function has the arrays of its stage and makes one call with them; the stages below see slices only.
+use contour::Settings;
 use table::MAX_CONTOURS;
 use turn::MAX_LINKS;
 ghost use mathlib.Core.Path.{_≡_};
@@ -16,7 +17,7 @@ ghost use Rattle.finish.specs.Finish.{Buffers, buffers};
 // The coordinates of as many points as there may be links, x and y in turn.
 const COORDINATES: usize = 2 * MAX_LINKS;
 
-// Extracts the contours of a graph into blank buffers, and answers them.
+// Extracts the contours of a graph into blank buffers, with all their points, and answers them.
 fn answer_contours(
     ax: &[i32],
     ay: &[i32],
@@ -45,6 +46,11 @@ fn answer_contours(
         (Wrote (now (out .entry)) (now (out .exit)) 0 r (extractedText g (now (top .entry)) clockwise minimum b))
         × (now (state .exit) ≡ extractedStates g (now (top .entry)) clockwise minimum b)) ⌝ }
 {
+    let settings = Settings {
+        clockwise: clockwise,
+        minimum: minimum,
+        drop_straight: false,
+    };
     let extraction = extract::extract(
         ax,
         ay,
@@ -55,8 +61,7 @@ fn answer_contours(
         start,
         list,
         top,
-        clockwise,
-        minimum,
+        settings,
         state,
         points,
         first,

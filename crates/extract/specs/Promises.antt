@@ -1,15 +1,16 @@
 -- What each public function promises, written once: its contract names it, and any two outcomes that it allows are equal.
 use mathlib.Core.List.{List}
-use mathlib.Core.Bool.{Bool}
 use Prim.Native.Nat.{ℕ}
 use Rattle.graph.specs.Graph.{Lent}
+use Rattle.contour.specs.declared.Settings.{Settings}
 use Rattle.scan.specs.declared.Extraction.{Extraction}
 use Rattle.finish.specs.Finish.{Buffers}
-use Rattle.extraction.specs.Promises.{SameOutcome, Extracts, extracts-once}
+use Rattle.extraction.specs.Promises.{SameOutcome}
+use Rattle.outlines.specs.Promises.{Outlines, outlines-once}
 
-abbrev pub extract-says : Lent → List ℕ → Bool → ℕ → Buffers → Extraction → Buffers → Type 0
-extract-says = Extracts
+abbrev pub extract-says : Lent → List ℕ → Settings → Buffers → Extraction → Buffers → Type 0
+extract-says = Outlines
 
-pub extract-once : (g : Lent) (top : List ℕ) (clockwise : Bool) (minimum : ℕ) (before : Buffers) (r s : Extraction) (b c : Buffers)
-    → extract-says g top clockwise minimum before r b → extract-says g top clockwise minimum before s c → SameOutcome r s b c
-extract-once = extracts-once
+pub extract-once : (g : Lent) (top : List ℕ) (settings : Settings) (before : Buffers) (r s : Extraction) (b c : Buffers)
+    → extract-says g top settings before r b → extract-says g top settings before s c → SameOutcome r s b c
+extract-once = outlines-once

@@ -25,8 +25,7 @@ pub fn extract(
     start: &[u32],
     list: &[u32],
     top: &[u8],
-    clockwise: bool,
-    minimum: u64,
+    settings: Settings,
     state: &mut [u8],
     points: &mut [i32],
     first: &mut [u32],
@@ -38,12 +37,8 @@ pub fn extract(
         let before : Buffers = buffers (now (state .entry)) (now (points .entry)) (now (first .entry)) (now (len .entry))
         (now (kind .entry)) in
         let after : Buffers = buffers (now (state .exit)) (now (points .exit)) (now (first .exit)) (now (len .exit)) (now (kind .exit)) in
-        extract-says g (now (top .entry)) clockwise minimum before r after) ⌝ }
+        extract-says g (now (top .entry)) settings before r after) ⌝ }
 {
-    let settings = Settings {
-        clockwise: clockwise,
-        minimum: minimum,
-    };
     if aid.len() <= FEW_LINKS {
         let mut nxt = [0u32; FEW_ENDS];
         let mut prv = [0u32; FEW_ENDS];

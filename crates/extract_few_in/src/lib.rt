@@ -8,7 +8,7 @@ ghost use Rattle.finish.specs.Finish.{Buffers, buffers};
 ghost use Rattle.extract_few_in.specs.Promises.{extract-few-in-says};
 use check_graph::Room;
 use contour::Settings;
-use extraction::extract_fine;
+use outlines::extract_outlines;
 use scan::Extraction;
 use turn::Checked;
 
@@ -41,7 +41,7 @@ pub fn extract_few_in(
         let before : Buffers = buffers (now (state .entry)) (now (points .entry)) (now (first .entry)) (now (len .entry))
         (now (kind .entry)) in
         let after : Buffers = buffers (now (state .exit)) (now (points .exit)) (now (first .exit)) (now (len .exit)) (now (kind .exit)) in
-        extract-few-in-says g (now (top .entry)) (settings .clockwise) (settings .minimum) before r after) ⌝ }
+        extract-few-in-says g (now (top .entry)) settings before r after) ⌝ }
 {
     let room = Room {
         points: points.len(),
@@ -69,7 +69,7 @@ pub fn extract_few_in(
             number: number,
             place: place,
         },
-        Checked::Fine => extract_fine(
+        Checked::Fine => extract_outlines(
             ax,
             ay,
             bx,

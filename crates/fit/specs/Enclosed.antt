@@ -17,7 +17,8 @@ use Rattle.keep.specs.Ledger.{points-back}
 use Rattle.extraction.specs.Extract.{extractedAs, extracted}
 use Rattle.finish.specs.Finish.{Buffers}
 use Rattle.table.specs.Table.{Table, contour, contourCount}
-use Rattle.fit.specs.Places.{tableOf, walkAt, firsts-length, firsts-from, lens-length}
+use Rattle.fit.specs.Places.{tableOf, walkAt, firsts-from, lens-length}
+use Rattle.keep.specs.Ledger.{firsts-length}
 use Rattle.fit.specs.Fit.{writtenTable, ran}
 
 -- f 0 + f 1 + .. + f (n - 1)

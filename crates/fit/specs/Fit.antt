@@ -19,7 +19,8 @@ use Rattle.scan.specs.declared.Extraction.the-variants.{Done, Refused}
 use Rattle.walk.specs.Walk.{Step, Walk, left, points}
 use Rattle.scan.specs.Scan.{Scanned, stopped, walks, scan}
 use Rattle.keep.specs.Outcome.{kept, lens, firsts, kinds, allPoints, coordinates, sum, countsOf}
-use Rattle.keep.specs.Ledger.{coordinates-length, all-points-length}
+use Rattle.keep.specs.Ledger.{coordinates-length, all-points-length, firsts-length}
+use Rattle.straighten.specs.Reread.{origin}
 use Rattle.scan.specs.Visits.{scanned}
 use Rattle.extraction.specs.Extract.{Extracted, extractedAs, afterScan, afterChecks, extracted}
 use Rattle.finish.specs.Finish.{Buffers}
@@ -31,7 +32,7 @@ use Rattle.anchor.specs.AnchorChecks.{anchorsChecked}
 use Rattle.turn.specs.declared.Checked.the-variants as check
 use Rattle.table.specs.Passing.{passes-sound}
 use Rattle.anchor.specs.Anchoring.{passes-anchored}
-use Rattle.fit.specs.Places.{tableOf, walkAt, origin, firsts-length, lens-length, lens-at, kinds-at, point-at}
+use Rattle.fit.specs.Places.{tableOf, walkAt, lens-length, lens-at, kinds-at, point-at}
 use Rattle.fit.specs.Sizes.{table-sound, at-walks, three, links-in}
 use Rattle.fit.specs.Anchors.{AllBegin, Led, scan-begins}
 use Rattle.fit.specs.Leads.{lead, Leads, all-lead, all-ordered, kept-ordered, ordered-at, anchor-lead}

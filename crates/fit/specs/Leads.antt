@@ -21,7 +21,8 @@ use Rattle.walk.specs.States.{Mark, set-of}
 use Rattle.walk.specs.Visits.{Fresh, mark-of}
 use Rattle.scan.specs.Visits.{AllFresh}
 use Rattle.tour.specs.Statement.{Line}
-use Rattle.fit.specs.Places.{origin, walkAt, noWalk}
+use Rattle.fit.specs.Places.{walkAt, noWalk}
+use Rattle.straighten.specs.Reread.{origin}
 use Rattle.fit.specs.Rounds.{Links, meets}
 use Rattle.fit.specs.Sizes.{kept-of}
 use Rattle.fit.specs.Anchors.{Begins, AllBegin}

@@ -1,25 +1,21 @@
 -- Where the points of a walk stand in the table that extraction writes: contour c of the table is the c-th kept walk.
 use Prim.Native.Nat.{ℕ, zero, suc, _+_, _*_, _≤_, _<_}
 use native.Mathlib.Omega.{arith}
-use mathlib.Core.Path.{_≡_, refl, ap, ap₂, _∙_}
+use mathlib.Core.Path.{_≡_, refl, ap, _∙_}
 use mathlib.Core.Bool.{false}
 use mathlib.Core.List.{List, [], _∷_, _++_}
 use lib.ListN.{length, getD, length-map, List·getD-append, List·getD-map}
 use lib.Seq.{getD-append-add}
-use lib.IntN.{pos}
 use Rattle.laws.specs.Test.{pick}
-use Rattle.turn.specs.declared.Point.{Point}
 use Rattle.graph.specs.Graph.{Graph}
 use Rattle.table.specs.Table.{Table, table, pointIn}
 use Rattle.walk.specs.Walk.{Walk, left, points}
 use Rattle.keep.specs.Outcome.{lens, firsts, kinds, allPoints, coordinates, sum}
+use Rattle.straighten.specs.Reread.{origin, coordinates-at}
 
 -- what extraction writes of its kept walks
 abbrev pub tableOf : Graph → List Walk → Table
 tableOf g ks = table (coordinates (allPoints g ks)) (firsts 0 (lens ks)) (lens ks) (kinds ks)
-
-abbrev pub origin : Point
-origin = record { x = pos 0; y = pos 0 }
 
 abbrev pub noWalk : Walk
 noWalk = record { hole = false; steps = [] }
@@ -27,18 +23,6 @@ noWalk = record { hole = false; steps = [] }
 -- the c-th walk
 abbrev pub walkAt : List Walk → ℕ → Walk
 walkAt ks c = getD ks c noWalk
-
-pub coordinates-at : (l : List Point) (p : ℕ) → pointIn (coordinates l) p ≡ getD l p origin
-coordinates-at [] p = refl
-coordinates-at (q ∷ l) zero = refl
-coordinates-at (q ∷ l) (suc p) =
-    let e : suc p * 2 ≡ suc (suc (p * 2)) = omega arith in
-    let f : suc p * 2 + 1 ≡ suc (suc (p * 2 + 1)) = omega arith in
-    ap₂ (λ i j. record { x = getD (coordinates (q ∷ l)) i (pos 0); y = getD (coordinates (q ∷ l)) j (pos 0) }) e f ∙ coordinates-at l p
-
-pub firsts-length : (at : ℕ) (ns : List ℕ) → length (firsts at ns) ≡ length ns
-firsts-length at [] = refl
-firsts-length at (n ∷ ns) = ap suc (firsts-length (at + n) ns)
 
 pub firsts-from : (at : ℕ) (ns : List ℕ) (c : ℕ) → c < length ns → getD (firsts at ns) c 0 ≡ at + getD (firsts 0 ns) c 0
 firsts-from at [] c h = absurd (nothing c h)

@@ -17,25 +17,7 @@ use Rattle.walk.specs.Walk.{Step, Walk, left, marked, markOf}
 use Rattle.walk.specs.Visits.{Fresh}
 use Rattle.scan.specs.Visits.{AllFresh}
 use Rattle.tour.specs.Statement.{nodeLeft, nodeReached, reached, Line}
-use Rattle.fit.specs.Places.{origin}
-
--- ---- the links of the walks are links of the graph
-pub marked-length : (m : ℕ) (l : List Step) (st : List ℕ) → length (marked m l st) ≡ length st
-marked-length m [] st = refl
-marked-length m (s ∷ l) st = marked-length m l (set st (s .link) m) ∙ length-set st (s .link) m
-
-fresh-below : (m : ℕ) (st : List ℕ) (l : List Step) → Fresh m st l → (p : Step) → List·Memᴰ p l → p .link < length st
-fresh-below m st [] f p i = absurd (List·Memᴰ·not-nil i)
-fresh-below m st (s ∷ l) f p i =
-    ⊎-elim (λ (e : p ≡ s). rw e (unvisited-below st (s .link) (f .0)))
-    (λ k. rw (length-set st (s .link) m) at (fresh-below m (set st (s .link) m) l (f .1) p k)) (List·Memᴰ·cases-cons i)
-
-pub walked-below : (st : List ℕ) (ws : List Walk) → AllFresh st ws → (w : Walk) → List·Memᴰ w ws → (p : Step) → List·Memᴰ p (w .steps) → p .link < length st
-walked-below st [] f w m p i = absurd (List·Memᴰ·not-nil m)
-walked-below st (v ∷ ws) f w m p i =
-    ⊎-elim (λ (e : w ≡ v). fresh-below (markOf (v .hole)) st (v .steps) (f .0) p (subst (λ (x : Walk). List·Memᴰ p (x .steps)) e i))
-    (λ k. rw (marked-length (markOf (v .hole)) (v .steps) st) at (walked-below (marked (markOf (v .hole)) (v .steps) st) ws (f .1) w k p i))
-    (List·Memᴰ·cases-cons m)
+use Rattle.straighten.specs.Reread.{origin}
 
 module _ (g : Lent) (top st : List ℕ) (r : Room) (f : FineGraph g top st r) where
   abbrev G : Graph

@@ -21,7 +21,7 @@ use Rattle.next.specs.Next.{unvisited}
 use Rattle.walk.specs.Walk.{Step, Walk, left, points}
 use Rattle.scan.specs.Scan.{walks, scan}
 use Rattle.keep.specs.Outcome.{keeps, kept, lens, firsts, kinds, allPoints, coordinates, sum}
-use Rattle.keep.specs.Ledger.{coordinates-length, all-points-length}
+use Rattle.keep.specs.Ledger.{coordinates-length, all-points-length, firsts-length}
 use Rattle.scan.specs.Visits.{scanned}
 use Rattle.tour.specs.Statement.{Line}
 use Rattle.tour.specs.ThreePoints.{finished}
@@ -29,29 +29,12 @@ use Rattle.table.specs.Table.{Table, firstOf, rangeEnd, lenOf, contourCount, po
 use Rattle.table.specs.TableChecks.{startIn}
 use Rattle.table.specs.TableLaws.{next-inside, next-last}
 use Rattle.table.specs.Sound.{Sound}
-use Rattle.fit.specs.Places.{tableOf, walkAt, noWalk, origin, firsts-length, firsts-follow, firsts-end, firsts-within, lens-at, kinds-at}
+use Rattle.fit.specs.Places.{tableOf, walkAt, noWalk, firsts-follow, firsts-end, firsts-within, lens-at, kinds-at}
 use Rattle.fit.specs.Places.{lens-length, point-at}
-use Rattle.fit.specs.Rounds.{left-grid, line-next, line-last, walked-below}
-
--- ---- a kept walk is one of the walks, and has three points or more
-pub kept-of : (g : Graph) (minimum : ℕ) (ws : List Walk) (w : Walk) → List·Memᴰ w (kept g minimum ws) → List·Memᴰ w ws
-kept-of g minimum [] w = λ m. m
-kept-of g minimum (v ∷ ws) w = pick-ind (keeps g minimum v) (v ∷ kept g minimum ws) (kept g minimum ws) (λ l. List·Memᴰ w l → List·Memᴰ w (v ∷ ws))
-    (λ _ m. ⊎-elim (λ e. List·Memᴰ·head e) (λ k. List·Memᴰ·tail (kept-of g minimum ws w k)) (List·Memᴰ·cases-cons m))
-    (λ _ m. List·Memᴰ·tail (kept-of g minimum ws w m))
-
-kept-sum : (g : Graph) (minimum : ℕ) (ws : List Walk) → sum (lens (kept g minimum ws)) ≤ sum (lens ws)
-kept-sum g minimum [] = omega arith
-kept-sum g minimum (v ∷ ws) = pick-ind (keeps g minimum v) (v ∷ kept g minimum ws) (kept g minimum ws) (λ l. sum (lens l) ≤ length (v .steps) + sum (lens ws))
-    (λ _. omega (arith, kept-sum g minimum ws)) (λ _. omega (arith, kept-sum g minimum ws))
-
-unvisited-few : (st : List ℕ) → unvisited st ≤ length st
-unvisited-few [] = omega arith
-unvisited-few (x ∷ st) = by (eqb x 0) (unvisited-few st)
-  where
-    by : (b : Bool) → unvisited st ≤ length st → pick b (suc (unvisited st)) (unvisited st) ≤ suc (length st)
-    by true h = omega arith
-    by false h = omega arith
+use Rattle.fit.specs.Rounds.{left-grid, line-next, line-last}
+use Rattle.straighten.specs.Reread.{origin}
+use Rattle.outlines.specs.Grid.{walked-below, kept-of, kept-sum, points-on-grid}
+use Rattle.walk.specs.States.{unvisited-some}
 
 module _ (g : Lent) (top st : List ℕ) (r : Room) (e : checked g top st r ≡ Fine) (cw : Bool) (minimum : ℕ) (ws : List Walk) (after : List ℕ)
     (s : scan (graphOf g top) cw st ≡ walks ws after) where
@@ -93,16 +76,8 @@ module _ (g : Lent) (top st : List ℕ) (r : Room) (e : checked g top st r ≡ F
           nothing q = omega arith
       last (p ∷ l) a v n q = line-last g top st r f (p ∷ l) v v a n p (a p (List·Memᴰ·head refl)) (n .0) i q
 
-  grid-all : (l : List Walk) → ((w : Walk) → List·Memᴰ w l → List·Memᴰ w ws) → (q : Point) → List·Memᴰ q (allPoints G l) → OnGrid q
-  grid-all [] a q m = absurd (List·Memᴰ·not-nil m)
-  grid-all (w ∷ l) a q m = in-walk (w .steps) (links-in w (a w (List·Memᴰ·head refl))) (λ k. grid-all l (λ x i. a x (List·Memᴰ·tail i)) q k) m
-    where
-      in-walk : (u : List Step) → ((p : Step) → List·Memᴰ p u → p .link < G .n) → (List·Memᴰ q (allPoints G l) → OnGrid q)
-          → List·Memᴰ q (map (left G) u ++ allPoints G l) → OnGrid q
-      in-walk [] b k m = k m
-      in-walk (p ∷ u) b k m =
-          ⊎-elim (λ (x : q ≡ left G p). subst OnGrid (sym x) (left-grid g top st r f p (b p (List·Memᴰ·head refl))))
-          (λ i. in-walk u (λ x j. b x (List·Memᴰ·tail j)) k i) (List·Memᴰ·cases-cons m)
+  grid-all : (q : Point) → List·Memᴰ q (allPoints G ks) → OnGrid q
+  grid-all = points-on-grid G (G .n) (left-grid g top st r f) ks (λ w m. links-in w (kept-of G minimum ws w m))
 
   grid-of : (l : List Point) → ((q : Point) → List·Memᴰ q l → OnGrid q) → Grid (coordinates l)
   grid-of [] a i h = absurd (nothing i h)
@@ -173,14 +148,14 @@ module _ (g : Lent) (top st : List ℕ) (r : Room) (e : checked g top st r ≡ F
     len-long = lens-length ks ∙ sym many;
     kind-long = length-map ks (λ w. pick (w .hole) 1 0) ∙ sym many;
     whole = omega (arith, points-many);
-    few = omega (arith, count, kept-sum G minimum ws, scanned G cw st ws after s .count, unvisited-few st, long, f .few);
+    few = omega (arith, count, kept-sum G minimum ws, scanned G cw st ws after s .count, unvisited-some st, long, f .few);
     starts = first-zero ks;
     follows = λ c h. rw (add-one c) (firsts-follow 0 (lens ks) c (in-lens c h));
     ends = end-all ks ∙ sym count;
     within = λ c h. omega (arith, firsts-within 0 (lens ks) c (rw (lens-length ks) (in-table c h)), count);
     long = λ c h. rw (lens-at ks c) (three c (in-table c h));
     kinds = λ c h. rw (kinds-at ks c) (flag (walkAt ks c .hole));
-    grid = grid-of (allPoints G ks) (grid-all ks (kept-of G minimum ws));
+    grid = grid-of (allPoints G ks) grid-all;
     neighbours = neighbour;
   }
     where

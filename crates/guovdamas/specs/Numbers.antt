@@ -2,6 +2,7 @@
 -- set them out.
 use Prim.Native.Nat.{ℕ}
 use mathlib.Core.List.{List}
+use Rattle.contour.specs.declared.Settings.{Settings}
 use Rattle.scan.specs.declared.Extraction.{Extraction}
 use Rattle.scan.specs.Values.{Values, valuesOf}
 use Rattle.extraction.specs.Extract.{Extracted}
@@ -12,11 +13,15 @@ use Rattle.lookup.specs.declared.records.Lookup.the-variants.{Found}
 use Rattle.lookup.specs.Lookups.{LookupValues, valuesOfLookup}
 use Rattle.bind.specs.declared.Binding.{Binding}
 use Rattle.bind.specs.Outcome.{Outcome, BindingValues, valuesOfBinding}
+use Rattle.guovdamas.specs.declared.GuovdamasSettings.{GuovdamasSettings}
 use Rattle.guovdamas.specs.declared.GuovdamasExtraction.{GuovdamasExtraction}
 use Rattle.guovdamas.specs.declared.GuovdamasBinding.{GuovdamasBinding}
 use Rattle.guovdamas.specs.declared.GuovdamasRecord.{GuovdamasRecord}
 
 -- ---- extraction
+abbrev pub settingsOf : GuovdamasSettings → Settings
+settingsOf s = record { clockwise = s .clockwise; minimum = s .minimum; «drop_straight» = s .«drop_straight» }
+
 abbrev pub extractionWith : Values → GuovdamasExtraction
 extractionWith v = record {
   number = v .number;
@@ -25,6 +30,7 @@ extractionWith v = record {
   points = v .counts .points;
   rejected = v .counts .rejected;
   walked = v .counts .walked;
+  «left_out» = v .counts .«left_out»;
   «kept_area» = v .counts .«kept_area»;
   «rejected_area» = v .counts .«rejected_area»;
 }

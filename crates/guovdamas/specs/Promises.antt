@@ -7,23 +7,23 @@ use Rattle.laws.specs.Unique.{Determines, by-equation, same-part}
 use Rattle.graph.specs.Graph.{Lent}
 use Rattle.finish.specs.Finish.{Buffers}
 use Rattle.finish.specs.Promises.{SameBuffers, same-buffers}
-use Rattle.extraction.specs.Extract.{extracted}
+use Rattle.outlines.specs.Outlines.{outlined}
 use Rattle.table.specs.Table.{Table}
 use Rattle.lookup.specs.Lookups.{lookedUpValues}
 use Rattle.bind.specs.Outcome.{bound}
+use Rattle.guovdamas.specs.declared.GuovdamasSettings.{GuovdamasSettings}
 use Rattle.guovdamas.specs.declared.GuovdamasExtraction.{GuovdamasExtraction}
 use Rattle.guovdamas.specs.declared.GuovdamasBinding.{GuovdamasBinding}
 use Rattle.guovdamas.specs.declared.GuovdamasRecord.{GuovdamasRecord}
-use Rattle.guovdamas.specs.Numbers.{Extracting, extracting, numberedExtracted, Binds, binding, numberedBound, recordWith}
+use Rattle.guovdamas.specs.Numbers.{settingsOf, Extracting, extracting, numberedExtracted, Binds, binding, numberedBound, recordWith}
 
-abbrev pub guovdamas-extract-says : Lent → List ℕ → Bool → ℕ → Buffers → GuovdamasExtraction → Buffers → Type 0
-guovdamas-extract-says g top clockwise minimum before r after =
-    extracting r after ≡ numberedExtracted (extracted g top clockwise minimum before)
+abbrev pub guovdamas-extract-says : Lent → List ℕ → GuovdamasSettings → Buffers → GuovdamasExtraction → Buffers → Type 0
+guovdamas-extract-says g top settings before r after = extracting r after ≡ numberedExtracted (outlined g top (settingsOf settings) before)
 
-pub guovdamas-extract-once : (g : Lent) (top : List ℕ) (clockwise : Bool) (minimum : ℕ) (before : Buffers) (r s : GuovdamasExtraction) (b c : Buffers)
-    → guovdamas-extract-says g top clockwise minimum before r b → guovdamas-extract-says g top clockwise minimum before s c
+pub guovdamas-extract-once : (g : Lent) (top : List ℕ) (settings : GuovdamasSettings) (before : Buffers) (r s : GuovdamasExtraction) (b c : Buffers)
+    → guovdamas-extract-says g top settings before r b → guovdamas-extract-says g top settings before s c
     → (r ≡ s) × (SameBuffers b c)
-guovdamas-extract-once g top clockwise minimum before r s b c p q = (
+guovdamas-extract-once g top settings before r s b c p q = (
   same-part (λ (e : Extracting). e .answer) p q,
   same-buffers (same-part (λ (e : Extracting). e .lent) p q) refl,
 )

@@ -1,5 +1,6 @@
 // The static library: extraction, binding and lookup, with numbers and slices only, for Rust and C. include/guovdamas.h is its header.
 use bind::Binding;
+use contour::Settings;
 use lookup::records::ContourRecord;
 use lookup::records::Lookup;
 use lookup::records::Role;
@@ -9,8 +10,16 @@ ghost use Rattle.graph.specs.Graph.{Lent, lent};
 ghost use Rattle.finish.specs.Finish.{Buffers, buffers};
 ghost use Rattle.table.specs.Table.{Table, table};
 ghost use Rattle.lookup.specs.Lookups.{roleNumber, roleOwner};
-ghost use Rattle.guovdamas.specs.Numbers.{extractionOf, bindingOf, foundRecord, recordNumbers};
+ghost use Rattle.guovdamas.specs.Numbers.{settingsOf, extractionOf, bindingOf, foundRecord, recordNumbers};
 ghost use Rattle.guovdamas.specs.Promises.{guovdamas-extract-says, guovdamas-bind-says, guovdamas-lookup-says};
+
+// How outlines are asked for: the area below which a walk is rejected, the output direction, and whether points on a straight line are dropped.
+#[repr(C)]
+pub struct GuovdamasSettings {
+    pub minimum: u64,
+    pub clockwise: bool,
+    pub drop_straight: bool,
+}
 
 // What extraction answers: document 01's number and place, 0 and 0 when done; the counts and the signed doubled totals, all 0 after a refusal.
 #[repr(C)]
@@ -21,6 +30,7 @@ pub struct GuovdamasExtraction {
     pub points: usize,
     pub rejected: usize,
     pub walked: usize,
+    pub left_out: usize,
     pub kept_area: i64,
     pub rejected_area: i64,
 }
@@ -45,6 +55,16 @@ pub struct GuovdamasRecord {
     pub len: u32,
 }
 
+fn settings_of(settings: GuovdamasSettings) -> Settings
+    ensures { λ r. ⌜ r ≡ settingsOf settings ⌝ }
+{
+    Settings {
+        clockwise: settings.clockwise,
+        minimum: settings.minimum,
+        drop_straight: settings.drop_straight,
+    }
+}
+
 fn extraction_of(answer: Extraction) -> GuovdamasExtraction
     ensures { λ r. ⌜ r ≡ extractionOf answer ⌝ }
 {
@@ -56,6 +76,7 @@ fn extraction_of(answer: Extraction) -> GuovdamasExtraction
             points: counts.points,
             rejected: counts.rejected,
             walked: counts.walked,
+            left_out: counts.left_out,
             kept_area: counts.kept_area,
             rejected_area: counts.rejected_area,
         },
@@ -66,6 +87,7 @@ fn extraction_of(answer: Extraction) -> GuovdamasExtraction
             points: 0,
             rejected: 0,
             walked: 0,
+            left_out: 0,
             kept_area: 0,
             rejected_area: 0,
         },
@@ -157,8 +179,7 @@ pub extern "C" fn guovdamas_extract(
     top: &[u8],
     start: &[u32],
     list: &[u32],
-    clockwise: bool,
-    minimum: u64,
+    settings: GuovdamasSettings,
     state: &mut [u8],
     points: &mut [i32],
     first: &mut [u32],
@@ -170,7 +191,7 @@ pub extern "C" fn guovdamas_extract(
         let before : Buffers = buffers (now (state .entry)) (now (points .entry)) (now (first .entry)) (now (len .entry))
         (now (kind .entry)) in
         let after : Buffers = buffers (now (state .exit)) (now (points .exit)) (now (first .exit)) (now (len .exit)) (now (kind .exit)) in
-        guovdamas-extract-says g (now (top .entry)) clockwise minimum before r after) ⌝ }
+        guovdamas-extract-says g (now (top .entry)) settings before r after) ⌝ }
 {
     let answer = extract::extract(
         ax,
@@ -182,8 +203,7 @@ pub extern "C" fn guovdamas_extract(
         start,
         list,
         top,
-        clockwise,
-        minimum,
+        settings_of(settings),
         state,
         points,
         first,

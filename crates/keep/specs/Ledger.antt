@@ -231,7 +231,7 @@ module _ {A : Type 0} (z : A) where
       ap (λ (q : List A). q ++ map (λ _. z) (drop k l)) e
       ∙ ap (λ (q : List A). r ++ q) (map-const z (drop k l) ∙ ap (λ i. replicate i z) (length-drop k l ∙ ap₂ _-_ m (sym h)))
 
-firsts-length : (at : ℕ) (ns : List ℕ) → length (firsts at ns) ≡ length ns
+pub firsts-length : (at : ℕ) (ns : List ℕ) → length (firsts at ns) ≡ length ns
 firsts-length at [] = refl
 firsts-length at (n ∷ ns) = ap suc (firsts-length (at + n) ns)
 

@@ -16,7 +16,7 @@ use Rattle.walk.specs.Walk.{Step, Walk, left, points}
 use Rattle.walk.specs.States.{unvisited-some}
 use Rattle.keep.specs.declared.Counts.{Counts}
 use Rattle.keep.specs.Outcome.{kept, lens, firsts, allPoints, coordinates, sum, countsOf}
-use Rattle.keep.specs.Ledger.{coordinates-length, all-points-length}
+use Rattle.keep.specs.Ledger.{coordinates-length, all-points-length, firsts-length}
 use Rattle.contour.specs.declared.Settings.{Settings}
 use Rattle.contour.specs.Notes.{Roomy}
 use Rattle.scan.specs.declared.Extraction.{Extraction}
@@ -37,10 +37,6 @@ use Rattle.outlines.specs.Promises.{Answered, answered, straightBy, Stan
 positive : (ks : List Walk) → Threes ks → Positive (lens ks)
 positive [] h = tt
 positive (w ∷ ks) h = (omega (arith, h .0), positive ks (h .1))
-
-firsts-long : (at : ℕ) (ns : List ℕ) → length (firsts at ns) ≡ length ns
-firsts-long at [] = refl
-firsts-long at (n ∷ ns) = ap suc (firsts-long (at + n) ns)
 
 module _ (ax ay bx by : List ℤ) (g : Graph) (cw : Bool) (minimum : ℕ) (b : Buffers) (reads : Reads g ax ay bx by)
     (links : Links ax ay bx by (length (b .state)))
@@ -93,7 +89,7 @@ module _ (ax ay bx by : List ℤ) (g : Graph) (cw : Bool) (minimum : ℕ) (b : B
     stands : Stands (before .points) (before .first) (before .len) (length ks)
     stands = record {
       first-room =
-          omega (arith, first-room, padded-length 0 (firsts 0 (lens ks)) (length (b .first)) (omega (arith, firsts-long 0 (lens ks), lens-long, first-room)));
+          omega (arith, first-room, padded-length 0 (firsts 0 (lens ks)) (length (b .first)) (omega (arith, firsts-length 0 (lens ks), lens-long, first-room)));
       len-room = omega (arith, len-room, padded-length 0 (lens ks) (length (b .len)) (omega (arith, lens-long, len-room)));
       some = subst Positive (sym sizes-are) (positive ks (kept-threes g minimum ws));
       few = omega (arith, ap sum sizes-are, few-links, room .few);

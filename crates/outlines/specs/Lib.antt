@@ -2,4 +2,5 @@
 pub mod Outlines
 pub mod Straightening
 pub mod Grid
+pub mod Checking
 pub mod Promises

@@ -16,7 +16,7 @@ use Rattle.graph.specs.Graph.{Graph}
 use Rattle.walk.specs.Walk.{Walk, points, left}
 use Rattle.keep.specs.declared.Counts.{Counts}
 use Rattle.keep.specs.Outcome.{keeps, kept, lens, firsts, kinds, allPoints, coordinates, sum, countsOf}
-use Rattle.keep.specs.Ledger.{coordinates-length, all-points-length}
+use Rattle.keep.specs.Ledger.{coordinates-length, all-points-length, firsts-length}
 use Rattle.finish.specs.Finish.{Buffers, buffers}
 use Rattle.scan.specs.declared.Extraction.the-variants.{Done}
 use Rattle.extraction.specs.Extract.{Extracted, extractedAs, done, afterWalks}
@@ -90,10 +90,6 @@ corners-sum (c ∷ cs) = omega (arith, corners-sum cs, corners-few c)
 
 corners-many : (cs : List (List Point)) → length (sizes (cornersOf cs)) ≡ length cs
 corners-many cs = length-map (cornersOf cs) length ∙ length-map cs allCorners
-
-firsts-length : (at : ℕ) (ns : List ℕ) → length (firsts at ns) ≡ length ns
-firsts-length at [] = refl
-firsts-length at (n ∷ ns) = ap suc (firsts-length (at + n) ns)
 
 -- ---- the pass over what extraction wrote
 module _ (g : Graph) (minimum : ℕ) (ws : List Walk) (b : Buffers) (smooth : AllSpikeless g (kept g minimum ws))

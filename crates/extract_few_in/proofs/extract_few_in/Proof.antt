@@ -5,7 +5,9 @@ use Rattle.turn.specs.declared.Checked.the-variants.{Fine}
 use Rattle.graph.specs.Graph.{Lent, lent, graphOf}
 use Rattle.finish.specs.Finish.{Buffers, buffers}
 use Rattle.check_any.specs.Lengths.{as-wide}
-use Rattle.extraction.specs.Lends.{Lends, after-refusal, after-fine, lent-on}
+use Rattle.extraction.specs.Lends.{Lends, lent-on}
+use Rattle.outlines.specs.Checking.{after-refusal, after-fine}
+use Rattle.smooth.specs.Spikes.{spikeless}
 use Rattle.extract_few_in.proofs.extract_few_in.Statement.{statement}
 use Rattle.extract_few_in.proofs.extract_few_in.Tie as tie
 
@@ -39,8 +41,8 @@ lends o t =
     lent-on (g s) (s .args .top .now) (s .args .settings .clockwise) (s .args .settings .minimum) (b s) (sym (o .check-few .ensures .0 .2) ∙ t)
     (o .check-few .ensures .1 t) (λ few. as-wide _ _ _ _ (s .pre .0 few) (k .0) (k .1 .0) (k .1 .1 .0))
 
-extract-fine-requires : tie.Need-extract-fine-requires
-extract-fine-requires c κs =
+extract-outlines-requires : tie.Need-extract-outlines-requires
+extract-outlines-requires c κs =
     let o = c .before .before .before .before .before .before .before .before .before .before .before .before .before .before .before .before in
     let s = at-start o in
     let q = lends o (c .before .before .before .before .before .before .before .before .enum-told .given .1) in
@@ -62,7 +64,7 @@ returns : tie.Need-returns
 returns c =
     let o = c .before .before .before .before .before .before .before .before .before in
     let s = at-start o in
-    after-refusal (g s) (s .args .top .now) (s .args .settings .clockwise) (s .args .settings .minimum) (b s) _ _
+    after-refusal (g s) (s .args .top .now) (s .args .settings) (b s) _ _
     (sym (o .check-few .ensures .0 .2) ∙ c .before .number .given .1)
 
 same-length-5 : tie.Need-same-length-5
@@ -96,10 +98,11 @@ returns-2 c =
     let s = at-start o in
     let t = c .before .before .before .before .before .before .before .before .before .before .before .before .before .before .before .before
     .before .before .enum-told .given .1 in
-    c .before .before .before .before .before .before .before .before .before .extract-fine .ensures (graphOf (g s) (s .args .top .now)) (lends o t .0)
-    ∙ after-fine (g s) (s .args .top .now) (s .args .settings .clockwise) (s .args .settings .minimum) (b s) (sym (o .check-few .ensures .0 .2) ∙ t)
+    c .before .before .before .before .before .before .before .before .before .extract-outlines .ensures (graphOf (g s) (s .args .top .now)) (lends o t .0)
+    (spikeless (g s) (s .args .top .now) (s .args .state .now) _ (s .args .settings .clockwise) (sym (o .check-few .ensures .0 .2) ∙ t))
+    ∙ after-fine (g s) (s .args .top .now) (s .args .settings) (b s) (sym (o .check-few .ensures .0 .2) ∙ t)
 
 pub extract-few-in-spec : {M : Type 1} → statement M
-extract-few-in-spec = tie.close (tie.spec check-few-requires enum-known-number enum-told extract-fine-requires same-length
+extract-few-in-spec = tie.close (tie.spec check-few-requires enum-known-number enum-told extract-outlines-requires same-length
     same-length-2 same-length-3 same-length-4 returns same-length-5 same-length-6 same-length-7 same-length-8
     same-length-9 same-length-10 same-length-11 same-length-12 returns-2)
