@@ -24,7 +24,7 @@ use Rattle.tour.specs.Statement.{Line}
 use Rattle.fit.specs.Places.{walkAt, noWalk}
 use Rattle.straighten.specs.Reread.{origin}
 use Rattle.fit.specs.Rounds.{Links, meets}
-use Rattle.fit.specs.Sizes.{kept-of}
+use Rattle.outlines.specs.Grid.{kept-of}
 use Rattle.fit.specs.Anchors.{Begins, AllBegin}
 
 -- the first link of a walk
