@@ -25,7 +25,7 @@ use Rattle.walk.specs.Walk.{Step, Walk, Walked, stuck, done, consStep, onNext, 
 use Rattle.scan.specs.Scan.{senseOf, walkOf, Scanned, stopped, walks, consWalk, afterWalk, scanAt, lowestUnvisited, scanOn, scan}
 use Rattle.keep.specs.Outcome.{areaOf, keeps}
 use Rattle.walk.specs.States.{Unvisited, Mark, set-of}
-use Rattle.walk.specs.Named.{Among, next-among}
+use Rattle.onward.specs.Named.{Among, next-among}
 use Rattle.walk.specs.Visits.{Fresh, mark-of}
 use Rattle.scan.specs.Visits.{AllFresh, scanned}
 use Rattle.tour.specs.Statement.{nodeLeft, nodeReached, Line, Closed, reached}

@@ -1,5 +1,4 @@
 -- The laws that the proofs of the functions cite.
-pub mod Rounds
 pub mod Steps
 pub mod Walks
 pub mod Starts

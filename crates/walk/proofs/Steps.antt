@@ -19,13 +19,14 @@ use Rattle.turn.specs.Area.{wedge, wedgeBound}
 use Rattle.graph.specs.Graph.{Graph, pointAt}
 use Rattle.graph.specs.Fine.{FineLinks}
 use Rattle.next.specs.Known.{Links}
-use Rattle.rings.specs.Ends.{linkOf, isA, far, nodeOfEnd, startsAt, endOf, far-far, far-link, far-sort, end-sort, end-of-node}
+use Rattle.rings.specs.Ends.{linkOf, isA, far, nodeOfEnd, startsAt, endOf, far-sort, end-sort}
 use Rattle.rings.specs.Field.{Steers, Reads}
 use Rattle.walk.specs.declared.Walker.{Walker}
-use Rattle.walk.specs.declared.Onward.the-variants as onward
+use Rattle.onward.specs.declared.Onward.the-variants as onward
+use Rattle.onward.specs.Goes.{Arrived, GoesTo, near-end, far-end}
 use Rattle.walk.specs.declared.Stepped.the-variants.{Went, Nowhere}
 use Rattle.walk.specs.Walk.{stepFrom, left}
-use Rattle.walk.specs.Code.{put, Marks, Arrived, GoesTo, stepOut, stepTo, stepBy}
+use Rattle.walk.specs.Code.{put, Marks, stepOut, stepTo, stepBy}
 
 -- ---- the area so far and one more term, as the code adds them
 module _ (a w : ℤ) (ha : natAbs a ≤ maxLinks * wedgeBound) (hw : natAbs w ≤ wedgeBound) where
@@ -58,14 +59,8 @@ mark-arrived st h mark l m = (
 
 -- from end h a step leads to end `to`: of the link that is left at h's node
 module _ {g : Graph} {m : ℕ} (l : FineLinks g m) (v to : ℕ) (below : linkOf to < g .n) (node : nodeOfEnd g (far to) ≡ v) where
-  near-end : endOf g v (linkOf to) ≡ far to
-  near-end = ap₂ (endOf g) (sym node) (sym (far-link to)) ∙ end-of-node l (far to) (subst (λ k. k < g .n) (sym (far-link to)) below)
-
-  far-end : to ≡ far (endOf g v (linkOf to))
-  far-end = sym (ap far near-end ∙ far-far to)
-
   starts : startsAt g v (linkOf to) ≡ not (isA to)
-  starts = sym (end-sort g v (linkOf to)) ∙ ap isA near-end ∙ far-sort to
+  starts = sym (end-sort g v (linkOf to)) ∙ ap isA (near-end l v to below node) ∙ far-sort to
 
   point-left : left g (stepFrom g v (linkOf to)) ≡ pick (isA to) (g .b (linkOf to)) (g .a (linkOf to))
   point-left = ap (λ t. pick t (g .a (linkOf to)) (g .b (linkOf to))) starts ∙ turned (isA to)

@@ -1,10 +1,9 @@
--- What the functions of one walk promise each other: where a walk goes on, points and marks written one by one,
--- and what a walk leaves in the lent buffers.
-use Prim.Native.Nat.{ℕ, suc, _+_, _*_, _-_, _≤_, _<_}
+-- What the functions of one walk promise each other: points and marks written one by one, and what a walk leaves in the lent buffers.
+use Prim.Native.Nat.{ℕ, suc, _+_, _*_, _-_, _≤_}
 use mathlib.Core.Path.{_≡_}
 use mathlib.Core.Bool.{Bool, false}
 use mathlib.Core.List.{List, [], _∷_, map}
-use lib.ListN.{length, getD, set}
+use lib.ListN.{length, set}
 use lib.IntN.{ℤ, natAbs, _+ℤ_}
 use lib.Dec.{eqb}
 use Rattle.laws.specs.Test.{pick}
@@ -17,9 +16,8 @@ use Rattle.next.specs.declared.Next.{Next}
 use Rattle.next.specs.declared.Next.the-variants.{Link, Nothing}
 use Rattle.next.specs.Next.{isUnvisited, unvisited, nextLink}
 use Rattle.rings.specs.Ends.{linkOf, far, nodeOfEnd, endOf}
+use Rattle.onward.specs.Goes.{Arrived}
 use Rattle.walk.specs.declared.Walker.{Walker}
-use Rattle.walk.specs.declared.Onward.{Onward}
-use Rattle.walk.specs.declared.Onward.the-variants as onward
 use Rattle.walk.specs.declared.Stepped.{Stepped}
 use Rattle.walk.specs.declared.Stepped.the-variants as stepped
 use Rattle.walk.specs.declared.Finished.{Finished}
@@ -53,23 +51,6 @@ pub record Kept (s s′ : List ℕ) : Type 0 where
 -- a mark: 2 or 3
 abbrev pub Marks : ℕ → Type 0
 Marks mark = 2 ≤ mark
-
--- ---- where a walk goes on
-
--- a walk stands at end h: its link is there, and is marked
-abbrev pub Arrived : List ℕ → ℕ → Type 0
-Arrived st h = (linkOf h < length st) × (2 ≤ getD st (linkOf h) 0)
-
--- from end h the next link leads to its far end, and is left from its end at h's node; or there is none
-abbrev pub GoesTo : Graph → Bool → List ℕ → ℕ → Onward → Type 0
-GoesTo g sense st h onward.Nowhere = nextLink g sense st (nodeOfEnd g h) (linkOf h) ≡ Nothing
-GoesTo g sense st h (onward.To to) =
-    (nextLink g sense st (nodeOfEnd g h) (linkOf h) ≡ Link (linkOf to)) × (nodeOfEnd g (far to) ≡ nodeOfEnd g h)
-
--- it is the far end of an unvisited link
-abbrev pub EndsUnvisited : List ℕ → Onward → Type 0
-EndsUnvisited st onward.Nowhere = Unit
-EndsUnvisited st (onward.To to) = (linkOf to < length st) × (getD st (linkOf to) 1 ≡ 0)
 
 -- ---- one step
 

@@ -13,7 +13,7 @@ use Rattle.next.specs.declared.Next.the-variants.{Link, Nothing}
 use Rattle.next.specs.Next.{unvisited, other, nextLink}
 use Rattle.walk.specs.Walk.{Walked, stuck, done, consStep, onNext, stepFrom, walkOn}
 use Rattle.walk.specs.States.{Unvisited, Mark, unvisited-set}
-use Rattle.walk.specs.Named.{Among, next-among}
+use Rattle.onward.specs.Named.{Among, next-among}
 
 pub no-fewer : (st : List ℕ) → unvisited st < 0 → ⊥
 no-fewer st h = omega arith

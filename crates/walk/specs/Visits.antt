@@ -15,7 +15,7 @@ use Rattle.next.specs.declared.Next.the-variants.{Link, Nothing}
 use Rattle.next.specs.Next.{isUnvisited, unvisited, other, nextLink}
 use Rattle.walk.specs.Walk.{Step, Walked, stuck, done, consStep, onNext, stepFrom, walkOn, walkFrom, marked, markOf}
 use Rattle.walk.specs.States.{Unvisited, Mark, set-other, set-same, unvisited-set}
-use Rattle.walk.specs.Named.{Among, next-among}
+use Rattle.onward.specs.Named.{Among, next-among}
 
 -- ---- walks that mark unvisited links only
 abbrev pub Fresh : ℕ → List ℕ → List Step → Type 0

@@ -1,5 +1,5 @@
 // One walk (document 01, "Walking", rules 3 to 5): from its first link to its last, each link marked and the point of each node left written.
-// The walk stands at an end of a link, the one where it arrived, and follows the field of ends (crate `rings`).
+// The walk stands at an end of a link, the one where it arrived, and goes on from there as crate `onward` says.
 ghost use mathlib.Core.Path.{_≡_};
 ghost use Prim.Native.Nat.{suc, _+_, _*_, _<_, _≤_};
 ghost use lib.ListN.{length, getD};
@@ -9,17 +9,16 @@ ghost use Rattle.graph.specs.Graph.{Graph, pointAt};
 ghost use Rattle.next.specs.Next.{unvisited};
 ghost use Rattle.next.specs.Known.{Links};
 ghost use Rattle.rings.specs.Ends.{aEnd, bEnd, linkOf, isA, far, nodeOfEnd};
-ghost use Rattle.rings.specs.Linked.{stepOf};
-ghost use Rattle.rings.specs.Field.{crossMark, nextOf, prevOf, Steers, Steered, Reads};
+ghost use Rattle.rings.specs.Field.{crossMark, Steers, Steered, Reads};
+ghost use Rattle.onward.specs.Goes.{Arrived};
 ghost use Rattle.walk.specs.Walk.{walkOn};
-ghost use Rattle.walk.specs.Code.{put, Kept, Marks, Arrived, GoesTo, EndsUnvisited, Summed, stepOut, stepBy, Goes};
+ghost use Rattle.walk.specs.Code.{put, Kept, Marks, Summed, stepOut, stepBy, Goes};
 ghost use Rattle.walk.specs.Code.{RestLeaves, Counted, Sized, SizedFrom};
 ghost use Rattle.walk.specs.Promises.{find-contour-says};
-use rings::CROSS;
-use rings::far;
+use onward::Onward;
+use onward::next_end;
 use turn::Point;
 use turn::wedge;
-use turn::wide;
 
 // A walk that is done: the number of points once its own are written, and its signed doubled area.
 pub struct Finished {
@@ -52,59 +51,6 @@ struct Walker {
 enum Stepped {
     Went(Walker),
     Nowhere,
-}
-
-// Where the next link leads: to its far end, or there is none.
-enum Onward {
-    To(usize),
-    Nowhere,
-}
-
-// The next end of the ring, clockwise or counterclockwise.
-fn step_from(nxt: &[u32], prv: &[u32], sense: bool, h: usize) -> usize
-    requires { ⌜ (h < length (now nxt)) × (h < length (now prv)) ⌝ }
-    ensures { λ r. ⌜ r ≡ stepOf sense (nextOf (now (nxt .entry))) (prevOf (now (prv .entry))) h ⌝ }
-{
-    if sense {
-        wide(prv[h])
-    } else {
-        wide(nxt[h] % CROSS)
-    }
-}
-
-// Rule 3 at a `Cross`: round the ring from end `home` to the first end of an unvisited link.
-fn go_round(nxt: &[u32], prv: &[u32], state: &[u8], sense: bool, home: usize) -> Onward
-    requires { ⌜ (Steered (now nxt) (now prv) (now state)) × (Arrived (now state) home) × (crossMark ≤ getD (now nxt) home 0) ⌝ }
-    ensures { λ r. ⌜ ((g : Graph) → Steers g (now (nxt .entry)) (now (prv .entry)) (now (state .entry))
-        → GoesTo g sense (now (state .entry)) home r) ⌝ }
-    ensures { λ r. ⌜ EndsUnvisited (now (state .entry)) r ⌝ }
-{
-    let mut at = step_from(nxt, prv, sense, home);
-    while at != home {
-        if state[at / 2] == 0 {
-            return Onward::To(far(at));
-        }
-        at = step_from(nxt, prv, sense, at);
-    }
-    Onward::Nowhere
-}
-
-// Rule 3. Most nodes are `Bridge`s: the far end of their other entry is read here, and only a `Cross` costs a call.
-fn next_end(nxt: &[u32], prv: &[u32], state: &[u8], sense: bool, h: usize) -> Onward
-    requires { ⌜ (Steered (now nxt) (now prv) (now state)) × (Arrived (now state) h) ⌝ }
-    ensures { λ r. ⌜ ((g : Graph) → Steers g (now (nxt .entry)) (now (prv .entry)) (now (state .entry))
-        → GoesTo g sense (now (state .entry)) h r) ⌝ }
-    ensures { λ r. ⌜ EndsUnvisited (now (state .entry)) r ⌝ }
-{
-    let f = nxt[h];
-    if f < CROSS {
-        let to = wide(f);
-        if state[to / 2] == 0 {
-            return Onward::To(to);
-        }
-        return Onward::Nowhere;
-    }
-    go_round(nxt, prv, state, sense, h)
 }
 
 // The point that a walk leaves which arrives at end h: that of the far end.

@@ -14,7 +14,8 @@ use Rattle.walk.proofs.Starts.{end-number-at, end-arrived, summed-none,
 use Rattle.walk.proofs.Steps.{start-on}
 use Rattle.walk.proofs.find_contour.Statement.{statement}
 use Rattle.walk.proofs.find_contour.Tie as tie
-use Rattle.walk.specs.Code.{Kept, GoesTo}
+use Rattle.onward.specs.Goes.{GoesTo}
+use Rattle.walk.specs.Code.{Kept}
 use Rattle.walk.specs.Later.{kept-later, steers-later, steered-later}
 use Rattle.walk.specs.Marks.{kept-mark, kept-then, fewer}
 use borrow.Author.Needs.{needs}

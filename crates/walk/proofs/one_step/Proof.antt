@@ -12,7 +12,7 @@ use Rattle.rings.specs.Ends.{linkOf}
 use Rattle.walk.proofs.Steps.{sum-fits, sum-is, start-on, mark-arrived, step-went, step-nowhere}
 use Rattle.walk.proofs.one_step.Statement.{statement}
 use Rattle.walk.proofs.one_step.Tie as tie
-use Rattle.walk.specs.Code.{GoesTo, EndsUnvisited}
+use Rattle.onward.specs.Goes.{GoesTo, EndsUnvisited}
 use Rattle.walk.specs.Marks.{kept-mark, kept-none, fewer}
 use borrow.Author.Needs.{needs}
 

@@ -1,13 +1,13 @@
--- `walk::go_round` meets its contract. The invariant: a step led to this end, and what was left of the ring before it
+-- `onward::go_round` meets its contract. The invariant: a step led to this end, and what was left of the ring before it
 -- holds the answer (`Round`). The measure is how many ends are left.
 use Prim.Native.Nat.{_*_, _<_}
 use native.Mathlib.Omega.{arith}
 use lib.ListN.{length}
 use Rattle.next.specs.States.{read-unvisited, read-shut}
-use Rattle.walk.proofs.Rounds.{Round, toHome, round-starts, round-below, round-none, round-to, round-unvisited}
-use Rattle.walk.proofs.Rounds.{round-again, round-less}
-use Rattle.walk.proofs.go_round.Statement.{statement}
-use Rattle.walk.proofs.go_round.Tie as tie
+use Rattle.onward.proofs.Rounds.{Round, toHome, round-starts, round-below, round-none, round-to, round-unvisited}
+use Rattle.onward.proofs.Rounds.{round-again, round-less}
+use Rattle.onward.proofs.go_round.Statement.{statement}
+use Rattle.onward.proofs.go_round.Tie as tie
 
 abbrev Inv-loop : tie.InvT-loop
 Inv-loop nxt prv state sense home at₀ at = Round nxt prv state sense home at

@@ -1,7 +1,7 @@
--- `walk::step_from` meets its contract: by the sense; what `wide` gives is what the list holds.
+-- `onward::step_from` meets its contract: by the sense; what `wide` gives is what the list holds.
 use borrow.Author.Needs.{needs}
-use Rattle.walk.proofs.step_from.Statement.{statement}
-use Rattle.walk.proofs.step_from.Tie as tie
+use Rattle.onward.proofs.step_from.Statement.{statement}
+use Rattle.onward.proofs.step_from.Tie as tie
 
 mul-wide : tie.Need-mul-wide
 mul-wide c = search needs

@@ -20,10 +20,10 @@ use Rattle.rings.specs.Linked.{stepOf}
 use Rattle.rings.specs.Follow.{Left, nextEnd, toGo, step-below, came-back, found, passed, nearer}
 use Rattle.rings.specs.RingLoop.{none-next, some-next}
 use Rattle.rings.specs.Field.{crossMark, nextOf, prevOf, Across, Steers, Steered}
-use Rattle.walk.specs.declared.Onward.the-variants.{To, Nowhere}
-use Rattle.walk.specs.Code.{Arrived, GoesTo, EndsUnvisited}
+use Rattle.onward.specs.declared.Onward.the-variants.{To, Nowhere}
+use Rattle.onward.specs.Goes.{Arrived, GoesTo, EndsUnvisited}
 use Rattle.rings.specs.Steering.{later-same}
-use Rattle.walk.specs.Named.{Among, next-among}
+use Rattle.onward.specs.Named.{Among, next-among}
 
 -- ---- the link of an end where a walk stands is visited and unskipped
 stands-visited : (st : List ℕ) (h : ℕ) → Arrived st h → isUnvisited st (linkOf h) ≡ false

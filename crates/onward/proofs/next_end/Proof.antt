@@ -1,13 +1,13 @@
--- `walk::next_end` meets its contract: at a `Bridge` the list holds the far end of the other entry, and a `Cross` is gone round.
+-- `onward::next_end` meets its contract: at a `Bridge` the list holds the far end of the other entry, and a `Cross` is gone round.
 use Prim.Native.Nat.{_<_}
 use native.Mathlib.Omega.{arith}
 use lib.ListN.{length}
 use borrow.Author.Needs.{needs}
 use Rattle.next.specs.States.{read-unvisited, read-shut, names-unvisited}
 use Rattle.rings.specs.Ends.{linkOf}
-use Rattle.walk.proofs.Rounds.{bridge-below, bridge-to, bridge-none}
-use Rattle.walk.proofs.next_end.Statement.{statement}
-use Rattle.walk.proofs.next_end.Tie as tie
+use Rattle.onward.proofs.Rounds.{bridge-below, bridge-to, bridge-none}
+use Rattle.onward.proofs.next_end.Statement.{statement}
+use Rattle.onward.proofs.next_end.Tie as tie
 
 mul-f : tie.Need-mul-f
 mul-f c = search needs
