@@ -3,7 +3,7 @@ ghost use Rattle.graph.specs.Graph.{Lent, lent};
 ghost use Rattle.finish.specs.Finish.{Buffers, buffers};
 ghost use Rattle.extract.specs.Promises.{extract-says};
 use contour::Settings;
-use extract_in::extract_few_in;
+use extract_few_in::extract_few_in;
 use extract_in::extract_in;
 use scan::Extraction;
 

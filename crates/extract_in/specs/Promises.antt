@@ -13,10 +13,3 @@ extract-in-says = Extracts
 pub extract-in-once : (g : Lent) (top : List ℕ) (clockwise : Bool) (minimum : ℕ) (before : Buffers) (r s : Extraction) (b c : Buffers)
     → extract-in-says g top clockwise minimum before r b → extract-in-says g top clockwise minimum before s c → SameOutcome r s b c
 extract-in-once = extracts-once
-
-abbrev pub extract-few-in-says : Lent → List ℕ → Bool → ℕ → Buffers → Extraction → Buffers → Type 0
-extract-few-in-says = Extracts
-
-pub extract-few-in-once : (g : Lent) (top : List ℕ) (clockwise : Bool) (minimum : ℕ) (before : Buffers) (r s : Extraction) (b c : Buffers)
-    → extract-few-in-says g top clockwise minimum before r b → extract-few-in-says g top clockwise minimum before s c → SameOutcome r s b c
-extract-few-in-once = extracts-once

@@ -5,7 +5,7 @@ use Rattle.turn.specs.declared.Checked.the-variants.{Fine}
 use Rattle.graph.specs.Graph.{Lent, lent, graphOf}
 use Rattle.finish.specs.Finish.{Buffers, buffers}
 use Rattle.check_any.specs.Lengths.{as-wide}
-use Rattle.extract_in.proofs.Lends.{Lends, after-refusal, after-fine, lent-on}
+use Rattle.extraction.specs.Lends.{Lends, after-refusal, after-fine, lent-on}
 use Rattle.extract_in.proofs.extract_in.Statement.{statement}
 use Rattle.extract_in.proofs.extract_in.Tie as tie
 

@@ -1,13 +1,13 @@
--- `extract_in::extract_few_in` meets its contract: a refusal of the checks leaves everything as it was, else the scan follows over the field that they laid.
+-- `extract_few_in::extract_few_in` meets its contract: a refusal of the checks leaves all as it was, else the scan follows over the field that they laid.
 use mathlib.Core.Path.{_≡_, sym, _∙_}
 use borrow.Author.Needs.{needs}
 use Rattle.turn.specs.declared.Checked.the-variants.{Fine}
 use Rattle.graph.specs.Graph.{Lent, lent, graphOf}
 use Rattle.finish.specs.Finish.{Buffers, buffers}
 use Rattle.check_any.specs.Lengths.{as-wide}
-use Rattle.extract_in.proofs.Lends.{Lends, after-refusal, after-fine, lent-on}
-use Rattle.extract_in.proofs.extract_few_in.Statement.{statement}
-use Rattle.extract_in.proofs.extract_few_in.Tie as tie
+use Rattle.extraction.specs.Lends.{Lends, after-refusal, after-fine, lent-on}
+use Rattle.extract_few_in.proofs.extract_few_in.Statement.{statement}
+use Rattle.extract_few_in.proofs.extract_few_in.Tie as tie
 
 abbrev g : tie.Start → Lent
 g s = lent (s .args .ax .now) (s .args .ay .now) (s .args .bx .now) (s .args .by .now) (s .args .aid .now) (s .args .bid .now) (s .args .start .now)
