@@ -17,7 +17,7 @@ use Rattle.turn.specs.Points.{before, differ, turn, clockwise}
 use Rattle.graph.specs.Graph.{Graph}
 use Rattle.rings.specs.Ends.{aEnd, bEnd, linkOf, far, endOf, a-link, b-link, far-a, far-b}
 use Rattle.rings.specs.Field.{named, LaidBridge}
-use Rattle.twins.specs.Stores.{paired, led}
+use Rattle.pairs.specs.Stores.{paired, led}
 use Rattle.bridge.proofs.Stored.{at-first, at-second}
 
 -- ---- two points are one whichever is asked first, and one that is the start of a turn makes none

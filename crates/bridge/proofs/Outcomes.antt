@@ -19,7 +19,7 @@ use Rattle.graph.specs.PointLaws.{same-point}
 use Rattle.graph.specs.BridgeLaws.{no-link, no-end, b-and-a, a-and-b, two-a, two-b}
 use Rattle.rings.specs.Ends.{aEnd, bEnd}
 use Rattle.rings.specs.Field.{LaidBridge, ElseKept, OthersKept}
-use Rattle.twins.specs.Stores.{paired, led}
+use Rattle.pairs.specs.Stores.{paired, led}
 use Rattle.bridge.proofs.Stored.{a-end-node, b-end-node, pair-kept, one-kept, led-kept}
 use Rattle.bridge.proofs.Bridges.{differ-either, laid-b-a, laid-a-b, laid-b-b, laid-a-a}
 

@@ -9,7 +9,7 @@ use Rattle.laws.specs.Test.{pick, pick-ind}
 use Rattle.graph.specs.Graph.{Graph, graphOf, lent}
 use Rattle.rings.specs.Ends.{aEnd, bEnd, a-node, b-node}
 use Rattle.rings.specs.Field.{endNode, ElseKept, OthersKept}
-use Rattle.twins.specs.Stores.{paired, led}
+use Rattle.pairs.specs.Stores.{paired, led}
 
 module _ (l : List ℕ) (p i q j : ℕ) where
   -- at the first place, at the second, and at any other

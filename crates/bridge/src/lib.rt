@@ -12,12 +12,12 @@ ghost use Rattle.graph.specs.Graph.{lent, graphOf, pointAt};
 ghost use Rattle.graph.specs.Known.{Points, Grids, Runs};
 ghost use Rattle.rings.specs.Ends.{aEnd, bEnd};
 ghost use Rattle.rings.specs.Field.{LaidBridge, ElseKept, OthersKept};
-ghost use Rattle.twins.specs.Stores.{paired};
+ghost use Rattle.pairs.specs.Stores.{paired};
 ghost use Rattle.bridge.specs.Promises.{lay-bridge-says};
 use graph::point_at;
+use pairs::lay_pair;
 use turn::differ;
 use turn::wide;
-use twins::lay_pair;
 use twins::lay_two_a;
 use twins::lay_two_b;
 

@@ -24,7 +24,7 @@ note-contour-says ax ay bx by nxt prv settings hole state points first len kind 
     (walkFrom g (not (Bool·beq hole (settings .clockwise))) (Bool·beq hole (settings .clockwise)) (markOf hole) state s) r
     state′ points′ first′ len′ kind′
 
-stuck-not-entered : (number : ℕ) (c : Counts) (s : ℕ) → Stuck number ≡ Entered c s → ⊥
+pub stuck-not-entered : (number : ℕ) (c : Counts) (s : ℕ) → Stuck number ≡ Entered c s → ⊥
 stuck-not-entered number c s e = let z : _≡_ {A = ℕ} 0 1 = cc in omega arith
 
 -- two outcomes have one answer and, where the walk is entered, the same states, points and table
@@ -32,7 +32,7 @@ pub record SameNote (r s : Noted) (st st′ : List ℕ) (pts pts′ : List ℤ) 
   pub answer : r ≡ s
   pub buffers : (c : Counts) (from : ℕ) → r ≡ Entered c from → (st ≡ st′) × (pts ≡ pts′) × (f ≡ f′) × (l ≡ l′) × (k ≡ k′)
 
-noted-once : (g : Graph) (minimum : ℕ) (t : Tables) (hole : Bool) (from : ℕ) (o : Walked) (r s : Noted) (st st′ : List ℕ) (pts pts′ : List ℤ)
+pub noted-once : (g : Graph) (minimum : ℕ) (t : Tables) (hole : Bool) (from : ℕ) (o : Walked) (r s : Noted) (st st′ : List ℕ) (pts pts′ : List ℤ)
     (f f′ l l′ k k′ : List ℕ)
     → WalkNoted g minimum t hole from o r st pts f l k → WalkNoted g minimum t hole from o s st′ pts′ f′ l′ k′
     → SameNote r s st st′ pts pts′ f f′ l l′ k k′

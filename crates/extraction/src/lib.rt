@@ -37,7 +37,7 @@ pub fn extract_fine(
         (buffers (now (state .entry)) (now (points .entry)) (now (first .entry)) (now (len .entry)) (now (kind .entry))) r
         (buffers (now (state .exit)) (now (points .exit)) (now (first .exit)) (now (len .exit)) (now (kind .exit))) ⌝ }
 {
-    let answer = scan::scan_links(
+    let answer = sweep::scan_links(
         ax,
         ay,
         bx,

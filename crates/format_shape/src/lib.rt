@@ -3,13 +3,14 @@ ghost use mathlib.Core.Path.{_≡_};
 ghost use Prim.Native.Nat.{ℕ, _≤_};
 ghost use mathlib.Core.List.{List};
 ghost use lib.ListN.{length};
-ghost use Rattle.format_records.specs.Records.{runAt, settingsRight, nodesAfter};
+ghost use Rattle.format_records.specs.Records.{runAt, nodesAfter};
 ghost use Rattle.format_shape.specs.Shape.{runEndOf, fileShapeOf};
 ghost use Rattle.format_shape.specs.Promises.{shape-of-says};
 use format_records::Refusal;
 use format_records::Run;
 use format_records::RunStep;
-use format_records::step_at;
+use format_steps::settings_right;
+use format_steps::step_at;
 
 // A whole run, or the fault in it.
 pub enum RunEnd {
@@ -50,16 +51,6 @@ fn run_at(s: &[u8], kind: u32, at: usize) -> RunEnd
             }
         }
     }
-}
-
-// Kind 3 first, 9 bytes, and a direction of 0 or 1.
-fn settings_right(s: &[u8]) -> bool
-    ensures { λ r. ⌜ r ≡ settingsRight (now (s .entry)) ⌝ }
-{
-    if s.len() < 15 {
-        return false;
-    }
-    (format_numbers::u32_at(s, 0) == 9) & ((format_numbers::u16_at(s, 4) == 3) & (s[6] <= 1))
 }
 
 // The form of what follows so many links: the nodes, and after them the end.

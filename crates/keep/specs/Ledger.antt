@@ -18,7 +18,8 @@ use Rattle.turn.specs.Size.{isKept}
 use Rattle.graph.specs.Graph.{Graph}
 use Rattle.walk.specs.Walk.{Walk, points, left}
 use Rattle.keep.specs.Outcome.{areaOf, kept, rejected, lens, firsts, kinds, allPoints, coordinates, sum, total, areas, countsOf}
-use Rattle.walk.specs.Code.{put, paste}
+use Rattle.leave.specs.Points.{put}
+use Rattle.walk.specs.Code.{paste}
 use Rattle.keep.specs.Tables.{Tables, tables, enterKept, enterRejected, withPoints, allNoted, noCounts}
 
 -- ---- points that are pasted

@@ -1,3 +1,2 @@
--- The laws that the proofs of the functions cite, leaves first.
+-- The laws that the proofs of the functions cite.
 pub mod Noting
-pub mod Scans

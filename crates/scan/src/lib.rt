@@ -1,18 +1,15 @@
-// The scan (rules 1, 2 and 7): a walk from each lowest unvisited link, as its first link's top says.
+// One walk of the scan (rules 1 to 6): from the first link that rule 1 names at the link where the scan stands, as that link's top says.
 ghost use mathlib.Core.Path.{_≡_};
 ghost use mathlib.Core.Bool.{true};
 ghost use Prim.Native.Nat.{ℕ, _≤_};
 ghost use lib.ListN.{length};
-ghost use Rattle.graph.specs.Graph.{Graph};
-ghost use Rattle.next.specs.Next.{isUnvisited, unvisited, firstLink};
+ghost use Rattle.next.specs.Next.{isUnvisited, unvisited};
 ghost use Rattle.next.specs.Known.{Links};
-ghost use Rattle.rings.specs.Field.{Field, Fielded};
 ghost use Rattle.walk.specs.Code.{Kept};
-ghost use Rattle.keep.specs.Tables.{Tables, tables, Within};
+ghost use Rattle.keep.specs.Tables.{Within};
 ghost use Rattle.contour.specs.Notes.{Fewer, Roomy};
-ghost use Rattle.scan.specs.Notes.{FirstNoted, Ends};
-ghost use Rattle.scan.specs.Held.{Held, Standing};
-ghost use Rattle.scan.specs.Promises.{scan-links-says};
+ghost use Rattle.scan.specs.Held.{Standing};
+ghost use Rattle.scan.specs.Promises.{scan-walk-says};
 use contour::Noted;
 use contour::Settings;
 use contour::note_contour;
@@ -26,7 +23,7 @@ pub enum Extraction {
 }
 
 // Rule 1: one walk of the scan, which stands at link k and holds the first link of its last walk from there, if there was one.
-fn scan_walk(
+pub fn scan_walk(
     ax: &[i32],
     ay: &[i32],
     bx: &[i32],
@@ -50,11 +47,9 @@ fn scan_walk(
     requires { ⌜ Roomy (length (now state)) (length (now points)) (length (now first)) (length (now len)) (length (now kind)) ⌝ }
     requires { ⌜ (isUnvisited (now state) k ≡ true) × ((x : ℕ) → isUnvisited (now state) x ≡ true → k ≤ x)
         × (Within (length (now state)) (unvisited (now state)) c) ⌝ }
-    ensures { λ r. ⌜ ((g : Graph) → Field g (now (ax .entry)) (now (ay .entry)) (now (bx .entry)) (now (by .entry)) (now (top .entry))
-        (now (nxt .entry)) (now (prv .entry)) (now (lead .entry)) (now (state .entry)) → Held g (now (state .entry)) k held →
-        let before : Tables = tables (now (points .entry)) (now (first .entry)) (now (len .entry)) (now (kind .entry)) c in
-        FirstNoted g (settings .clockwise) (settings .minimum) before (now (state .entry)) (firstLink g (now (state .entry)) k) r (now (state .exit))
-        (now (points .exit)) (now (first .exit)) (now (len .exit)) (now (kind .exit))) ⌝ }
+    ensures { λ r. ⌜ scan-walk-says (now (ax .entry)) (now (ay .entry)) (now (bx .entry)) (now (by .entry)) (now (nxt .entry)) (now (prv .entry))
+        (now (lead .entry)) (now (top .entry)) settings (now (state .entry)) (now (points .entry)) (now (first .entry)) (now (len .entry))
+        (now (kind .entry)) k held c r (now (state .exit)) (now (points .exit)) (now (first .exit)) (now (len .exit)) (now (kind .exit)) ⌝ }
     ensures { λ r. ⌜ Fewer (length (now (state .entry))) (now (state .entry)) (now (state .exit)) r ⌝ }
     ensures { λ _. ⌜ Kept (now (state .entry)) (now (state .exit)) ⌝ }
 {
@@ -81,77 +76,4 @@ fn scan_walk(
             )
         }
     }
-}
-
-// The scan: a walk from each lowest unvisited link. Rule 7: it moves on only when link k is visited; until then it holds the last walk's first link.
-pub fn scan_links(
-    ax: &[i32],
-    ay: &[i32],
-    bx: &[i32],
-    by: &[i32],
-    nxt: &[u32],
-    prv: &[u32],
-    lead: &[u8],
-    top: &[u8],
-    settings: Settings,
-    state: &mut [u8],
-    points: &mut [i32],
-    first: &mut [u32],
-    len: &mut [u32],
-    kind: &mut [u8],
-) -> Extraction
-    requires { ⌜ Fielded (now ax) (now ay) (now bx) (now by) (now top) (now nxt) (now prv) (now lead) (now state) ⌝ }
-    requires { ⌜ (Links (now ax) (now ay) (now bx) (now by) (length (now state))) × (length (now top) ≡ length (now state)) ⌝ }
-    requires { ⌜ Roomy (length (now state)) (length (now points)) (length (now first)) (length (now len)) (length (now kind)) ⌝ }
-    ensures { λ r. ⌜ scan-links-says (now (ax .entry)) (now (ay .entry)) (now (bx .entry)) (now (by .entry)) (now (nxt .entry)) (now (prv .entry))
-        (now (lead .entry)) (now (top .entry)) settings (now (state .entry)) (now (points .entry)) (now (first .entry)) (now (len .entry))
-        (now (kind .entry)) r (now (state .exit)) (now (points .exit)) (now (first .exit)) (now (len .exit)) (now (kind .exit)) ⌝ }
-    ensures { λ r. ⌜ Ends (length (now (state .entry))) r ⌝ }
-    ensures { λ _. ⌜ Kept (now (state .entry)) (now (state .exit)) ⌝ }
-{
-    let n = state.len();
-    let mut k = 0;
-    let mut held = n;
-    let mut c = keep::no_counts();
-    while k < n {
-        if state[k] != 0 {
-            k += 1;
-            held = n;
-            continue;
-        }
-        match scan_walk(
-            ax,
-            ay,
-            bx,
-            by,
-            nxt,
-            prv,
-            lead,
-            top,
-            settings,
-            state,
-            points,
-            first,
-            len,
-            kind,
-            k,
-            held,
-            c,
-        ) {
-            Noted::Stuck(number) => {
-                return Extraction::Refused {
-                    number: number,
-                    place: k,
-                };
-            }
-            Noted::Entered {
-                counts: d,
-                first: s,
-            } => {
-                c = d;
-                held = s;
-            }
-        }
-    }
-    Extraction::Done(c)
 }

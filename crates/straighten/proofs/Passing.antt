@@ -11,7 +11,8 @@ use lib.IntN.{ℤ, pos}
 use Rattle.laws.specs.Test.{pick, pick-ind}
 use Rattle.turn.specs.declared.Point.{Point}
 use Rattle.turn.specs.Points.{OnGrid}
-use Rattle.walk.specs.Code.{put, paste}
+use Rattle.leave.specs.Points.{put}
+use Rattle.walk.specs.Code.{paste}
 use Rattle.table.specs.Table.{pointIn}
 use Rattle.straight.specs.Straight.{onLine, headOr, lastOr}
 use Rattle.straight.specs.Corners.{corners, allCorners}

@@ -10,7 +10,8 @@ use lib.IntN.{ℤ}
 use Rattle.turn.specs.declared.Point.{Point}
 use Rattle.turn.specs.Points.{OnGrid}
 use Rattle.turn.specs.Limits.{maxLinks}
-use Rattle.walk.specs.Code.{put, paste}
+use Rattle.leave.specs.Points.{put}
+use Rattle.walk.specs.Code.{paste}
 use Rattle.keep.specs.Outcome.{firsts, sum}
 use Rattle.keep.specs.Ledger.{paste-length}
 use Rattle.table.specs.Table.{pointIn}

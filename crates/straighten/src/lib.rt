@@ -6,7 +6,8 @@ ghost use lib.ListN.{length};
 ghost use lib.Seq.{sets};
 ghost use Rattle.laws.specs.Test.{pick};
 ghost use Rattle.turn.specs.Points.{OnGrid};
-ghost use Rattle.walk.specs.Code.{put, paste};
+ghost use Rattle.leave.specs.Points.{put};
+ghost use Rattle.walk.specs.Code.{paste};
 ghost use Rattle.table.specs.Table.{pointIn};
 ghost use Rattle.straight.specs.Straight.{onLine};
 ghost use Rattle.straight.specs.Corners.{allCorners};
@@ -14,11 +15,11 @@ ghost use Rattle.keep.specs.Outcome.{firsts, sum};
 ghost use Rattle.straighten.specs.Runs.{run, RunOnGrid, contoursOf, cornersOf, sizes, joined, Stands};
 ghost use Rattle.straighten.specs.Promises.{drop-straight-says};
 use keep::Counts;
+use leave::put_point;
 use table::point_in;
 use turn::Point;
 use turn::turn_of;
 use turn::wide;
-use walk::put_point;
 use zeros::zero_points;
 
 // A corner is written as point number `to`; a point on one line with its neighbours is not.

@@ -1,3 +1,2 @@
--- The definitions that the contracts cite.
-pub mod Stores
+-- What the contracts cite.
 pub mod Promises

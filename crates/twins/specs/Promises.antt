@@ -4,18 +4,11 @@ use mathlib.Core.Path.{_≡_, sym, ap, _∙_}
 use mathlib.Core.Bool.{Bool}
 use Prim.Native.Nat.{ℕ}
 use Rattle.laws.specs.Test.{pick}
-use Rattle.laws.specs.Unique.{Determines, by-equation}
 use Rattle.turn.specs.declared.Point.{Point}
 use Rattle.turn.specs.Points.{clockwise}
 use Rattle.graph.specs.Quick.{likeWrong}
 use Rattle.rings.specs.Ends.{aEnd, bEnd}
-use Rattle.twins.specs.Stores.{paired, led}
-
-abbrev pub lay-pair-says : List ℕ → (p i q j : ℕ) → List ℕ → Type 0
-lay-pair-says nxt p i q j nxt′ = nxt′ ≡ paired nxt p i q j
-
-pub lay-pair-once : (nxt : List ℕ) (p i q j : ℕ) → Determines (lay-pair-says nxt p i q j)
-lay-pair-once nxt p i q j = by-equation (paired nxt p i q j)
+use Rattle.pairs.specs.Stores.{paired, led}
 
 -- the answer, then both lists: as before where something is wrong
 abbrev pub lay-two-a-says : (a b : ℕ → Point) → (aId state : List ℕ) → (v e f : ℕ) → (nxt lead : List ℕ) → Bool → (nxt′ lead′ : List ℕ) → Type 0

@@ -17,11 +17,12 @@ use Rattle.rings.specs.Ends.{aEnd, bEnd, a-is-a, b-is-b, a-link, b-link, a-node
 use Rattle.rings.specs.Field.{Reads}
 use Rattle.walk.specs.declared.Walker.{Walker}
 use Rattle.onward.specs.declared.Onward.the-variants as onward
+use Rattle.leave.specs.Points.{put}
 use Rattle.onward.specs.Goes.{Arrived, GoesTo}
 use Rattle.walk.specs.declared.Ended.{Ended}
 use Rattle.walk.specs.declared.Ended.the-variants as ended
 use Rattle.walk.specs.Walk.{Step, Walked, stuck, done, consStep, walkOn, walkFrom, left}
-use Rattle.walk.specs.Code.{put, Marks, Summed}
+use Rattle.walk.specs.Code.{Marks, Summed}
 use Rattle.walk.specs.Code.{finished, RestLeaves, WalkLeaves, Counted, Sized, SizedFrom}
 use Rattle.walk.specs.States.{unvisited-some}
 use Rattle.walk.proofs.Steps.{mark-arrived}

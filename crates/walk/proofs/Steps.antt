@@ -23,10 +23,11 @@ use Rattle.rings.specs.Ends.{linkOf, isA, far, nodeOfEnd, startsAt, endOf, far-
 use Rattle.rings.specs.Field.{Steers, Reads}
 use Rattle.walk.specs.declared.Walker.{Walker}
 use Rattle.onward.specs.declared.Onward.the-variants as onward
+use Rattle.leave.specs.Points.{put}
 use Rattle.onward.specs.Goes.{Arrived, GoesTo, near-end, far-end}
 use Rattle.walk.specs.declared.Stepped.the-variants.{Went, Nowhere}
 use Rattle.walk.specs.Walk.{stepFrom, left}
-use Rattle.walk.specs.Code.{put, Marks, stepOut, stepTo, stepBy}
+use Rattle.walk.specs.Code.{Marks, stepOut, stepTo, stepBy}
 
 -- ---- the area so far and one more term, as the code adds them
 module _ (a w : ℤ) (ha : natAbs a ≤ maxLinks * wedgeBound) (hw : natAbs w ≤ wedgeBound) where

@@ -20,6 +20,7 @@ use Rattle.next.specs.Next.{unvisited, other, nextLink}
 use Rattle.rings.specs.Ends.{linkOf, isA, far, nodeOfEnd, endOf, far-link, end-link, far-node}
 use Rattle.rings.specs.Ends.{is-a, is-b, a-node, b-node, far-a, far-b}
 use Rattle.rings.specs.Field.{Steers, Reads}
+use Rattle.leave.specs.Points.{put}
 use Rattle.onward.specs.Goes.{Arrived}
 use Rattle.walk.specs.declared.Walker.{Walker}
 use Rattle.walk.specs.declared.Stepped.{Stepped}
@@ -27,7 +28,7 @@ use Rattle.walk.specs.declared.Stepped.the-variants.{Went, Nowhere}
 use Rattle.walk.specs.declared.Ended.{Ended}
 use Rattle.walk.specs.declared.Ended.the-variants as ended
 use Rattle.walk.specs.Walk.{Step, Walked, stuck, done, consStep, onNext, stepFrom, walkOn, left}
-use Rattle.walk.specs.Code.{put, Kept, Summed, stepOut, stepTo, stepBy, wentBy, StepOut, Goes}
+use Rattle.walk.specs.Code.{Kept, Summed, stepOut, stepTo, stepBy, wentBy, StepOut, Goes}
 use Rattle.walk.specs.Code.{finished, RestLeaves, SizedFrom}
 use Rattle.walk.specs.Marks.{kept-none, kept-then}
 use Rattle.walk.specs.Later.{kept-later, steers-later}

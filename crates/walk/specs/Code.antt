@@ -16,6 +16,7 @@ use Rattle.next.specs.declared.Next.{Next}
 use Rattle.next.specs.declared.Next.the-variants.{Link, Nothing}
 use Rattle.next.specs.Next.{isUnvisited, unvisited, nextLink}
 use Rattle.rings.specs.Ends.{linkOf, far, nodeOfEnd, endOf}
+use Rattle.leave.specs.Points.{put}
 use Rattle.onward.specs.Goes.{Arrived}
 use Rattle.walk.specs.declared.Walker.{Walker}
 use Rattle.walk.specs.declared.Stepped.{Stepped}
@@ -25,11 +26,7 @@ use Rattle.walk.specs.declared.Ended.{Ended}
 use Rattle.walk.specs.declared.Ended.the-variants as ended
 use Rattle.walk.specs.Walk.{Walked, stuck, done, stepFrom, left}
 
--- ---- points, x and y in turn
-
--- point number `at` is p
-abbrev pub put : List ℤ → ℕ → Point → List ℤ
-put pts at p = set (set pts (at * 2) (p .x)) (at * 2 + 1) (p .y)
+-- ---- points
 
 -- the points from number `at` on are l
 abbrev pub paste : List ℤ → ℕ → List Point → List ℤ

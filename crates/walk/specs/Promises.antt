@@ -4,8 +4,6 @@ use mathlib.Core.Path.{_≡_, sym, _∙_}
 use native.Mathlib.Omega.{arith}
 use lib.IntN.{ℤ}
 use Prim.Native.Nat.{ℕ}
-use Rattle.laws.specs.Unique.{Determines, by-equation}
-use Rattle.turn.specs.declared.Point.{Point}
 use Rattle.graph.specs.Graph.{Graph}
 use Rattle.rings.specs.Field.{Steers, Reads}
 use Rattle.walk.specs.declared.Course.{Course}
@@ -13,13 +11,7 @@ use Rattle.walk.specs.declared.Finished.{Finished}
 use Rattle.walk.specs.declared.Ended.{Ended}
 use Rattle.walk.specs.declared.Ended.the-variants.{Done, Stuck}
 use Rattle.walk.specs.Walk.{Walked, stuck, done, walkFrom}
-use Rattle.walk.specs.Code.{put, WalkLeaves}
-
-abbrev pub put-point-says : List ℤ → ℕ → Point → List ℤ → Type 0
-put-point-says points at p points′ = points′ ≡ put points at p
-
-pub put-point-once : (points : List ℤ) (at : ℕ) (p : Point) → Determines (put-point-says points at p)
-put-point-once points at p = by-equation (put points at p)
+use Rattle.walk.specs.Code.{WalkLeaves}
 
 -- for every graph whose field of ends and whose points the lists hold
 abbrev pub find-contour-says : (ax ay bx by : List ℤ) (nxt prv : List ℕ) (course : Course) (state : List ℕ) (points : List ℤ) (at s : ℕ)

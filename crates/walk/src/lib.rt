@@ -5,16 +5,18 @@ ghost use Prim.Native.Nat.{suc, _+_, _*_, _<_, _≤_};
 ghost use lib.ListN.{length, getD};
 ghost use Rattle.laws.specs.Test.{pick};
 ghost use Rattle.turn.specs.Points.{OnGrid};
-ghost use Rattle.graph.specs.Graph.{Graph, pointAt};
+ghost use Rattle.graph.specs.Graph.{Graph};
 ghost use Rattle.next.specs.Next.{unvisited};
 ghost use Rattle.next.specs.Known.{Links};
-ghost use Rattle.rings.specs.Ends.{aEnd, bEnd, linkOf, isA, far, nodeOfEnd};
+ghost use Rattle.rings.specs.Ends.{aEnd, bEnd, linkOf, far, nodeOfEnd};
 ghost use Rattle.rings.specs.Field.{crossMark, Steers, Steered, Reads};
 ghost use Rattle.onward.specs.Goes.{Arrived};
 ghost use Rattle.walk.specs.Walk.{walkOn};
 ghost use Rattle.walk.specs.Code.{Kept, Marks, Summed, stepOut, stepBy, Goes};
 ghost use Rattle.walk.specs.Code.{RestLeaves, Counted, Sized, SizedFrom};
-ghost use Rattle.walk.specs.Promises.{put-point-says, find-contour-says};
+ghost use Rattle.walk.specs.Promises.{find-contour-says};
+use leave::put_point;
+use leave::start_point;
 use onward::Onward;
 use onward::next_end;
 use turn::Point;
@@ -51,29 +53,6 @@ struct Walker {
 enum Stepped {
     Went(Walker),
     Nowhere,
-}
-
-// The point that a walk leaves which arrives at end h: that of the far end.
-fn start_point(ax: &[i32], ay: &[i32], bx: &[i32], by: &[i32], h: usize) -> Point
-    requires { ⌜ (linkOf h < length (now ax)) × (linkOf h < length (now ay)) × (linkOf h < length (now bx)) × (linkOf h < length (now by)) ⌝ }
-    ensures { λ r. ⌜ r ≡ pick (isA h) (pointAt (now (bx .entry)) (now (by .entry)) (linkOf h)) (pointAt (now (ax .entry)) (now (ay .entry)) (linkOf h)) ⌝ }
-{
-    let k = h / 2;
-    let a = Point { x: ax[k], y: ay[k] };
-    let b = Point { x: bx[k], y: by[k] };
-    if h % 2 == 0 { b } else { a }
-}
-
-// Point number `at` is written.
-pub fn put_point(points: &mut [i32], at: usize, p: Point)
-    requires { ⌜ at * 2 + 1 < length (now points) ⌝ }
-    ensures { λ _. ⌜ put-point-says (now (points .entry)) at p (now (points .exit)) ⌝ }
-{
-    let i = at * 2;
-    let x = p.x;
-    let y = p.y;
-    points[i] = x;
-    points[i + 1] = y;
 }
 
 // One step from where the walker stands: the next link is marked, and the point of the node is written.

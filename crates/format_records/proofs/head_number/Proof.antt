@@ -1,4 +1,4 @@
--- `format::head_number` meets its contract.
+-- `format_records::head_number` meets its contract.
 use borrow.Author.Tests.{lt-ltb, le-ltb, eq-eqb, ne-eqb}
 use borrow.Author.Needs.{needs}
 use Rattle.format_records.proofs.head_number.Statement.{statement}

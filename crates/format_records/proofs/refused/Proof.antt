@@ -1,4 +1,4 @@
--- `format::refused` meets its contract.
+-- `format_records::refused` meets its contract.
 use borrow.Author.Tests.{eq-eqb, ne-eqb}
 use Rattle.format_records.proofs.refused.Statement.{statement}
 use Rattle.format_records.proofs.refused.Tie as tie

@@ -1,4 +1,4 @@
--- `format::nodes_after` meets its contract.
+-- `format_shape::nodes_after` meets its contract.
 use mathlib.Core.Path.{sym, _∙_}
 use Rattle.format_shape.specs.Forms.{nodes-right, nodes-wrong, nodes-fault}
 use borrow.Author.Needs.{needs}

@@ -1,4 +1,4 @@
--- `format::run_at` meets its contract.
+-- `format_shape::run_at` meets its contract.
 use mathlib.Core.Path.{sym, _∙_}
 use Prim.Native.Nat.{_-_}
 use borrow.Author.Needs.{needs}

@@ -1,4 +1,4 @@
--- `format::shape_of` meets its contract.
+-- `format_shape::shape_of` meets its contract.
 use mathlib.Core.Path.{sym, _∙_}
 use borrow.Author.Tests.{not-true, not-false}
 use Rattle.format_shape.specs.Forms.{settings-wrong, settings-long, links-fault, links-inside, links-then}

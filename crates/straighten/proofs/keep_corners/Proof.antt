@@ -6,7 +6,7 @@ use borrow.Author.Needs.{needs}
 use Rattle.laws.specs.Test.{pick}
 use Rattle.turn.specs.declared.Point.{Point}
 use Rattle.turn.specs.Points.{OnGrid}
-use Rattle.walk.specs.Code.{put}
+use Rattle.leave.specs.Points.{put}
 use Rattle.table.specs.Table.{pointIn}
 use Rattle.straight.specs.Straight.{onLine}
 use Rattle.straighten.proofs.Passing.{Passing, starts, goes-on, ends}

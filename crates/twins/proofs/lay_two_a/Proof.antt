@@ -21,7 +21,7 @@ use Rattle.turn.specs.Points.{differ, fromTo, cross, clockwise}
 use Rattle.graph.specs.Graph.{pointAt}
 use Rattle.graph.specs.Checks.{skipped}
 use Rattle.graph.specs.Quick.{likeWrong}
-use Rattle.twins.specs.Stores.{led}
+use Rattle.pairs.specs.Stores.{led}
 use Rattle.twins.proofs.Turns.{like-turn}
 
 abbrev a : tie.Start → ℕ → Point

@@ -1,9 +1,9 @@
--- `format::settings_right` meets its contract.
+-- `format_steps::settings_right` meets its contract.
 use Rattle.format_records.specs.Records.{settingsRight}
 use borrow.Author.Tests.{le-leb, lt-leb}
 use borrow.Author.Needs.{needs}
-use Rattle.format_shape.proofs.settings_right.Statement.{statement}
-use Rattle.format_shape.proofs.settings_right.Tie as tie
+use Rattle.format_steps.proofs.settings_right.Statement.{statement}
+use Rattle.format_steps.proofs.settings_right.Tie as tie
 
 returns : tie.Need-returns
 unfolding settingsRight

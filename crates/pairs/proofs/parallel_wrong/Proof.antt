@@ -1,10 +1,10 @@
--- `twins::parallel_wrong` meets its contract: by whether the two are parallel.
+-- `pairs::parallel_wrong` meets its contract: by whether the two are parallel.
 use mathlib.Core.Path.{sym}
 use borrow.Author.Tests.{not-false}
 use Rattle.laws.specs.Test.{pick-true, pick-false, not-is}
 use borrow.Author.Needs.{needs}
-use Rattle.twins.proofs.parallel_wrong.Statement.{statement}
-use Rattle.twins.proofs.parallel_wrong.Tie as tie
+use Rattle.pairs.proofs.parallel_wrong.Statement.{statement}
+use Rattle.pairs.proofs.parallel_wrong.Tie as tie
 
 returns : tie.Need-returns
 returns c = sym (pick-false _ _ (not-is (c .before .args .parallel) (c .if1 .taken)))

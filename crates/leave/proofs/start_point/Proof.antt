@@ -1,10 +1,10 @@
--- `walk::start_point` meets its contract: by the end that is chosen.
+-- `leave::start_point` meets its contract: by the end that is chosen.
 use mir.Syntax.{w32}
 use mir.ValLaws.{toZ-ofZ}
 use borrow.Author.Needs.{sfits-of, needs}
 use borrow.Author.Tests.{eq-eqb, ne-eqb}
-use Rattle.walk.proofs.start_point.Statement.{statement}
-use Rattle.walk.proofs.start_point.Tie as tie
+use Rattle.leave.proofs.start_point.Statement.{statement}
+use Rattle.leave.proofs.start_point.Tie as tie
 
 mul-t9 : tie.Need-mul-t9
 mul-t9 c = search needs

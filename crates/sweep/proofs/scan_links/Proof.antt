@@ -1,4 +1,4 @@
--- `scan::scan_links` meets its contract. The invariant: what the scan leaves from here it leaves from the loop's start,
+-- `sweep::scan_links` meets its contract. The invariant: what the scan leaves from here it leaves from the loop's start,
 -- and no link below k is unvisited (`Scanning`).
 -- The measure falls where link k is passed and where a walk marks links: the links left and the unvisited ones together.
 use Prim.Native.Nat.{_+_, _-_, _<_}
@@ -10,11 +10,11 @@ use Rattle.graph.specs.Graph.{Graph}
 use Rattle.rings.specs.Field.{Field}
 use Rattle.next.specs.Next.{unvisited}
 use Rattle.next.specs.States.{read-unvisited, read-shut}
-use Rattle.scan.proofs.Scans.{Scanning, scan-moves, scan-refused, scan-again, scan-over, lowest-here, none-yet, fewer-of}
-use Rattle.scan.proofs.scan_links.Statement.{statement}
-use Rattle.scan.proofs.scan_links.Tie as tie
+use Rattle.sweep.proofs.Scans.{Scanning, scan-moves, scan-refused, scan-again, scan-over, lowest-here, none-yet, fewer-of}
+use Rattle.sweep.proofs.scan_links.Statement.{statement}
+use Rattle.sweep.proofs.scan_links.Tie as tie
 use Rattle.contour.specs.Notes.{Roomy, within-less}
 use Rattle.scan.specs.Fields.{field-later}
 use Rattle.walk.specs.Marks.{kept-then}
 use Rattle.walk.specs.Later.{kept-later}
 

@@ -1,10 +1,10 @@
--- `format::step_at` meets its contract.
+-- `format_steps::step_at` meets its contract.
 use mathlib.Core.Path.{sym, _∙_}
 use native.Mathlib.Omega.{arith}
 use Rattle.format_records.specs.Steps.{step-cut, step-kind, read-head, read-body, read-next}
 use borrow.Author.Needs.{needs}
-use Rattle.format_records.proofs.step_at.Statement.{statement}
-use Rattle.format_records.proofs.step_at.Tie as tie
+use Rattle.format_steps.proofs.step_at.Statement.{statement}
+use Rattle.format_steps.proofs.step_at.Tie as tie
 
 sub-if1 : tie.Need-sub-if1
 sub-if1 c = search needs

@@ -1,6 +1,6 @@
--- `twins::like_wrong` meets its contract: by the two tests, of which the second asks for the sign of the cross product.
-use Rattle.twins.proofs.like_wrong.Statement.{statement}
-use Rattle.twins.proofs.like_wrong.Tie as tie
+-- `pairs::like_wrong` meets its contract: by the two tests, of which the second asks for the sign of the cross product.
+use Rattle.pairs.proofs.like_wrong.Statement.{statement}
+use Rattle.pairs.proofs.like_wrong.Tie as tie
 use Prim.Native.Nat.{ℕ}
 use native.Mathlib.Omega.{arith}
 use mathlib.Core.Path.{_≡_, sym, ap, ap₂, _∙_}

@@ -1,9 +1,9 @@
--- `twins::set_lead` meets its contract: by the flag.
+-- `pairs::set_lead` meets its contract: by the flag.
 use mathlib.Core.Path.{sym}
 use Rattle.laws.specs.Test.{pick-true, pick-false}
 use borrow.Author.Needs.{needs}
-use Rattle.twins.proofs.set_lead.Statement.{statement}
-use Rattle.twins.proofs.set_lead.Tie as tie
+use Rattle.pairs.proofs.set_lead.Statement.{statement}
+use Rattle.pairs.proofs.set_lead.Tie as tie
 
 slice-write-lead : tie.Need-slice-write-lead
 slice-write-lead c = search needs

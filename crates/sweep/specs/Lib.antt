@@ -1,0 +1,2 @@
+-- What the public function promises.
+pub mod Promises
