@@ -33,10 +33,13 @@ static uint32_t first[CONTOURS], len[CONTOURS];
 static uint8_t kind[CONTOURS];
 static uint16_t owner[CONTOURS];
 
+/* Counterclockwise, everything kept, and straight points too: binding wants them. */
+static const GuovdamasSettings settings = {0, false, false};
+
 static GuovdamasExtraction extract(void) {
     memset(state, GUOVDAMAS_STATE_UNVISITED, sizeof state);
     return guovdamas_extract(ax, LINKS, ay, LINKS, bx, LINKS, by, LINKS, a_id, LINKS, b_id, LINKS, top, LINKS,
-                             start, NODES + 1, list, 2 * LINKS, false, 0,
+                             start, NODES + 1, list, 2 * LINKS, settings,
                              state, LINKS, points, 2 * LINKS, first, CONTOURS, len, CONTOURS, kind, CONTOURS);
 }
 
@@ -62,7 +65,7 @@ int main(void) {
         return 1;
     }
     bound = guovdamas_bind(points, 2 * found.points, first, found.contours, len, found.contours, kind, found.contours,
-                           false, owner, CONTOURS);
+                           settings.clockwise, owner, CONTOURS);
     if (bound.number != 0) {
         printf("refused %lu at %lu\n", (unsigned long)bound.number, (unsigned long)bound.place);
         return 1;
