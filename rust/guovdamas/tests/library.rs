@@ -28,8 +28,12 @@ impl Tally {
     }
 }
 
-/// Extracts by both, then binds what was found by both; all answers and buffers must be equal.
+/// Extracts by both, then binds what was found by both; all answers and buffers must be equal. Where straight points are
+/// dropped, the same with them too.
 fn compare_extraction(graph: &Graph, lent: &Buffers, settings: Settings, tally: &mut Tally) {
+    if settings.drop_straight {
+        compare_extraction(graph, lent, Settings { drop_straight: false, ..settings }, tally);
+    }
     let (mut read, mut ours) = (lent.clone(), lent.clone());
     let due = walk::extract(graph, settings, &mut read);
     let answer = (LIBRARY.extract)(graph, settings, &mut ours);
@@ -63,7 +67,7 @@ fn compare_lookups(lent: &Table, owner: &[u16]) {
 
 /// A direction, straight points kept or dropped, and a minimum that some of the graph's walks just meet or just miss.
 fn settings(sample: &Sample, rng: &mut Rng) -> Settings {
-    let all = Settings { clockwise: rng.chance(50), minimum: 0, drop_straight: rng.chance(50) };
+    let all = Settings { clockwise: rng.chance(50), minimum: 0, drop_straight: rng.chance(30) };
     let walks = walk::walks(&sample.graph, &sample.state, all, walk::Scan::Stays).unwrap_or_default();
     let mut minima = vec![0, 0, 1, u64::MAX, 1 << 63];
     minima.extend(walks.iter().map(|walk| walk.doubled_area().unsigned_abs() as u64 / 2));
@@ -86,7 +90,7 @@ fn planar_graphs() {
     }
 }
 
-/// Joints on straight edges, in graphs of every sort, with straight points kept and with them dropped.
+/// Joints on straight edges, in graphs of every sort.
 #[test]
 fn graphs_with_joints() {
     let mut tally = Tally::default();
@@ -105,9 +109,7 @@ fn graphs_with_joints() {
         if rng.chance(20) {
             damage::graph(1 + rng.below(7) as u32, &mut graph, &mut lent, &mut rng);
         }
-        for drop_straight in [false, true] {
-            compare_extraction(&graph, &lent, Settings { drop_straight, ..settings }, &mut tally);
-        }
+        compare_extraction(&graph, &lent, Settings { drop_straight: true, ..settings }, &mut tally);
     }
     // 11: without straight points a hole's anchor may stand elsewhere
     tally.report("joints", &[0, 3, 7, 8, 9, 11, 12]);
@@ -171,7 +173,7 @@ fn damaged_graphs() {
         let Sample { mut graph, state } = sample(FAMILIES[seed as usize % FAMILIES.len()], 3, &mut rng);
         let mut lent = Sample { graph: graph.clone(), state }.soiled_buffers(&mut rng);
         let settings =
-            Settings { clockwise: rng.chance(50), minimum: rng.choose(&[0, 1, 5]), drop_straight: rng.chance(50) };
+            Settings { clockwise: rng.chance(50), minimum: rng.choose(&[0, 1, 5]), drop_straight: rng.chance(30) };
         // Now and then two faults, so that the order of the checks tells.
         if rng.chance(30) {
             damage::graph(rng.choose(&[4, 6]), &mut graph, &mut lent, &mut rng);
