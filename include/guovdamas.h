@@ -179,8 +179,8 @@ GuovdamasExtraction guovdamas_extract(
  * Checks 10 to 12, and the owner of every contour.
  *
  * Read: the points and the contour table as extraction leaves them, cut to the contours and points that it counted, and
- * the direction that it was given. Extraction without drop_straight, that is: with it, a hole's anchor may stand at
- * another point than the one where it is sought (11).
+ * the direction that it was given. Extraction without drop_straight, that is: with it, a hole's least point may stand
+ * elsewhere than where its anchor is sought (11).
  *
  * Written: owner, as many as there are contours or more.
  *   0:         a hull's owner is its own shape number, hulls counted from 0; a hole's is the number of the shape that
