@@ -29,8 +29,8 @@ impl ContourDirection {
 ///
 /// // a square of eight segments, with a joint in the middle of each side
 /// let side = |a, b| Segment { a, b, fill_top: true, skipped: false };
-/// let corners = [[0, 0], [2, 0], [4, 0], [4, 2], [4, 4], [2, 4], [0, 4], [0, 2]];
-/// let graph = Graph::from_segments((0..8).map(|at| side(corners[at], corners[(at + 1) % 8])));
+/// let points = [[0, 0], [2, 0], [4, 0], [4, 2], [4, 4], [2, 4], [0, 4], [0, 2]];
+/// let graph = Graph::from_segments((0..8).map(|at| side(points[at], points[(at + 1) % 8])));
 ///
 /// let all = graph.extract_shapes(Options::default())?;
 /// assert_eq!(all.shape(0).unwrap().hull().points().len(), 8);
