@@ -9,7 +9,7 @@
  *
  * What may be passed. Anything may stand in the lists: what one of the checks below finds wrong is refused with a
  * number and a place. What is left to the caller is C's own rule: each pointer is valid for its length (and not null,
- * even at length 0), a list that is written overlaps no other, and `clockwise` is true or false.
+ * even at length 0), a list that is written overlaps no other, and `clockwise` and `drop_straight` are true or false.
  *
  * What is not seen. Two things would be wrong in a study and are not looked for: links that cross or overlap away from
  * nodes, and tops that contradict one another. Such a graph is walked by the rules all the same. It may be refused with
@@ -20,8 +20,9 @@
  * Units. Coordinates are whole numbers in units of 0.01 mm, from -524,288 to 524,288, and y points upward. Areas are
  * doubled and signed: positive when counterclockwise. "Before", of points: by x, then by y, strictly.
  *
- * Words. A link is skipped (lent with state 1), a walk rejected (too small), a hole dropped (there is no hull), a call
- * refused (answered by a number other than 0). The scan stands at the lowest unvisited link.
+ * Words. A link is skipped (lent with state 1), a walk rejected (too small), a point straight (on one line with its two
+ * neighbours round the contour), a hole dropped (there is no hull), a call refused (answered by a number other than 0).
+ * The scan stands at the lowest unvisited link.
  *
  * Numbers. The checks run in the order of their numbers, each over all of the input before the next. n is the length of
  * a_id, m is one less than the length of start.
@@ -100,7 +101,17 @@ extern "C" {
 /* The owner of a dropped hole: one where there is no hull. */
 #define GUOVDAMAS_DROPPED 65535
 
-/* What guovdamas_extract answers. After a refusal the counts and totals are 0. */
+/* How outlines are asked for. */
+typedef struct {
+    uint64_t minimum;   /* least area of a contour that is kept, in whole square units (not doubled); 0 keeps all */
+    bool clockwise;     /* the output's direction */
+    bool drop_straight; /* straight points are not written: see guovdamas_extract */
+} GuovdamasSettings;
+
+/*
+ * What guovdamas_extract answers. After a refusal the counts and totals are 0. The counts of contours and points are of
+ * what is written; the rest is of the walks, before straight points are dropped.
+ */
 typedef struct {
     uint32_t number;       /* 0 done, or 1 to 9 */
     size_t place;          /* 0, or the link or node that is at fault */
@@ -108,7 +119,8 @@ typedef struct {
     size_t points;         /* their points */
     size_t rejected;       /* walks rejected: too small */
     size_t walked;         /* links walked, by kept and rejected walks */
-    int64_t kept_area;     /* sum of the doubled areas of the contours kept */
+    size_t left_out;       /* walks kept of which fewer than 3 points were left: proved to be 0, see below */
+    int64_t kept_area;     /* sum of the doubled areas of the walks kept */
     int64_t rejected_area; /* and of the walks rejected */
 } GuovdamasExtraction;
 
@@ -134,8 +146,7 @@ typedef struct {
  *
  * Read, for n links (n is a_id_len): ax, ay, bx, by, the points a and b of each link; a_id, b_id, the nodes of both;
  * top, 1 where the left of a to b is filled, else 0. For m nodes: start, m + 1 positions in list; list, link numbers,
- * those of node v from start[v] up to start[v + 1]. clockwise: the output's direction. minimum: the least area of a
- * contour that is kept, in whole square units (not doubled); 0 keeps all.
+ * those of node v from start[v] up to start[v + 1]. settings: see there.
  *
  * Written: state, n long, 0 for an unvisited link and 1 for a skipped one; points, x and y in turn, with room for n
  * points or more; first, len and kind, of one length, with room for n / 3 contours or more: the position of a contour's
@@ -145,6 +156,13 @@ typedef struct {
  *             and zeros after them; first, len and kind have the contours, and zeros after them.
  *   1 to 7:   all is as before the call.
  *   8 and 9:  state is as before the call; all of points, first, len and kind is zero.
+ *
+ * With drop_straight, straight points are removed from each contour before it is written: the one at the lowest
+ * position first, then the lowest of the list that is left, until there is none or fewer than 3 points remain; a
+ * contour of fewer is left out of the table. It is proved that none is: after checks 1 to 7, the points that go are
+ * those that are straight in the full contour, and 3 or more remain. Nothing else changes: neither which walks are
+ * kept, nor state, nor a refusal. So a contour has the same number and kind with it and without. guovdamas_bind wants
+ * the full points: who wants both extracts twice, binds the full table, and takes the owners for the other.
  */
 GuovdamasExtraction guovdamas_extract(
     const int32_t *ax, size_t ax_len, const int32_t *ay, size_t ay_len,
@@ -152,7 +170,7 @@ GuovdamasExtraction guovdamas_extract(
     const uint32_t *a_id, size_t a_id_len, const uint32_t *b_id, size_t b_id_len,
     const uint8_t *top, size_t top_len,
     const uint32_t *start, size_t start_len, const uint32_t *list, size_t list_len,
-    bool clockwise, uint64_t minimum,
+    GuovdamasSettings settings,
     uint8_t *state, size_t state_len,
     int32_t *points, size_t points_len,
     uint32_t *first, size_t first_len, uint32_t *len, size_t len_len, uint8_t *kind, size_t kind_len);
@@ -161,7 +179,8 @@ GuovdamasExtraction guovdamas_extract(
  * Checks 10 to 12, and the owner of every contour.
  *
  * Read: the points and the contour table as extraction leaves them, cut to the contours and points that it counted, and
- * the direction that it was given.
+ * the direction that it was given. Extraction without drop_straight, that is: with it, a hole's least point may stand
+ * elsewhere than where its anchor is sought (11).
  *
  * Written: owner, as many as there are contours or more.
  *   0:         a hull's owner is its own shape number, hulls counted from 0; a hole's is the number of the shape that

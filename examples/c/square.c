@@ -1,5 +1,6 @@
 /*
- * square.c: the library from C or C++. Extracts a square with a square hole, binds the hole and prints what was found.
+ * square.c: the library from C or C++. Extracts a square with a square hole, binds the hole and prints what was found,
+ * without the points in the middle of a side.
  *
  * Build it where include/ and lib/ are, as
  *
@@ -10,21 +11,24 @@
 
 #include "guovdamas.h"
 
-#define LINKS 8
-#define NODES 8
+#define LINKS 10
+#define NODES 10
 #define CONTOURS (LINKS / 3)
 
-/* A hull from (0,0) to (10,10) and a hole from (2,2) to (8,8); links by their point a, nodes by their points. */
-static const int32_t ax[LINKS] = {0, 0, 0, 2, 2, 2, 8, 10};
-static const int32_t ay[LINKS] = {0, 0, 10, 2, 2, 8, 2, 0};
-static const int32_t bx[LINKS] = {10, 0, 10, 8, 2, 8, 8, 10};
-static const int32_t by[LINKS] = {0, 10, 10, 2, 8, 8, 8, 10};
-static const uint32_t a_id[LINKS] = {0, 0, 1, 2, 2, 3, 4, 6};
-static const uint32_t b_id[LINKS] = {6, 1, 7, 4, 3, 5, 5, 7};
+/*
+ * A hull from (0,0) to (10,10) with a joint at (5,0), and a hole from (2,2) to (8,8) with a joint at (8,5); links by
+ * their point a, nodes by their points.
+ */
+static const int32_t ax[LINKS] = {0, 0, 0, 2, 2, 2, 5, 8, 8, 10};
+static const int32_t ay[LINKS] = {0, 0, 10, 2, 2, 8, 0, 2, 5, 0};
+static const int32_t bx[LINKS] = {5, 0, 10, 8, 2, 8, 10, 8, 8, 10};
+static const int32_t by[LINKS] = {0, 10, 10, 2, 8, 8, 0, 5, 8, 10};
+static const uint32_t a_id[LINKS] = {0, 0, 1, 2, 2, 3, 4, 5, 6, 8};
+static const uint32_t b_id[LINKS] = {4, 1, 9, 5, 3, 7, 8, 6, 7, 9};
 /* 1 where the left of a to b is filled */
-static const uint8_t top[LINKS] = {1, 0, 0, 0, 1, 1, 0, 1};
-static const uint32_t start[NODES + 1] = {0, 2, 4, 6, 8, 10, 12, 14, 16};
-static const uint32_t list[2 * LINKS] = {0, 1, 1, 2, 3, 4, 4, 5, 3, 6, 5, 6, 0, 7, 2, 7};
+static const uint8_t top[LINKS] = {1, 0, 0, 0, 1, 1, 1, 0, 0, 1};
+static const uint32_t start[NODES + 1] = {0, 2, 4, 6, 8, 10, 12, 14, 16, 18, 20};
+static const uint32_t list[2 * LINKS] = {0, 1, 1, 2, 3, 4, 4, 5, 0, 6, 3, 7, 7, 8, 5, 8, 6, 9, 2, 9};
 
 /* What extraction and binding write. */
 static uint8_t state[LINKS];
@@ -33,10 +37,12 @@ static uint32_t first[CONTOURS], len[CONTOURS];
 static uint8_t kind[CONTOURS];
 static uint16_t owner[CONTOURS];
 
-static GuovdamasExtraction extract(void) {
+/* Counterclockwise, whatever the size: all points, or all but those on one line with their two neighbours. */
+static GuovdamasExtraction extract(bool drop_straight) {
+    const GuovdamasSettings settings = {0, false, drop_straight};
     memset(state, GUOVDAMAS_STATE_UNVISITED, sizeof state);
     return guovdamas_extract(ax, LINKS, ay, LINKS, bx, LINKS, by, LINKS, a_id, LINKS, b_id, LINKS, top, LINKS,
-                             start, NODES + 1, list, 2 * LINKS, false, 0,
+                             start, NODES + 1, list, 2 * LINKS, settings,
                              state, LINKS, points, 2 * LINKS, first, CONTOURS, len, CONTOURS, kind, CONTOURS);
 }
 
@@ -54,7 +60,7 @@ static void print_contour(const GuovdamasExtraction *found, size_t contour) {
 }
 
 int main(void) {
-    const GuovdamasExtraction found = extract();
+    GuovdamasExtraction found = extract(false);
     GuovdamasBinding bound;
     size_t contour;
     if (found.number != 0) {
@@ -67,6 +73,8 @@ int main(void) {
         printf("refused %lu at %lu\n", (unsigned long)bound.number, (unsigned long)bound.place);
         return 1;
     }
+    /* Holes are bound on all points. Without the joints the contours have the same numbers, so their owners hold. */
+    found = extract(true);
     printf("contours %lu shapes %lu doubled area %ld\n", (unsigned long)found.contours, (unsigned long)bound.shapes,
            (long)found.kept_area);
     for (contour = 0; contour < found.contours; contour++) print_contour(&found, contour);

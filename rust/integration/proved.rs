@@ -25,7 +25,8 @@ pub trait Proved: IntNumber {
         None
     }
 
-    /// What `extract_contours` writes, collinear points kept. Panics where guovdamas refuses the graph.
+    /// What `extract_contours` writes: collinear points are kept, or left out by guovdamas' rule, as the options ask. Panics where
+    /// guovdamas refuses the graph.
     fn proved_contours(
         _graph: &OverlayGraph<'_, Self>,
         _overlay_rule: OverlayRule,
@@ -52,7 +53,8 @@ impl Proved for i32 {
         overlay_rule: OverlayRule,
         buffer: &mut BooleanExtractionBuffer<i32>,
     ) -> Option<Vec<IntContour<i32>>> {
-        Some(or_panic(graph.walk(overlay_rule, buffer)).iter().map(points).collect())
+        let keep_collinear = graph.options.preserve_output_collinear;
+        Some(or_panic(graph.walk(overlay_rule, buffer, keep_collinear)).iter().map(points).collect())
     }
 }
 
@@ -79,20 +81,27 @@ impl OverlayGraph<'_, i32> {
         Ok(shapes)
     }
 
+    /// With collinear points: where they are not asked for, the crate removes them once it has bound and nested what it likes.
     fn walk_and_bind(
         &self,
         overlay_rule: OverlayRule,
         buffer: &mut BooleanExtractionBuffer<i32>,
     ) -> Result<IntShapes<i32>, Refusal> {
-        Ok(nested(&self.walk(overlay_rule, buffer)?.bind_holes()?))
+        Ok(nested(&self.walk(overlay_rule, buffer, true)?.bind_holes()?))
     }
 
     /// Walks the links that the filter left, and tells the buffer what became of each.
-    fn walk(&self, overlay_rule: OverlayRule, buffer: &mut BooleanExtractionBuffer<i32>) -> Result<Contours, Refusal> {
+    fn walk(
+        &self,
+        overlay_rule: OverlayRule,
+        buffer: &mut BooleanExtractionBuffer<i32>,
+        keep_collinear: bool,
+    ) -> Result<Contours, Refusal> {
         let clockwise = self.options.output_direction == ContourDirection::Clockwise;
         let options = Options {
             output_direction: guovdamas::ContourDirection::from_clockwise(clockwise),
             min_output_area: self.options.min_output_area,
+            preserve_output_collinear: keep_collinear,
         };
         let contours = self.lend(overlay_rule, &buffer.visited).extract_contours(options)?;
         for (visited, state) in buffer.visited.iter_mut().zip(contours.states()) {

@@ -47,6 +47,14 @@ pub fn large() -> Vec<Group> {
     ]
 }
 
+/// Graphs of 4,096 links of which most meet in a joint on a straight edge: many short edges, and two long ones.
+pub fn jointed() -> Vec<Group> {
+    vec![
+        Group::of_one("checkerboard of 256 squares, 16 links each", large_squares(32, 16)),
+        Group::of_one("one strip of 4,096 links, two sides of 2,047 each", strip(2047)),
+    ]
+}
+
 /// Graphs of a few links, each so many times that a run can be timed.
 pub fn tiny() -> Vec<Group> {
     let repeated = |name, sample| Group { name, samples: vec![sample], repeats: 1000 };
@@ -57,7 +65,13 @@ pub fn tiny() -> Vec<Group> {
     ]
 }
 
-/// The same kinds of graphs, small.
+/// The same, small.
+#[cfg(test)]
+pub fn small_jointed() -> Vec<Group> {
+    vec![Group::of_one("few squares", large_squares(3, 2)), Group::of_one("short strip", strip(9))]
+}
+
+/// The same kinds of graphs as the large ones, small.
 #[cfg(test)]
 pub fn small() -> Vec<Group> {
     let mut groups = tiny();
@@ -109,6 +123,15 @@ fn board(columns: usize, rows: usize, is_filled: impl Fn(usize, usize) -> bool) 
 
 fn checkerboard(columns: usize, rows: usize) -> Sample {
     board(columns, rows, |column, row| (column + row).is_multiple_of(2))
+}
+
+/// A checkerboard of squares of four by four cells.
+fn large_squares(columns: usize, rows: usize) -> Sample {
+    board(4 * columns, 4 * rows, |column, row| (column / 4 + row / 4).is_multiple_of(2))
+}
+
+fn strip(columns: usize) -> Sample {
+    board(columns, 1, |_, _| true)
 }
 
 fn holes(columns: usize, rows: usize) -> Sample {

@@ -32,8 +32,9 @@ Times the static library and the given text of i_overlay 9.0.1 on the same graph
 
 Each time is the least of many runs of one graph; the ratio is the first time by the second. There are graphs near the
 most links, 48 different meshes in turn, and tiny graphs; then the whole call of the safe interface, with buffers of its
-own and in a workspace, beside the bare calls; then polygons to shapes, by the text that is patched to call the
-library, beside the text as it is.
+own and in a workspace, beside the bare calls; then extraction that drops the points on a straight line, beside
+extraction that keeps them; then polygons to shapes, by the text that is patched to call the library, beside the text as
+it is.
 Where the text is not at hand (../shared/docs/src beside the repository) the library is timed alone.
 docs/PERFORMANCE.md says what each row is.";
 
@@ -67,6 +68,8 @@ fn run(effort: Effort) {
     let calls = ["whole call", "bare calls"];
     whole_calls(&Table::in_micros("Graph to shapes from Rust, large graphs", calls), &large, effort);
     whole_calls(&Table::in_nanos("Graph to shapes from Rust, tiny graphs", calls), &tiny, effort);
+    let points = ["dropped", "kept"];
+    dropping(&Table::in_micros("Points on a straight line", points), &graphs::jointed(), effort);
     if text::AT_HAND {
         let sides = ["patched text", "text"];
         end_to_end(&Table::in_micros("Polygons to shapes, end to end", sides), &polygons::plans(), effort);
@@ -76,7 +79,7 @@ fn run(effort: Effort) {
 /// Each graph that has a row of its own, in a file with its name.
 fn write(folder: &Path) -> io::Result<()> {
     fs::create_dir_all(folder)?;
-    for group in graphs::large().into_iter().chain(graphs::tiny()) {
+    for group in graphs::large().into_iter().chain(graphs::tiny()).chain(graphs::jointed()) {
         let [Sample { graph, state }] = &group.samples[..] else { continue };
         let study = Study { settings: sides::SETTINGS, graph: graph.clone(), state: state.clone() };
         let words = group.name.split(|letter: char| !letter.is_alphanumeric()).filter(|word| !word.is_empty());
@@ -129,6 +132,18 @@ fn whole_calls(table: &Table, groups: &[Group], effort: Effort) {
     }
 }
 
+/// Extraction that drops the points on a straight line beside extraction that keeps them.
+fn dropping(table: &Table, groups: &[Group], effort: Effort) {
+    for group in groups {
+        let mut dropped: Vec<Library> = group.samples.iter().map(Library::new).collect();
+        let mut kept: Vec<Library> = group.samples.iter().map(Library::new).collect();
+        let keeping = each(group, &mut kept, Library::extract);
+        let times = least(effort, each(group, &mut dropped, Library::extract_dropping), Some(keeping));
+        table.row(group.name, "extraction", times, group.runs());
+        dropped.iter().zip(&kept).for_each(|(dropped, kept)| sides::most_points_went(group.name, dropped, kept));
+    }
+}
+
 /// Polygons to shapes by the patched text, beside the text as it is; then the steps of that. The split and the graph are the
 /// same code on both sides.
 fn end_to_end(table: &Table, plans: &[Plan], effort: Effort) {
@@ -171,6 +186,8 @@ mod tests {
         let groups = graphs::small();
         beside_the_text(&Table::in_micros("Small graphs", ["library", "text"]), &groups, effort);
         whole_calls(&Table::in_micros("Small graphs, whole calls", ["whole call", "bare calls"]), &groups, effort);
+        let points = Table::in_micros("Few points on a straight line", ["dropped", "kept"]);
+        dropping(&points, &graphs::small_jointed(), effort);
         if text::AT_HAND {
             end_to_end(&Table::in_micros("Few polygons", ["patched text", "text"]), &polygons::small(), effort);
         }

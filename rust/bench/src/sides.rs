@@ -9,7 +9,7 @@ use reading::graph::Buffers;
 use text::{Run, Unbound};
 
 /// Counterclockwise, and everything kept: what `Options::default()` says.
-pub const SETTINGS: Settings = Settings { clockwise: false, minimum: 0 };
+pub const SETTINGS: Settings = Settings { clockwise: false, minimum: 0, drop_straight: false };
 
 /// The library on one graph, with buffers that are lent again and again.
 pub struct Library<'a> {
@@ -32,19 +32,24 @@ impl<'a> Library<'a> {
     /// Extraction with every link skipped: all checks run, and nothing is walked.
     pub fn check(&mut self) {
         self.lent.state.fill(1);
-        self.walk();
+        self.walk(Options::default());
     }
 
     /// Extraction with all its checks; the states are set as the text's link filter sets its own.
     pub fn extract(&mut self) {
         self.lent.state.copy_from_slice(&self.sample.state);
-        self.walk();
+        self.walk(Options::default());
     }
 
-    fn walk(&mut self) {
+    /// The same without the points on a straight line.
+    pub fn extract_dropping(&mut self) {
+        self.lent.state.copy_from_slice(&self.sample.state);
+        self.walk(Options { preserve_output_collinear: false, ..Options::default() });
+    }
+
+    fn walk(&mut self, options: Options) {
         let lent = buffers(&mut self.lent);
-        self.counts =
-            lent::extract(lists(&self.sample.graph), Options::default(), lent).expect("the graphs are walked");
+        self.counts = lent::extract(lists(&self.sample.graph), options, lent).expect("the graphs are walked");
     }
 
     /// Binding with all its checks, of what was extracted last.
@@ -115,6 +120,12 @@ pub fn texts(group: &Group) -> Option<Vec<Run>> {
 /// What the text binds of each graph.
 pub fn unbound(ours: &[Library], theirs: &[Run]) -> Vec<Unbound> {
     ours.iter().zip(theirs).map(|(ours, theirs)| theirs.unbound(ours.kinds())).collect()
+}
+
+/// Panics unless the first has the contours of the second, without most of their points, as they ran last.
+pub fn most_points_went(name: &str, dropped: &Library, kept: &Library) {
+    assert_eq!(dropped.kinds(), kept.kinds(), "{name}: no contour goes");
+    assert!(2 * dropped.points().len() < kept.points().len(), "{name}: most points go");
 }
 
 /// Panics unless the safe interface says what the bare calls say.

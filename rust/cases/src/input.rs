@@ -28,6 +28,7 @@ pub struct Input {
     pub room: Room,
     pub clockwise: Vec<bool>,
     pub minimum: Vec<u64>,
+    pub drop_straight: Vec<bool>,
     pub look: Vec<usize>,
 }
 
@@ -41,6 +42,7 @@ impl Default for Input {
             room: Room::default(),
             clockwise: vec![false],
             minimum: vec![0],
+            drop_straight: vec![false],
             look: Vec::new(),
         }
     }
@@ -67,7 +69,24 @@ fn lists(lent: &Buffers) -> Lists {
     ]
 }
 
+/// What was counted. Contours left out are told where straight points are dropped; elsewhere there are none to be told.
+fn words(counts: Counts, drop_straight: bool) -> String {
+    let Counts { contours, points, rejected, walked, left_out, kept_area, rejected_area } = counts;
+    let left_out = if drop_straight || left_out > 0 { format!(" left_out {left_out}") } else { String::new() };
+    let areas = format!("kept_area {kept_area} rejected_area {rejected_area}");
+    format!("contours {contours} points {points} rejected {rejected} walked {walked}{left_out} {areas}")
+}
+
 impl Input {
+    /// Every setting that is asked for: each direction with each minimum, with straight points kept or dropped.
+    pub fn settings(&self) -> impl Iterator<Item = Settings> {
+        let Input { clockwise, minimum, drop_straight, .. } = self;
+        let ways = clockwise.iter().flat_map(|way| minimum.iter().map(move |least| (way, least)));
+        ways.flat_map(|(&clockwise, &minimum)| {
+            drop_straight.iter().map(move |&drop_straight| Settings { clockwise, minimum, drop_straight })
+        })
+    }
+
     fn buffers(&self) -> Buffers {
         let (n, room) = (self.graph.links(), &self.room);
         let contours = |room: Option<usize>| room.unwrap_or(n / 3 + 1);
@@ -80,17 +99,14 @@ impl Input {
         }
     }
 
-    pub fn extract(&self, side: Side, clockwise: bool, minimum: u64) -> Outcome {
+    pub fn extract(&self, side: Side, settings: Settings) -> Outcome {
         let mut lent = self.buffers();
         let before = lists(&lent);
-        let answer = (side.extract)(&self.graph, Settings { clockwise, minimum }, &mut lent);
-        let words = |counts: Counts| {
-            let Counts { contours, points, rejected, walked, kept_area, rejected_area } = counts;
-            let areas = format!("kept_area {kept_area} rejected_area {rejected_area}");
-            format!("contours {contours} points {points} rejected {rejected} walked {walked} {areas}")
-        };
-        let asked = format!("{}, minimum {minimum}", direction(clockwise));
-        Outcome { asked, said: said(answer, words), before, after: lists(&lent) }
+        let answer = (side.extract)(&self.graph, settings, &mut lent);
+        let Settings { clockwise, minimum, drop_straight } = settings;
+        let straight = if drop_straight { ", straight dropped" } else { "" };
+        let asked = format!("{}, minimum {minimum}{straight}", direction(clockwise));
+        Outcome { asked, said: said(answer, |counts| words(counts, drop_straight)), before, after: lists(&lent) }
     }
 
     pub fn bind(&self, side: Side, clockwise: bool) -> Outcome {

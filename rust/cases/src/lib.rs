@@ -30,14 +30,12 @@ pub struct Case {
 }
 
 impl Case {
-    /// The answers of one side: one for each direction and each minimum, or for each contour that is looked up.
+    /// The answers of one side: one for each setting of extraction, each direction of binding, or each contour that is
+    /// looked up.
     pub fn ask(&self, side: Side) -> Vec<Outcome> {
-        let Input { clockwise, minimum, look, .. } = &self.input;
+        let Input { clockwise, look, .. } = &self.input;
         match self.run {
-            Run::Extract => {
-                let settings = clockwise.iter().flat_map(|&way| minimum.iter().map(move |&least| (way, least)));
-                settings.map(|(way, least)| self.input.extract(side, way, least)).collect()
-            }
+            Run::Extract => self.input.settings().map(|settings| self.input.extract(side, settings)).collect(),
             Run::Bind => clockwise.iter().map(|&way| self.input.bind(side, way)).collect(),
             Run::Lookup => look.iter().map(|&contour| self.input.lookup(side, contour)).collect(),
         }

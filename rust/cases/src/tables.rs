@@ -11,7 +11,7 @@ use std::path::PathBuf;
 use std::str::FromStr;
 
 /// Every table, by the name of its file.
-pub const TABLES: [&str; 7] = ["checks", "walks", "turns", "contours", "anchors", "lookups", "binding"];
+pub const TABLES: [&str; 8] = ["checks", "walks", "turns", "straight", "contours", "anchors", "lookups", "binding"];
 
 /// tests/tables/NAME.ENDING
 pub fn file(name: &str, ending: &str) -> PathBuf {
@@ -121,15 +121,7 @@ impl Block {
             "hull" | "hole" => input.table.push(&line.points(1), line.word(0) == "hole"),
             "zigzag" => made::zigzag(&mut input.table, line.number(1)),
             "boxes" => made::boxes(&mut input.table, line.number(1), line.number(2)),
-            "direction" => {
-                input.clockwise = match line.word(1) {
-                    "counterclockwise" => vec![false],
-                    "clockwise" => vec![true],
-                    "both" => vec![false, true],
-                    _ => line.fault("no such direction"),
-                }
-            }
-            "minimum" => input.minimum = line.numbers(1),
+            "direction" | "minimum" | "straight" => setting(input, line),
             "look" => input.look = line.numbers(1),
             "room" => room(input, line),
             "set" | "give" | "fill" | "add" | "cut" => list(input, line),
@@ -143,6 +135,19 @@ impl Block {
             line.fault("a link has four coordinates and a top");
         }
         self.links.push(([line.number(1), line.number(2)], [line.number(3), line.number(4)], line.number(5)));
+    }
+}
+
+/// `direction CHOICE`, `minimum N ..`, `straight CHOICE`
+fn setting(input: &mut Input, line: &Words<'_>) {
+    match (line.word(0), line.word(1)) {
+        ("direction", "counterclockwise") => input.clockwise = vec![false],
+        ("direction", "clockwise") => input.clockwise = vec![true],
+        ("direction", "both") => input.clockwise = vec![false, true],
+        ("minimum", _) => input.minimum = line.numbers(1),
+        ("straight", "dropped") => input.drop_straight = vec![true],
+        ("straight", "both") => input.drop_straight = vec![false, true],
+        _ => line.fault("no such setting"),
     }
 }
 

@@ -40,6 +40,11 @@ fn table_of_turns() {
 }
 
 #[test]
+fn table_of_straight_points() {
+    hold("straight");
+}
+
+#[test]
 fn table_of_contours() {
     hold("contours");
 }

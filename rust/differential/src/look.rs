@@ -1,7 +1,7 @@
 //! What graphs look like: those that the text makes of polygons, beside the generated ones.
 
+use crate::tally::ALL;
 use generators::Sample;
-use reading::Settings;
 use reading::graph::Graph;
 use reading::walk::{Scan, walks};
 use std::fmt;
@@ -40,7 +40,7 @@ impl Look {
         self.skipped += state.iter().filter(|&&state| state == 1).count();
         self.nodes += graph.nodes();
         (0..graph.nodes()).for_each(|node| self.add_node(graph, state, node));
-        let walks = walks(graph, state, Settings { clockwise: false, minimum: 0 }, Scan::Stays).unwrap_or_default();
+        let walks = walks(graph, state, ALL, Scan::Stays).unwrap_or_default();
         let holes = walks.iter().filter(|walk| walk.hole).count();
         self.holes += holes;
         self.hulls += walks.len() - holes;

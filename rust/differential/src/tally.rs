@@ -107,17 +107,20 @@ impl fmt::Display for Tally {
     }
 }
 
+/// Counterclockwise, and everything kept. Points on a line are kept in every comparison: what the crate removes them by is not in
+/// the text.
+pub const ALL: Settings = Settings { clockwise: false, minimum: 0, drop_straight: false };
+
 /// Both directions, with minima from nothing to just above the size of one of the graph's walks.
 pub fn settings(sample: &Sample, rng: &mut Rng) -> Vec<Settings> {
-    let all = Settings { clockwise: false, minimum: 0 };
-    let areas: Vec<u64> = walks(&sample.graph, &sample.state, all, Scan::Stays)
+    let areas: Vec<u64> = walks(&sample.graph, &sample.state, ALL, Scan::Stays)
         .unwrap_or_default()
         .iter()
         .map(|walk| walk.doubled_area().unsigned_abs() as u64 / 2)
         .collect();
     let area = if areas.is_empty() { 1 } else { rng.choose(&areas) };
     let minima = [0, 1, area, area + 1];
-    [false, true].iter().flat_map(|&clockwise| minima.map(|minimum| Settings { clockwise, minimum })).collect()
+    [false, true].iter().flat_map(|&clockwise| minima.map(|minimum| Settings { clockwise, minimum, ..ALL })).collect()
 }
 
 /// A graph to be compared.
@@ -142,7 +145,7 @@ impl Compared {
         tally.graphs += 1;
         tally.uneven += !is_even as usize;
         if in_domain && !is_even {
-            tally.find(&sample, Settings { clockwise: false, minimum: 0 });
+            tally.find(&sample, ALL);
         }
         Self { sample, in_domain, is_even }
     }

@@ -3,7 +3,7 @@
 use differential::compare::{Equal, ask_text, compare};
 use differential::front::front;
 use differential::sides::{by, by_crate_rules};
-use differential::tally::{Compared, Tally, compare_run};
+use differential::tally::{ALL, Compared, Tally, compare_run};
 use generators::polygons::{FAMILIES, Polygons, sample};
 use generators::rng::Rng;
 use generators::{Numbering, Sample, planar};
@@ -109,7 +109,7 @@ fn the_text_finds_holes_out_of_order() {
     let small = [[(0, 0), (20, 1), (20, 2)], [(0, 0), (20, 5), (20, 6)]].map(contour);
     let large = [[(0, 0), (10, -40), (11, -50)], [(5, 20), (7, 40), (9, 20)]].map(contour);
     let polygons = [&[hull], &small[..], &large[..]].concat();
-    let settings = Settings { clockwise: false, minimum: 15 };
+    let settings = Settings { minimum: 15, ..ALL };
     let mut run = Front::new(&polygons, &[], true).kept(0, 0).expect("edges are left");
     let (graph, state) = run.lent();
     run.set(settings);

@@ -1,5 +1,6 @@
 //! The contours of which [`polygons`](crate::polygons) are made.
 
+use crate::joints::greatest_divisor;
 use crate::mesh::Mesh;
 use crate::patch::Patch;
 use crate::planar;
@@ -130,10 +131,6 @@ fn with_joints(contour: &[Point], percent: usize, rng: &mut Rng) -> Contour {
         );
     }
     jointed
-}
-
-fn greatest_divisor(one: i32, other: i32) -> i32 {
-    if other == 0 { one } else { greatest_divisor(other, one % other) }
 }
 
 /// Some of the triangles round a point, or every other, each a contour.

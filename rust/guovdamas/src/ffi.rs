@@ -7,6 +7,13 @@
 use crate::lists::{Buffers, Lists, Table};
 
 #[repr(C)]
+pub(crate) struct Settings {
+    pub(crate) minimum: u64,
+    pub(crate) clockwise: bool,
+    pub(crate) drop_straight: bool,
+}
+
+#[repr(C)]
 pub(crate) struct Extraction {
     pub(crate) number: u32,
     pub(crate) place: usize,
@@ -14,6 +21,7 @@ pub(crate) struct Extraction {
     pub(crate) points: usize,
     pub(crate) rejected: usize,
     pub(crate) walked: usize,
+    pub(crate) left_out: usize,
     pub(crate) kept_area: i64,
     pub(crate) rejected_area: i64,
 }
@@ -43,7 +51,7 @@ unsafe extern "C" {
         a_id: *const u32, a_id_len: usize, b_id: *const u32, b_id_len: usize,
         top: *const u8, top_len: usize,
         start: *const u32, start_len: usize, list: *const u32, list_len: usize,
-        clockwise: bool, minimum: u64,
+        settings: Settings,
         state: *mut u8, state_len: usize,
         points: *mut i32, points_len: usize,
         first: *mut u32, first_len: usize, len: *mut u32, len_len: usize, kind: *mut u8, kind_len: usize,
@@ -65,7 +73,7 @@ unsafe extern "C" {
 }
 
 #[rustfmt::skip]
-pub(crate) fn extract(lists: Lists<'_>, clockwise: bool, minimum: u64, lent: &mut Buffers<'_>) -> Extraction {
+pub(crate) fn extract(lists: Lists<'_>, settings: Settings, lent: &mut Buffers<'_>) -> Extraction {
     let Lists { ax, ay, bx, by, a_id, b_id, top, start, list } = lists;
     let Buffers { state, points, first, len, kind } = lent;
     // SAFETY: each pointer comes with its own slice's length and is valid for the call; the five that are written
@@ -77,7 +85,7 @@ pub(crate) fn extract(lists: Lists<'_>, clockwise: bool, minimum: u64, lent: &mu
             a_id.as_ptr(), a_id.len(), b_id.as_ptr(), b_id.len(),
             top.as_ptr(), top.len(),
             start.as_ptr(), start.len(), list.as_ptr(), list.len(),
-            clockwise, minimum,
+            settings,
             state.as_mut_ptr(), state.len(),
             points.as_mut_ptr(), points.len(),
             first.as_mut_ptr(), first.len(), len.as_mut_ptr(), len.len(), kind.as_mut_ptr(), kind.len(),

@@ -26,6 +26,9 @@ use crate::{ContourDirection, Lists, Options, Refusal, diagnosis, ffi};
 pub use crate::lists::{Buffers, Table};
 
 /// What extraction counts; areas are signed, doubled, positive when counterclockwise, and summed.
+///
+/// Contours and points are those that are written. All else is of the walks, before points on a straight line are left
+/// out.
 #[derive(Clone, Copy, Debug, Default, PartialEq, Eq)]
 pub struct Counts {
     /// Kept contours.
@@ -36,7 +39,10 @@ pub struct Counts {
     pub rejected: u32,
     /// Links walked, by kept and rejected walks.
     pub walked: u32,
-    /// The kept contours' areas, summed.
+    /// Walks kept, of which fewer than 3 points would remain without those on a straight line. It is proved that a graph
+    /// that passes the checks has none.
+    pub left_out: u32,
+    /// The kept walks' areas, summed.
     pub kept_area: i64,
     /// The rejected walks' areas, summed.
     pub rejected_area: i64,
@@ -76,16 +82,26 @@ pub struct ContourRecord {
 /// Walks the graph and writes the kept contours, hulls and holes, in the order in which they were found. On success
 /// everything past the last contour is zero. It takes some 102 KiB of stack.
 ///
+/// With [`preserve_output_collinear`](Options::preserve_output_collinear) off, points on a straight line are not
+/// written. Holes are bound on all points: who wants both extracts twice, binds the table with all points, and takes
+/// the owners for the other, whose contours have the same numbers.
+///
 /// # Errors
 /// 1 to 7 if a check finds the graph at fault: then all that was lent is as before. 8 and 9 if a walk cannot be gone on
 /// with or ends elsewhere: then the states are as before, and the points and the contour table are zero.
 pub fn extract(lists: Lists<'_>, options: Options, mut lent: Buffers<'_>) -> Result<Counts, Refusal> {
-    let answer = ffi::extract(lists, options.output_direction.is_clockwise(), options.min_output_area, &mut lent);
+    let settings = ffi::Settings {
+        minimum: options.min_output_area,
+        clockwise: options.output_direction.is_clockwise(),
+        drop_straight: !options.preserve_output_collinear,
+    };
+    let answer = ffi::extract(lists, settings, &mut lent);
     let counts = Counts {
         contours: small(answer.contours),
         points: small(answer.points),
         rejected: small(answer.rejected),
         walked: small(answer.walked),
+        left_out: small(answer.left_out),
         kept_area: answer.kept_area,
         rejected_area: answer.rejected_area,
     };

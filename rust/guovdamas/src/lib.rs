@@ -17,6 +17,7 @@ mod refusal;
 mod sides;
 pub mod study;
 mod workspace;
+mod written;
 
 pub use graph::{Graph, Link, Segment};
 pub use iter::Iter;

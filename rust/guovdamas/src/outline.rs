@@ -3,7 +3,8 @@
 use crate::iter::{Iter, Numbered};
 use crate::lent::{self, Bound, Counts, Role};
 use crate::lists::Lists;
-use crate::{MAX_LINKS, Options, Refusal};
+use crate::written::Written;
+use crate::{Options, Refusal};
 
 /// Whether a contour bounds a shape from outside or from inside.
 #[derive(Clone, Copy, Debug, PartialEq, Eq, Hash)]
@@ -47,23 +48,19 @@ impl<'a> Contour<'a> {
 }
 
 /// The kept contours of a graph, hulls and holes, in the order in which they were found.
-///
-/// The buffers are as extraction leaves them: past what the counts say they are zero.
 #[derive(Clone, Debug, Default, PartialEq, Eq)]
 pub struct Contours {
     options: Options,
-    counts: Counts,
-    state: Vec<u8>,
-    points: Vec<[i32; 2]>,
-    first: Vec<u32>,
-    len: Vec<u32>,
-    kind: Vec<u8>,
+    /// As the options ask for it.
+    written: Written,
+    /// With all points, where `written` is without those on a straight line: on these holes are bound. Else empty.
+    full: Written,
 }
 
 impl Contours {
     /// How many were kept.
     pub fn len(&self) -> usize {
-        self.counts.contours as usize
+        self.written.contours()
     }
 
     /// Whether none was kept.
@@ -88,26 +85,21 @@ impl Contours {
 
     /// Counts and areas, of the rejected walks too.
     pub fn counts(&self) -> Counts {
-        self.counts
+        self.written.counts
     }
 
     /// What became of each link: 1 skipped, 2 walked in a hole's contour, 3 in a hull's.
     pub fn states(&self) -> &[u8] {
-        &self.state
+        &self.written.state
     }
 
-    /// The contour table, without the room past it.
-    fn table(&self) -> lent::Table<'_> {
-        let contours = self.len();
-        lent::Table {
-            points: self.points[..self.counts.points as usize].as_flattened(),
-            first: &self.first[..contours],
-            len: &self.len[..contours],
-            kind: &self.kind[..contours],
-        }
+    /// The contour table with all points.
+    fn full_table(&self) -> lent::Table<'_> {
+        if self.options.preserve_output_collinear { self.written.table() } else { self.full.table() }
     }
 
-    /// Finds the shape of every hole: i_overlay's `join_sorted_holes`.
+    /// Finds the shape of every hole: i_overlay's `join_sorted_holes`. It is sought among all points, also where those on a
+    /// straight line were left out of the contours.
     ///
     /// # Errors
     /// 12: a hole finds no shape. 10 and 11 are not met, since what extraction leaves passes these checks.
@@ -117,31 +109,20 @@ impl Contours {
         Ok(shapes)
     }
 
-    /// Extracts a graph in the place of what was found before, with the room that the library asks for. A graph with
-    /// too many links is refused before any room is asked for.
+    /// Extracts a graph in the place of what was found before: once as the options ask, and once more with all points if
+    /// that was without some.
     pub(crate) fn extract(&mut self, lists: Lists<'_>, skipped: &[u8], options: Options) -> Result<(), Refusal> {
-        let links = lists.links().min(MAX_LINKS);
         self.options = options;
-        self.counts = Counts::default();
-        self.state.clear();
-        self.state.extend_from_slice(skipped);
-        self.points.resize(links, [0; 2]);
-        self.first.resize(links / 3, 0);
-        self.len.resize(links / 3, 0);
-        self.kind.resize(links / 3, 0);
-        let lent = lent::Buffers {
-            state: &mut self.state,
-            points: self.points.as_flattened_mut(),
-            first: &mut self.first,
-            len: &mut self.len,
-            kind: &mut self.kind,
-        };
-        self.counts = lent::extract(lists, options, lent)?;
+        self.full.clear();
+        self.written.extract(lists, skipped, options)?;
+        if !options.preserve_output_collinear {
+            self.full.extract(lists, skipped, Options { preserve_output_collinear: true, ..options })?;
+        }
         Ok(())
     }
 
     fn kind(&self, number: usize) -> ContourKind {
-        if self.kind[number] == 1 { ContourKind::Hole } else { ContourKind::Hull }
+        if self.written.is_hole(number) { ContourKind::Hole } else { ContourKind::Hull }
     }
 }
 
@@ -149,8 +130,7 @@ impl Numbered for Contours {
     type Item<'a> = Contour<'a>;
 
     fn item(&self, number: usize) -> Contour<'_> {
-        let (first, len) = (self.first[number] as usize, self.len[number] as usize);
-        Contour { number, kind: self.kind(number), points: &self.points[first..first + len] }
+        Contour { number, kind: self.kind(number), points: self.written.points(number) }
     }
 }
 
@@ -242,7 +222,8 @@ impl Shapes {
     pub(crate) fn bind(&mut self) -> Result<(), Refusal> {
         let contours = self.contours.len();
         self.owner.resize(contours, 0);
-        self.bound = lent::bind(self.contours.table(), self.contours.options.output_direction, &mut self.owner)?;
+        let direction = self.contours.options.output_direction;
+        self.bound = lent::bind(self.contours.full_table(), direction, &mut self.owner)?;
         self.hulls.clear();
         self.hulls.extend((0..contours).filter(|&number| self.contours.kind(number) == ContourKind::Hull));
         Ok(())

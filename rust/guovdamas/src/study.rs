@@ -41,7 +41,8 @@ const NODE: u16 = 2;
 pub struct Study {
     /// The links and nodes.
     pub graph: Graph,
-    /// Output direction and minimum area.
+    /// Output direction and minimum area, which a file holds; and whether points on a straight line are kept, of which
+    /// it says nothing: they are, if a study is read.
     pub options: Options,
     /// The bytes of links whose top or state is neither 0 nor 1: a file may have them, and a graph has flags there.
     odd: Vec<OddLink>,
@@ -217,8 +218,8 @@ fn check_limits(links: usize, nodes: usize, entries: usize) -> Result<(), StudyE
 fn settings(body: &[u8]) -> Option<Options> {
     let (&direction, minimum) = body.split_first()?;
     let min_output_area = u64::from_le_bytes(minimum.try_into().ok()?);
-    (direction <= 1)
-        .then_some(Options { output_direction: ContourDirection::from_clockwise(direction == 1), min_output_area })
+    let output_direction = ContourDirection::from_clockwise(direction == 1);
+    (direction <= 1).then_some(Options { output_direction, min_output_area, ..Options::default() })
 }
 
 /// The 16-bit number at the front.

@@ -1,10 +1,10 @@
-//! What this crate adds to the library, on generated graphs and tables: reasons of refusals, alternating sides, and the
-//! workspace beside calls with buffers of their own. Seeds are fixed.
+//! What this crate adds to the library, on generated graphs and tables: reasons of refusals, alternating sides, shapes
+//! without straight points, and the workspace beside calls with buffers of their own. Seeds are fixed.
 
 use generators::planar::{FAMILIES, sample, upset_tops};
 use generators::rng::Rng;
-use generators::{Sample, damage, tables, wild};
-use guovdamas::{ContourDirection, Options, Refusal, RefusalKind, Workspace, lent};
+use generators::{Sample, damage, joints, tables, wild};
+use guovdamas::{ContourDirection, Options, Refusal, RefusalKind, Shapes, Workspace, lent};
 use lending::{buffers, lists, table};
 use reading::graph::Graph;
 use std::collections::BTreeMap;
@@ -84,7 +84,11 @@ fn sides_that_alternate_are_walked_whole() {
             upset_tops(&mut sample, &mut rng);
         }
         let (lent, clockwise) = (lists(&sample.graph), rng.chance(50));
-        let options = Options { output_direction: ContourDirection::from_clockwise(clockwise), min_output_area: 3 };
+        let options = Options {
+            output_direction: ContourDirection::from_clockwise(clockwise),
+            min_output_area: 3,
+            preserve_output_collinear: rng.chance(50),
+        };
         let walked = lent.extract_contours(&sample.state, options);
         match (lent.sides_alternate(&sample.state), &walked) {
             (Ok(()), Ok(contours)) => {
@@ -112,8 +116,59 @@ fn a_workspace_answers_as_a_fresh_call() {
             upset_tops(&mut sample, &mut rng);
         }
         let (lent, state) = (lists(&sample.graph), &sample.state[..]);
-        let options = Options { min_output_area: rng.choose(&[0, 2]), ..Options::default() };
+        let options = Options {
+            min_output_area: rng.choose(&[0, 2]),
+            preserve_output_collinear: rng.chance(50),
+            ..Options::default()
+        };
         let due = lent.extract_shapes(state, options);
         assert_eq!(workspace.extract_shapes((lent, state), options), due.as_ref().map_err(|refusal| *refusal));
     }
+}
+
+/// A graph with joints, and options with straight points.
+fn jointed(seed: u64) -> (Sample, Options) {
+    let mut rng = Rng::new(seed ^ 12 << 40);
+    let plain = match seed % 5 {
+        0 => wild::sample(12, &mut rng),
+        _ => sample(FAMILIES[seed as usize % FAMILIES.len()], rng.choose(&[3, 5, 8]), &mut rng),
+    };
+    let options = Options {
+        output_direction: ContourDirection::from_clockwise(rng.chance(50)),
+        min_output_area: rng.choose(&[0, 0, 2, 50]),
+        preserve_output_collinear: true,
+    };
+    (joints::split(&plain, &mut rng), options)
+}
+
+/// Holes are bound on all points: without the straight ones shapes have the same contours, with the same areas, kinds and
+/// owners, and a refusal is the same. The points are those that extraction alone gives.
+#[test]
+fn shapes_without_straight_points_are_bound_as_with_them() {
+    let (mut points_gone, mut searched, mut refused) = (0, 0, 0);
+    for seed in 0..6000 {
+        let (sample, options) = jointed(seed);
+        let (lent, state) = (lists(&sample.graph), &sample.state[..]);
+        let without = Options { preserve_output_collinear: false, ..options };
+        match (lent.extract_shapes(state, options), lent.extract_shapes(state, without)) {
+            (Ok(full), Ok(dropped)) => {
+                assert_eq!((dropped.owners(), dropped.bound()), (full.owners(), full.bound()));
+                let told = |shapes: &Shapes| {
+                    shapes.contours().iter().map(|contour| (contour.kind(), contour.doubled_area())).collect::<Vec<_>>()
+                };
+                assert_eq!(told(&dropped), told(&full));
+                let contours = lent.extract_contours(state, without).expect("it is walked");
+                assert_eq!(contours.to_vec(), dropped.contours().to_vec());
+                assert_eq!(contours.bind_holes().as_ref(), Ok(&dropped));
+                points_gone += full.contours().counts().points - dropped.contours().counts().points;
+                searched += (full.len() > 1 && full.len() < full.contours().len()) as usize;
+            }
+            (full, dropped) => {
+                assert_eq!(dropped.err(), full.err());
+                refused += 1;
+            }
+        }
+    }
+    println!("{points_gone} points gone, {searched} graphs with holes that are searched, {refused} refused");
+    assert!(points_gone > 50_000 && searched > 500 && refused > 100);
 }

@@ -37,7 +37,7 @@ fn links_and_nodes_one_by_one() {
         graph.push_node(links);
     }
 
-    let options = Options { output_direction: ContourDirection::Clockwise, min_output_area: 16 };
+    let options = Options { output_direction: ContourDirection::Clockwise, min_output_area: 16, ..Options::default() };
     let contours = graph.extract_contours(options).unwrap();
     assert_eq!(contours.len(), 1);
     assert_eq!(contours.get(0).unwrap().points(), [[0, 0], [0, 4], [4, 4], [4, 0]]);
@@ -163,15 +163,70 @@ fn links_and_their_segments() {
     assert_eq!((graph.link(4).unwrap().skipped, graph.segment_of(4)), (true, Some(4)));
 }
 
+/// A box with a joint in the middle of each of its four sides, filled inside or outside.
+fn jointed_frame(low: [i32; 2], size: i32, filled: bool) -> Vec<Segment> {
+    let halves = |side: Segment| {
+        let middle = [0, 1].map(|axis| (side.a[axis] + side.b[axis]) / 2);
+        [Segment { b: middle, ..side }, Segment { a: middle, ..side }]
+    };
+    frame(low, size, filled).into_iter().flat_map(halves).collect()
+}
+
+const WITHOUT_STRAIGHT_POINTS: Options =
+    Options { output_direction: ContourDirection::Clockwise, min_output_area: 0, preserve_output_collinear: false };
+
+/// Clockwise the walk round a hole begins at a joint: without it, the hole's least point is not where binding seeks it.
+#[test]
+fn straight_points_are_left_out() {
+    let (options, all) =
+        (WITHOUT_STRAIGHT_POINTS, Options { preserve_output_collinear: true, ..WITHOUT_STRAIGHT_POINTS });
+    assert_eq!(Options { output_direction: ContourDirection::Clockwise, ..Options::default() }, all);
+    let frames = [jointed_frame([0, 0], 20, true), jointed_frame([30, 0], 20, true), jointed_frame([32, 2], 4, false)];
+    let graph = Graph::from_segments(frames.concat());
+    let full = graph.extract_shapes(all).unwrap();
+    assert_eq!(full.contours().iter().map(|contour| contour.points().len()).collect::<Vec<_>>(), [8; 3]);
+    let hull = |x| vec![[x, 0], [x, 20], [x + 20, 20], [x + 20, 0]];
+    let hole = vec![[32, 2], [36, 2], [36, 6], [32, 6]];
+    let shapes = graph.extract_shapes(options).unwrap();
+    assert_eq!(shapes.to_vec(), vec![vec![hull(0)], vec![hull(30), hole.clone()]]);
+    assert_eq!((shapes.owners(), shapes.role(2)), (&[0, 1, 1][..], Some(Role::Hole(1))));
+    assert_eq!((shapes.bound(), shapes.contours().states()), (full.bound(), full.contours().states()));
+    assert_eq!(shapes.contours().counts(), lent::Counts { points: 12, left_out: 0, ..full.contours().counts() });
+
+    let contours = graph.extract_contours(options).unwrap();
+    assert_eq!(contours.to_vec(), [hull(0), hull(30), hole]);
+    assert_eq!(contours.bind_holes(), Ok(shapes));
+}
+
+/// A refusal is the same with all points and without some, in number, place and reason.
+#[test]
+fn refusals_without_straight_points() {
+    let all = Options { preserve_output_collinear: true, ..WITHOUT_STRAIGHT_POINTS };
+    let frames = [jointed_frame([0, 0], 8, true), jointed_frame([30, 0], 8, true), jointed_frame([50, 2], 4, false)];
+    let mut segments = frames.concat();
+    let refusal = |segments: &[Segment], options| {
+        Graph::from_segments(segments.iter().copied()).extract_shapes(options).unwrap_err()
+    };
+    let orphan = refusal(&segments, WITHOUT_STRAIGHT_POINTS);
+    assert_eq!((orphan.number(), orphan.place()), (12, 2));
+    assert_eq!(orphan, refusal(&segments, all));
+    segments[0].skipped = true;
+    let torn = refusal(&segments, WITHOUT_STRAIGHT_POINTS);
+    assert_eq!(torn.number(), 8);
+    assert_eq!(torn, refusal(&segments, all));
+}
+
 #[test]
 fn a_workspace_is_used_again() {
     let large = Graph::from_segments([frame([0, 0], 10, true), frame([2, 2], 4, false)].concat());
     let small = Graph::from_segments(frame([0, 0], 4, true));
     let mut open = small.clone();
     open.push_node([]);
-    let options = Options::default();
     let mut workspace = Workspace::new();
-    for graph in [&small, &large, &open, &small] {
+    let turns = [&small, &large, &open, &small].into_iter().flat_map(|graph| {
+        [Options::default(), WITHOUT_STRAIGHT_POINTS, Options::default()].map(|options| (graph, options))
+    });
+    for (graph, options) in turns {
         let (due, found) = (graph.extract_shapes(options), workspace.extract_shapes(graph, options).cloned());
         assert_eq!(found, due);
         let lent: (Lists<'_>, &[u8]) = (graph.lists(), graph.skipped());

@@ -1,9 +1,9 @@
-//! The library against the reading of document 01: every answer and every byte of every buffer, on generated graphs and
-//! tables, good and damaged. Seeds are fixed; the counts are printed (`cargo test -- --nocapture`).
+//! The library against the reading of documents 01 and 02: every answer and every byte of every buffer, on generated
+//! graphs and tables, good and damaged. Seeds are fixed; the counts are printed (`cargo test -- --nocapture`).
 
 use generators::planar::{FAMILIES, Family, sample};
 use generators::rng::Rng;
-use generators::{Sample, damage, planar, tables, wild};
+use generators::{Sample, damage, joints, planar, tables, wild};
 use lending::LIBRARY;
 use reading::bind::Table;
 use reading::graph::{Buffers, Graph};
@@ -28,8 +28,12 @@ impl Tally {
     }
 }
 
-/// Extracts by both, then binds what was found by both; all answers and buffers must be equal.
+/// Extracts by both, then binds what was found by both; all answers and buffers must be equal. Where straight points are
+/// dropped, the same with them too.
 fn compare_extraction(graph: &Graph, lent: &Buffers, settings: Settings, tally: &mut Tally) {
+    if settings.drop_straight {
+        compare_extraction(graph, lent, Settings { drop_straight: false, ..settings }, tally);
+    }
     let (mut read, mut ours) = (lent.clone(), lent.clone());
     let due = walk::extract(graph, settings, &mut read);
     let answer = (LIBRARY.extract)(graph, settings, &mut ours);
@@ -61,15 +65,14 @@ fn compare_lookups(lent: &Table, owner: &[u16]) {
     }
 }
 
-/// A direction, and a minimum that some of the graph's walks just meet or just miss.
+/// A direction, straight points kept or dropped, and a minimum that some of the graph's walks just meet or just miss.
 fn settings(sample: &Sample, rng: &mut Rng) -> Settings {
-    let clockwise = rng.chance(50);
-    let walks = walk::walks(&sample.graph, &sample.state, Settings { clockwise, minimum: 0 }, walk::Scan::Stays)
-        .unwrap_or_default();
+    let all = Settings { clockwise: rng.chance(50), minimum: 0, drop_straight: rng.chance(30) };
+    let walks = walk::walks(&sample.graph, &sample.state, all, walk::Scan::Stays).unwrap_or_default();
     let mut minima = vec![0, 0, 1, u64::MAX, 1 << 63];
     minima.extend(walks.iter().map(|walk| walk.doubled_area().unsigned_abs() as u64 / 2));
     minima.extend(walks.iter().map(|walk| walk.doubled_area().unsigned_abs() as u64 / 2 + 1));
-    Settings { clockwise, minimum: rng.choose(&minima) }
+    Settings { minimum: rng.choose(&minima), ..all }
 }
 
 #[test]
@@ -85,6 +88,31 @@ fn planar_graphs() {
         }
         tally.report(&format!("planar, {family:?}"), &[0]);
     }
+}
+
+/// Joints on straight edges, in graphs of every sort.
+#[test]
+fn graphs_with_joints() {
+    let mut tally = Tally::default();
+    for seed in 0..12_000 {
+        let mut rng = Rng::new(seed ^ 12 << 40);
+        let mut plain = match rng.below(4) {
+            0 => wild::sample(9, &mut rng),
+            _ => sample(FAMILIES[seed as usize % FAMILIES.len()], 4, &mut rng),
+        };
+        if rng.chance(20) {
+            planar::upset_tops(&mut plain, &mut rng);
+        }
+        let sample = joints::split(&plain, &mut rng);
+        let (settings, mut lent) = (settings(&sample, &mut rng), sample.soiled_buffers(&mut rng));
+        let mut graph = sample.graph;
+        if rng.chance(20) {
+            damage::graph(1 + rng.below(7) as u32, &mut graph, &mut lent, &mut rng);
+        }
+        compare_extraction(&graph, &lent, Settings { drop_straight: true, ..settings }, &mut tally);
+    }
+    // 11: without straight points a hole's anchor may stand elsewhere
+    tally.report("joints", &[0, 3, 7, 8, 9, 11, 12]);
 }
 
 #[test]
@@ -144,7 +172,8 @@ fn damaged_graphs() {
         let mut rng = Rng::new(seed ^ 4 << 40);
         let Sample { mut graph, state } = sample(FAMILIES[seed as usize % FAMILIES.len()], 3, &mut rng);
         let mut lent = Sample { graph: graph.clone(), state }.soiled_buffers(&mut rng);
-        let settings = Settings { clockwise: rng.chance(50), minimum: rng.choose(&[0, 1, 5]) };
+        let settings =
+            Settings { clockwise: rng.chance(50), minimum: rng.choose(&[0, 1, 5]), drop_straight: rng.chance(30) };
         // Now and then two faults, so that the order of the checks tells.
         if rng.chance(30) {
             damage::graph(rng.choose(&[4, 6]), &mut graph, &mut lent, &mut rng);

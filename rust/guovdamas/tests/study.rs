@@ -88,7 +88,7 @@ fn generated_graphs_are_written_as_the_reading_does() {
     for seed in 0..300 {
         let mut rng = Rng::new(seed ^ 8 << 40);
         let sample = sample(FAMILIES[seed as usize % FAMILIES.len()], 4, &mut rng);
-        let settings = Settings { clockwise: rng.chance(50), minimum: rng.next() };
+        let settings = Settings { clockwise: rng.chance(50), minimum: rng.next(), drop_straight: false };
         compare(&encode(&file::Study { settings, graph: sample.graph, state: sample.state }));
     }
 }

@@ -62,7 +62,7 @@ pub struct Request<'a> {
 impl<'a> Request<'a> {
     /// Of a command line's words; none if they cannot be understood.
     pub fn of(words: &[&'a str]) -> Option<Self> {
-        let mut settings = Settings { clockwise: false, minimum: 0 };
+        let mut settings = Settings { clockwise: false, minimum: 0, drop_straight: false };
         let mut names = Vec::new();
         let mut words = words.iter();
         while let Some(&word) = words.next() {

@@ -3,7 +3,7 @@
 
 use differential::compare::{Expected, Shapes, expected};
 use differential::sides::by;
-use differential::tally;
+use differential::tally::{self, ALL};
 use generators::Sample;
 use generators::polygons::{self, FAMILIES, Family, Polygons};
 use generators::rng::Rng;
@@ -78,8 +78,6 @@ fn at_hand() -> bool {
     }
     patched::AT_HAND
 }
-
-const ALL: Settings = Settings { clockwise: false, minimum: 0 };
 
 /// How often the rules take all their turns.
 const ROUNDS: usize = 6;

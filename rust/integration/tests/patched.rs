@@ -6,7 +6,7 @@ use differential::sides::by;
 use differential::{stored, tally};
 use generators::planar::{self, FAMILIES};
 use generators::rng::Rng;
-use generators::{Sample, wild};
+use generators::{Sample, joints, wild};
 use patched::Run;
 use reading::file::{Study, parse};
 use reading::geometry::Point;
@@ -110,12 +110,36 @@ fn graphs_outside_the_domain() {
         let mut upset = planar::sample(FAMILIES[seed as usize % FAMILIES.len()], 4, &mut rng);
         planar::upset_tops(&mut upset, &mut rng);
         for sample in [upset, wild::sample(8, &mut rng)] {
-            let settings = Settings { clockwise: rng.chance(50), minimum: rng.choose(&[0, 1]) };
+            let settings = Settings { clockwise: rng.chance(50), minimum: rng.choose(&[0, 1]), ..tally::ALL };
             refused += compare_run(&sample, settings, rng.below(Run::RULES), false).is_none() as usize;
         }
     }
     println!("4000 runs, {refused} refused");
     assert!(refused > 100);
+}
+
+/// Flat contours without the points on a straight line: by the library's rule. The shapes' points the crate removes itself.
+#[test]
+fn flat_contours_without_straight_points() {
+    if !at_hand() {
+        return;
+    }
+    let mut gone = 0;
+    for seed in 0..1000 {
+        let mut rng = Rng::new(seed ^ 57 << 40);
+        let sample = planar::sample(FAMILIES[seed as usize % FAMILIES.len()], 4, &mut rng);
+        let sample = joints::split(&sample, &mut rng);
+        let settings = Settings { clockwise: rng.chance(50), minimum: rng.choose(&[0, 1, 100]), drop_straight: true };
+        let mut run = Run::new(&sample.graph, &sample.state, settings, rng.below(Run::RULES));
+        run.extract_contours();
+        let due = by(READING, &sample, settings).expect("planar graphs are walked");
+        assert_eq!((run.contours(), run.states()), (due.contours, due.states));
+        let left = run.contours().concat().len();
+        run.set(Settings { drop_straight: false, ..settings });
+        run.extract_contours();
+        gone += run.contours().concat().len() - left;
+    }
+    assert!(gone > 10_000, "only {gone} points went");
 }
 
 /// The patched text's answer in the program's words.
@@ -187,9 +211,8 @@ fn the_limits() {
     if !at_hand() {
         return;
     }
-    let settings = Settings { clockwise: false, minimum: 0 };
     let most = MAX_LINKS / 3;
-    let found = |count, x| ask_patched(&triangles(count, x), settings, 0).map(|answer| answer.shapes.unwrap().len());
+    let found = |count, x| ask_patched(&triangles(count, x), tally::ALL, 0).map(|answer| answer.shapes.unwrap().len());
     assert_eq!(found(most, MAX_COORDINATE), Ok(most));
     assert_eq!(found(most + 1, MAX_COORDINATE), Err(Refusal { number: 1, place: 0 }));
     assert_eq!(found(2, MAX_COORDINATE + 1), Err(Refusal { number: 3, place: 4 }));

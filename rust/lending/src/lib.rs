@@ -38,11 +38,12 @@ pub fn table(table: &Table) -> lent::Table<'_> {
     lent::Table { points: &table.points, first: &table.first, len: &table.len, kind: &table.kind }
 }
 
-/// Output direction and minimum area.
+/// Output direction, minimum area, and whether points on a straight line are kept.
 pub fn options(settings: Settings) -> Options {
     Options {
         output_direction: ContourDirection::from_clockwise(settings.clockwise),
         min_output_area: settings.minimum,
+        preserve_output_collinear: !settings.drop_straight,
     }
 }
 
@@ -54,9 +55,9 @@ fn refusal(refusal: guovdamas::Refusal) -> Refusal {
 pub const LIBRARY: Side = Side { extract, bind, lookup };
 
 fn extract(graph: &Graph, settings: Settings, lent: &mut Buffers) -> Result<Counts, Refusal> {
-    let lent::Counts { contours, points, rejected, walked, kept_area, rejected_area } =
+    let lent::Counts { contours, points, rejected, walked, left_out, kept_area, rejected_area } =
         lent::extract(lists(graph), options(settings), buffers(lent)).map_err(refusal)?;
-    Ok(Counts { contours, points, rejected, walked, kept_area, rejected_area })
+    Ok(Counts { contours, points, rejected, walked, left_out, kept_area, rejected_area })
 }
 
 fn bind(lent: &Table, clockwise: bool, owner: &mut [u16]) -> Result<Bound, Refusal> {

@@ -7,8 +7,12 @@ use crate::graph::{Buffers, Graph};
 use crate::walk::{Counts, Scan, extract, walks};
 use crate::{Refusal, Settings};
 
-const COUNTERCLOCKWISE: Settings = Settings { clockwise: false, minimum: 0 };
-const CLOCKWISE: Settings = Settings { clockwise: true, minimum: 0 };
+const COUNTERCLOCKWISE: Settings = Settings { clockwise: false, minimum: 0, drop_straight: false };
+const CLOCKWISE: Settings = Settings { clockwise: true, ..COUNTERCLOCKWISE };
+
+fn at_least(minimum: u64) -> Settings {
+    Settings { minimum, ..COUNTERCLOCKWISE }
+}
 
 fn square() -> Graph {
     let square = Graph::of_links(&[([0, 0], [4, 0], 1), ([0, 0], [0, 4], 0), ([0, 4], [4, 4], 0), ([4, 0], [4, 4], 1)]);
@@ -60,14 +64,14 @@ fn e3_square_clockwise() {
 
 #[test]
 fn e4_minimum_16_keeps() {
-    let (outcome, lent) = run(&square(), vec![0; 4], Settings { clockwise: false, minimum: 16 });
+    let (outcome, lent) = run(&square(), vec![0; 4], at_least(16));
     assert_eq!(outcome.unwrap().contours, 1);
     assert_eq!(lent.points, [0, 4, 0, 0, 4, 0, 4, 4]);
 }
 
 #[test]
 fn e5_minimum_17_rejects() {
-    let (outcome, lent) = run(&square(), vec![0; 4], Settings { clockwise: false, minimum: 17 });
+    let (outcome, lent) = run(&square(), vec![0; 4], at_least(17));
     assert_eq!(outcome, Ok(Counts { rejected: 1, walked: 4, rejected_area: 32, ..Counts::default() }));
     assert_eq!((lent.points, lent.len, lent.state), (vec![0; 8], vec![0], vec![3; 4]));
 }
@@ -77,7 +81,7 @@ fn e6_triangle_of_doubled_area_1() {
     let triangle = Graph::of_links(&[([0, 0], [0, 1], 0), ([0, 0], [1, 0], 1), ([0, 1], [1, 0], 0)]);
     let kept = run(&triangle, vec![0; 3], COUNTERCLOCKWISE).0.unwrap();
     assert_eq!((kept.contours, kept.kept_area), (1, 1));
-    let rejected = run(&triangle, vec![0; 3], Settings { clockwise: false, minimum: 1 }).0.unwrap();
+    let rejected = run(&triangle, vec![0; 3], at_least(1)).0.unwrap();
     assert_eq!((rejected.contours, rejected.rejected, rejected.rejected_area), (0, 1, 1));
 }
 
@@ -103,9 +107,10 @@ fn e8_the_scan_stays_at_its_link() {
         ([2, 1], [2, 2], 1),
         ([10, -20], [10, -10], 1),
     ]);
-    let settings = Settings { clockwise: false, minimum: 2 };
+    let settings = at_least(2);
     let (outcome, lent) = run(&fan, vec![0; 9], settings);
-    let counts = Counts { contours: 1, points: 3, rejected: 2, walked: 9, kept_area: 100, rejected_area: 4 };
+    let counts =
+        Counts { contours: 1, points: 3, rejected: 2, walked: 9, left_out: 0, kept_area: 100, rejected_area: 4 };
     assert_eq!(outcome, Ok(counts));
     assert_eq!(lent.points[..6], [10, -10, 0, 0, 10, -20]);
     assert_eq!(lent.kind[0], 0);

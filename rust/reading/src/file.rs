@@ -14,7 +14,7 @@ const HEAD: usize = 6;
 const SETTINGS_BODY: usize = 9;
 const LINK_BODY: usize = 22;
 
-/// What a file of right form holds.
+/// What a file of right form holds; it has no word for points on a straight line, and they are kept.
 #[derive(Clone, Debug, PartialEq, Eq)]
 pub struct Study {
     pub settings: Settings,
@@ -70,10 +70,10 @@ pub fn parse(input: &[u8]) -> Result<Study, Refusal> {
     Ok(Study { settings: settings.expect("read first"), graph, state })
 }
 
-/// "direction byte (0 counterclockwise, 1 clockwise), eight-byte minimum".
+/// "direction byte (0 counterclockwise, 1 clockwise), eight-byte minimum". The program writes every point.
 fn read_settings(body: &[u8]) -> Option<Settings> {
     let minimum = u64::from_le_bytes(body[1..].try_into().expect("eight bytes"));
-    (body[0] <= 1).then_some(Settings { clockwise: body[0] == 1, minimum })
+    (body[0] <= 1).then_some(Settings { clockwise: body[0] == 1, minimum, drop_straight: false })
 }
 
 /// "ax, ay, bx, by as signed 32-bit, two 16-bit ids, top, state".
@@ -91,7 +91,8 @@ fn read_node(body: &[u8], graph: &mut Graph) {
     graph.push_node(&body.chunks_exact(2).map(entry).collect::<Vec<u32>>());
 }
 
-/// Writes a study as the program's file; ids and link numbers are cut to 16 bits.
+/// Writes a study as the program's file; ids and link numbers are cut to 16 bits, and that straight points are dropped is not
+/// said.
 pub fn encode(study: &Study) -> Vec<u8> {
     let mut bytes = Vec::new();
     let mut record = |kind: u16, body: &[u8]| {

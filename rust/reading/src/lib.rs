@@ -2,14 +2,16 @@
 //!
 //! It is written from the document's words and from nothing else, to be read beside it and to be compared with the proved
 //! library: no cleverness, exact numbers in `i128`, one function for each rule. [`graph`] holds the lent graph and checks
-//! 1 to 7, [`walk`] the walking rules 1 to 7, [`bind`] checks 10 to 12 with binding and lookup, [`fill`] the
-//! third demand's condition and total, [`file`](mod@file) the program's file and its printed answer.
+//! 1 to 7, [`walk`] the walking rules 1 to 7, [`straight`] the points on a line that document 02's request a drops, [`bind`]
+//! checks 10 to 12 with binding and lookup, [`fill`] the third demand's condition and total, [`file`](mod@file) the program's
+//! file and its printed answer.
 
 pub mod bind;
 pub mod file;
 pub mod fill;
 pub mod geometry;
 pub mod graph;
+pub mod straight;
 pub mod walk;
 
 #[cfg(test)]
@@ -31,11 +33,12 @@ pub struct Refusal {
     pub place: u32,
 }
 
-/// Output direction and minimum area.
+/// Output direction, minimum area, and whether points on a straight line are left out of what is written.
 #[derive(Clone, Copy, Debug, PartialEq, Eq)]
 pub struct Settings {
     pub clockwise: bool,
     pub minimum: u64,
+    pub drop_straight: bool,
 }
 
 /// Who answers: this reading, or what is compared with it.

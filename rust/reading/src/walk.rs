@@ -3,23 +3,26 @@
 use crate::bind::Table;
 use crate::geometry::{Point, doubled_area, strictly_clockwise};
 use crate::graph::{Buffers, Graph, check};
+use crate::straight::written;
 use crate::{Refusal, Settings};
 
 const UNVISITED: u8 = 0;
 
-/// What extraction returns; areas are signed doubled totals.
+/// What extraction returns; areas are signed doubled totals. Contours and points are those that are written.
 #[derive(Clone, Copy, Debug, Default, PartialEq, Eq)]
 pub struct Counts {
     pub contours: u32,
     pub points: u32,
     pub rejected: u32,
     pub walked: u32,
+    /// Kept walks of which fewer than 3 points remain, "counted apart from rejected walks".
+    pub left_out: u32,
     pub kept_area: i64,
     pub rejected_area: i64,
 }
 
 impl Counts {
-    /// The kept contours in buffers that extraction has written, without the room past them.
+    /// The contours in buffers that extraction has written, without the room past them.
     pub fn table(&self, lent: &Buffers) -> Table {
         let contours = self.contours as usize;
         Table {
@@ -86,8 +89,11 @@ pub fn extract(graph: &Graph, settings: Settings, lent: &mut Buffers) -> Result<
         walk.links.iter().for_each(|&link| lent.state[link] = walk.state());
         let area = i64::try_from(walk.doubled_area()).expect("areas fit 64 bits");
         if walk.kept {
-            write_contour(&walk, &mut counts, lent);
             counts.kept_area += area;
+            match written(&walk.points, settings.drop_straight) {
+                Some(points) => write_contour(&points, walk.hole, &mut counts, lent),
+                None => counts.left_out += 1,
+            }
         } else {
             counts.rejected += 1;
             counts.rejected_area += area;
@@ -96,19 +102,19 @@ pub fn extract(graph: &Graph, settings: Settings, lent: &mut Buffers) -> Result<
     Ok(counts)
 }
 
-/// Appends a kept walk to the points and the table.
-fn write_contour(walk: &Walk, counts: &mut Counts, lent: &mut Buffers) {
+/// Appends a contour to the points and the table.
+fn write_contour(points: &[Point], hole: bool, counts: &mut Counts, lent: &mut Buffers) {
     let contour = counts.contours as usize;
     let first = counts.points as usize;
-    for (position, point) in walk.points.iter().enumerate() {
+    for (position, point) in points.iter().enumerate() {
         lent.points[2 * (first + position)] = point.x;
         lent.points[2 * (first + position) + 1] = point.y;
     }
     lent.first[contour] = counts.points;
-    lent.len[contour] = walk.points.len() as u32;
-    lent.kind[contour] = walk.hole as u8;
+    lent.len[contour] = points.len() as u32;
+    lent.kind[contour] = hole as u8;
     counts.contours += 1;
-    counts.points += walk.points.len() as u32;
+    counts.points += points.len() as u32;
 }
 
 /// What the scan does after a rejected walk that left its link unvisited.

@@ -57,9 +57,17 @@ pub struct Found {
     pub dropped: Vec<Patch>,
     /// Walks below the minimum.
     pub rejected: Vec<Patch>,
+    /// Shapes and dropped holes are without their straight points.
+    pub straight_dropped: bool,
 }
 
 impl Found {
+    /// What is written: hulls, holes and dropped holes.
+    pub fn contours(&self) -> impl Iterator<Item = &Patch> {
+        let shapes = self.shapes.iter().flat_map(|Shape { hull, holes }| [hull].into_iter().chain(holes));
+        shapes.chain(&self.dropped)
+    }
+
     /// All shapes, each less its holes.
     pub fn doubled_net(&self) -> i128 {
         self.shapes.iter().map(Shape::doubled_net).sum()
@@ -131,14 +139,17 @@ fn found(study: &Study, shapes: &Shapes) -> Result<Found, String> {
             .collect(),
         dropped: shapes.dropped_holes().map(patch).collect(),
         rejected: rejected(study, shapes.contours().counts())?,
+        straight_dropped: !study.options.preserve_output_collinear,
     })
 }
 
 /// The library counts rejected walks and does not hand them out. A rejected walk changes no other (rule 7), so with
-/// minimum 0 the same walks come, all of them kept: those below the minimum are the rejected ones.
+/// minimum 0 the same walks come, all of them kept: those below the minimum are the rejected ones. All their points are
+/// shown, since none is dropped from what is not written.
 fn rejected(study: &Study, counts: Counts) -> Result<Vec<Patch>, String> {
     let mut all = study.clone();
     all.options.min_output_area = 0;
+    all.options.preserve_output_collinear = true;
     let all: Contours = all.extract_contours().map_err(|refusal| format!("with minimum 0: {refusal}"))?;
     let minimum = study.options.min_output_area;
     let below: Vec<Contour<'_>> =

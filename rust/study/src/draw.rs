@@ -17,6 +17,8 @@ const REJECTED_HOLE: Colours = Colours { fill: [255, 238, 217], ..REJECTED };
 const DROPPED: Colours = Colours { fill: [236, 236, 236], line: [90, 90, 90] };
 /// So many shapes, rejected patches and dropped holes, of each, have a line in the legend; the others share one.
 const LISTED: usize = 40;
+/// The radius of a contour's point, where the points are drawn.
+const DOT: f64 = 3.0;
 /// The legend tells each hole's area if a shape has no more than these.
 const TOLD: usize = 2;
 
@@ -50,10 +52,18 @@ pub fn found(title: &str, links: &[Link], found: &Found) -> String {
     for patch in &found.rejected {
         svg.path([&sheet.ring(&patch.points)[..]], true, &rejected_colours(patch).style());
     }
+    draw_points(&mut svg, &sheet, found);
     let skipped = skipped_edges(&sheet, links);
     draw_skipped(&mut svg, &skipped);
     draw_labels(&mut svg, &sheet, found, skipped);
     sheet.finish(svg)
+}
+
+/// The points that are left of the contours, where straight ones are dropped.
+fn draw_points(svg: &mut Svg, sheet: &Sheet, found: &Found) {
+    for &point in found.contours().filter(|_| found.straight_dropped).flat_map(|contour| &contour.points) {
+        svg.circle(sheet.at(point), DOT, &format!("fill=\"{INK}\""));
+    }
 }
 
 fn sum(number: usize, word: &str, doubled: i128) -> String {
@@ -110,6 +120,10 @@ fn entries(links: &[Link], found: &Found) -> Vec<Entry> {
     }
     if !found.dropped.is_empty() {
         totals.push(format!("dropped in all: {} mm²", square_mm(found.doubled_dropped())));
+    }
+    if found.straight_dropped {
+        let points = found.contours().map(|contour| contour.points.len()).sum();
+        totals.push(format!("{} left, straight ones dropped", count(points, "point")));
     }
     entries.extend(totals.into_iter().map(|words| Entry { key: Key::Nothing, words }));
     entries

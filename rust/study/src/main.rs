@@ -12,6 +12,8 @@ study: shows, draws, dumps and makes studies, the files that the program reads (
 
   study show FILE [--json]     what is in it and what is answered: shapes, rejected patches, dropped holes, or a refusal
   study draw FILE OUT.svg      a picture of it; a study that is refused is drawn too, with the place in red
+    --drop-straight            with either: contours without the points on one line with their two neighbours; the
+                               picture has a dot for each that is left
   study dump FILE              its text form, on standard output
   study make TEXT OUT.graph    the study of a text
   study --help                 this
@@ -20,6 +22,7 @@ The status is 0 if that was done, also for a study that is refused, and 1 if not
 Coordinates are units of 0.01 mm, and y points upward. Areas are in mm², a shape's less its holes.
 
 JSON is one object: links, skipped, nodes, crosses, direction, minimum, frame_mm (left, bottom, right, top), and
+  straight_points              kept or dropped
   uneven_node                  null, or the lowest node round which filled and empty do not come by turns
   refused                      null, or number, place, of (link, node, contour, graph or file), points, reason, walk
   shapes                       each with shape (its number), net_mm2, hull, holes
@@ -28,16 +31,19 @@ JSON is one object: links, skipped, nodes, crosses, direction, minimum, frame_mm
 
 ";
 
+const FLAGS: [&str; 2] = ["--json", "--drop-straight"];
+
 fn main() -> ExitCode {
     let arguments: Vec<String> = std::env::args().skip(1).collect();
-    let words: Vec<&str> = arguments.iter().map(String::as_str).collect();
+    let (flags, words): (Vec<&str>, Vec<&str>) =
+        arguments.iter().map(String::as_str).partition(|word| FLAGS.contains(word));
+    let [json, drop_straight] = FLAGS.map(|flag| flags.contains(&flag));
     let done = match words[..] {
-        ["--help" | "-h" | "help"] => say(&format!("{HELP}{}", text::FORM)),
-        ["show", file] => read(file).and_then(|bytes| say(&show::words(&bytes)?)),
-        ["show", file, "--json"] | ["show", "--json", file] => read(file).and_then(|bytes| say(&show::json(&bytes)?)),
-        ["draw", file, out] => picture(file).and_then(|svg| write(out, svg.as_bytes())),
-        ["dump", file] => parse(file).and_then(|study| say(&text::dump(&study))),
-        ["make", text, out] => make(text).and_then(|bytes| write(out, &bytes)),
+        ["show", file] => show(file, json, drop_straight),
+        ["draw", file, out] if !json => picture(file, drop_straight).and_then(|svg| write(out, svg.as_bytes())),
+        ["--help" | "-h" | "help"] if flags.is_empty() => say(&format!("{HELP}{}", text::FORM)),
+        ["dump", file] if flags.is_empty() => parse(file).and_then(|study| say(&text::dump(&study))),
+        ["make", text, out] if flags.is_empty() => make(text).and_then(|bytes| write(out, &bytes)),
         _ => Err("these words are not understood; `study --help` says which are".into()),
     };
     match done {
@@ -65,9 +71,20 @@ fn parse(file: &str) -> Result<Study, String> {
     Study::parse(&read(file)?).map_err(|error| format!("{file}: {error}"))
 }
 
-fn picture(file: &str) -> Result<String, String> {
+/// The study with straight points kept in its contours, or dropped.
+fn asked(mut study: Study, drop_straight: bool) -> Study {
+    study.options.preserve_output_collinear = !drop_straight;
+    study
+}
+
+fn show(file: &str, json: bool, drop_straight: bool) -> Result<(), String> {
+    let study = Study::parse(&read(file)?).map(|study| asked(study, drop_straight));
+    say(&if json { show::json(&study)? } else { show::words(&study)? })
+}
+
+fn picture(file: &str, drop_straight: bool) -> Result<String, String> {
     let title = Path::new(file).file_stem().unwrap_or_default().to_string_lossy();
-    draw::study(&title, &parse(file)?)
+    draw::study(&title, &asked(parse(file)?, drop_straight))
 }
 
 fn make(file: &str) -> Result<Vec<u8>, String> {

@@ -10,29 +10,33 @@ use guovdamas::study::{Study, StudyError};
 /// So many nodes that a refusal speaks of are told.
 pub const NODES: usize = 6;
 
-/// The words for a file.
-pub fn words(file: &[u8]) -> Result<String, String> {
-    match Study::parse(file) {
-        Ok(study) => Ok(content(&study) + &answered(&study, &answer(&study)?)?),
+/// The words for a study, or for a file that is none.
+pub fn words(read: &Result<Study, StudyError>) -> Result<String, String> {
+    match read {
+        Ok(study) => Ok(content(study) + &answered(study, &answer(study)?)?),
         Err(error) => Ok(format!("{error}\n")),
     }
 }
 
-/// One line of JSON for a file.
-pub fn json(file: &[u8]) -> Result<String, String> {
-    let json = match Study::parse(file) {
+/// One line of JSON for a study, or for a file that is none.
+pub fn json(read: &Result<Study, StudyError>) -> Result<String, String> {
+    let json = match read {
         Ok(study) => {
-            let mut members = content_json(&study);
-            members.extend(answer_json(&study, &answer(&study)?)?);
+            let mut members = content_json(study);
+            members.extend(answer_json(study, &answer(study)?)?);
             Json::Object(members)
         }
-        Err(error) => Json::Object(vec![("refused", form_json(&error))]),
+        Err(error) => Json::Object(vec![("refused", form_json(error))]),
     };
     Ok(format!("{json}\n"))
 }
 
 pub fn direction(study: &Study) -> &'static str {
     if study.options.output_direction.is_clockwise() { "clockwise" } else { "counterclockwise" }
+}
+
+fn straight(study: &Study) -> &'static str {
+    if study.options.preserve_output_collinear { "kept" } else { "dropped" }
 }
 
 fn crosses(study: &Study) -> usize {
@@ -60,6 +64,7 @@ fn content(study: &Study) -> String {
         format!("nodes      {}, {}", nodes(study).len(), count(crosses(study), "cross")),
         format!("direction  {}", direction(study)),
         format!("minimum    {minimum} units² ({} mm²)", square_mm(i128::from(minimum) * 2)),
+        format!("straight   points {}", straight(study)),
         format!("frame      {frame}"),
         format!("sides      {}", sides(study)),
     ];
@@ -173,6 +178,7 @@ fn content_json(study: &Study) -> Vec<(&'static str, Json)> {
         ("crosses", Json::number(crosses(study))),
         ("direction", Json::Text(direction(study).into())),
         ("minimum", Json::number(study.options.min_output_area)),
+        ("straight_points", Json::Text(straight(study).into())),
         ("frame_mm", frame),
         ("uneven_node", study.graph.sides_alternate().map_or_else(|uneven| Json::number(uneven.node), |()| Json::Null)),
     ]

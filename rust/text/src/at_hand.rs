@@ -73,7 +73,7 @@ impl Run {
         }
     }
 
-    /// Sets the direction and the minimum.
+    /// Sets the direction, the minimum, and whether points on a straight line are kept.
     pub fn set(&mut self, settings: Settings) {
         set(&mut self.options, settings);
     }
@@ -148,11 +148,13 @@ impl Run {
     }
 }
 
-/// Sets the direction and the minimum of the text's options.
+/// Sets the text's options. Points on a straight line may be dropped by the patched text's flat contours alone: elsewhere the
+/// crate removes them by code that is not in the text.
 pub(crate) fn set(options: &mut IntOverlayOptions<u64>, settings: Settings) {
     options.output_direction =
         if settings.clockwise { ContourDirection::Clockwise } else { ContourDirection::CounterClockwise };
     options.min_output_area = settings.minimum;
+    options.preserve_output_collinear = !settings.drop_straight;
 }
 
 /// The links of a node.

@@ -19,6 +19,11 @@ fn case(name: &str) -> Vec<u8> {
     bytes(&format!("cases/{name}.graph"))
 }
 
+/// What is shown of a file.
+fn words(file: &[u8]) -> String {
+    show::words(&Study::parse(file)).expect("it is shown")
+}
+
 /// What the program answers to a case.
 fn out(name: &str) -> String {
     String::from_utf8(bytes(&format!("cases/{name}.out"))).expect("an answer is text")
@@ -32,7 +37,7 @@ fn studies() -> Vec<(String, Study)> {
 #[test]
 fn shown_as_the_program_answers() {
     for name in cases() {
-        let (words, due) = (show::words(&case(&name)).expect("it is shown"), out(&name));
+        let (words, due) = (words(&case(&name)), out(&name));
         let first = due.lines().next().expect("an answer has a line");
         if first.starts_with("refused") {
             assert!(words.lines().any(|line| line.starts_with(&format!("{first}: "))), "{name}: {words}");
@@ -50,7 +55,7 @@ fn shown_as_the_program_answers() {
 #[test]
 fn json_is_well_formed() {
     for name in cases() {
-        let json = show::json(&case(&name)).expect("it is shown");
+        let json = show::json(&Study::parse(&case(&name))).expect("it is shown");
         let mut rest = json.as_str();
         skip_value(&mut rest);
         assert_eq!(rest, "\n", "{name}: {json}");
@@ -137,15 +142,39 @@ fn generated_studies() {
             0 => wild::sample(9, &mut rng),
             _ => planar::sample(FAMILIES[seed as usize % FAMILIES.len()], rng.choose(&[2, 4, 7]), &mut rng),
         };
-        let settings = Settings { clockwise: rng.chance(50), minimum: rng.choose(&[0, 1, 20, 2000]) };
+        let settings =
+            Settings { clockwise: rng.chance(50), minimum: rng.choose(&[0, 1, 20, 2000]), drop_straight: false };
         let bytes = encode(&file::Study { settings, graph: sample.graph, state: sample.state });
-        let study = Study::parse(&bytes).expect("it is right");
+        let mut study = Study::parse(&bytes).expect("it is right");
+        study.options.preserve_output_collinear = seed % 2 == 0;
         assert_eq!(text::make(&text::dump(&study)).expect("it is right").encode().as_ref(), Ok(&bytes));
         let svg = draw::study("generated", &study).unwrap_or_else(|error| panic!("{seed}: {error}"));
         texts(&svg);
-        refused += usize::from(show::words(&bytes).expect("it is shown").contains("\nrefused "));
+        refused += usize::from(words(&bytes).contains("\nrefused "));
     }
     assert!((10..230).contains(&refused), "{refused} are refused");
+}
+
+/// The square of seven links: three of its points are straight. With all of them no point is drawn, without them the others.
+#[test]
+fn straight_points_are_dropped_if_asked_for() {
+    let kept = Study::parse(&case("straight")).expect("it is right");
+    let mut dropped = kept.clone();
+    dropped.options.preserve_output_collinear = false;
+    let drawn = |study: &Study| {
+        let svg = draw::study("straight", study).expect("it is drawn");
+        let square =
+            tags(&svg).iter().find_map(|tag| tag.attribute("d").map(|path| path.split(['M', 'L']).count() - 1));
+        let dots = tags(&svg).iter().filter(|tag| tag.name == "circle").count();
+        (square, dots, texts(&svg).iter().any(|(words, _)| words == "4 points left, straight ones dropped"))
+    };
+    assert_eq!((drawn(&kept), drawn(&dropped)), ((Some(7), 0, false), (Some(4), 4, true)));
+    let [with, without] = [kept, dropped].map(|study| show::words(&Ok(study)).expect("it is shown"));
+    assert!(with.contains("straight   points kept\n") && with.contains(", 7 points from (0, 2)\n"), "{with}");
+    assert!(
+        without.contains("straight   points dropped\n") && without.contains(", 4 points from (0, 0)\n"),
+        "{without}"
+    );
 }
 
 /// 1,365 triangles in 35 rows: more than can be labelled or listed.
@@ -166,7 +195,7 @@ fn triangle(x: i32, y: i32) -> [[i32; 5]; 3] {
 
 #[test]
 fn the_incident_shows_both_rejected_patches() {
-    let words = show::words(&case("e8")).expect("it is shown");
+    let words = words(&case("e8"));
     assert!(
         words.contains("rejected   2 patches of 0.0002 mm²\n    0 hull, rejected: 0.0001 mm², 3 points from (2, 2)\n"),
         "{words}"
@@ -186,7 +215,7 @@ fn the_incident_shows_both_rejected_patches() {
 
 #[test]
 fn a_refused_walk_is_drawn_as_far_as_it_came() {
-    let words = show::words(&case("e7")).expect("it is shown");
+    let words = words(&case("e7"));
     assert!(words.ends_with("\n  the walk of a hull, links 1: (0, 4) (0, 0), and no farther\n"), "{words}");
     for (name, points) in [("e7", 2), ("9", 5)] {
         let svg = draw::study(name, &Study::parse(&case(name)).expect("it is right")).expect("it is drawn");

@@ -39,6 +39,10 @@ fn commands() {
         std::fs::read(ours("e8.svg")).expect("it is there"),
         std::fs::read(path("rust-data/e8.svg")).expect("it is there")
     );
+    assert!(done(&["show", "--drop-straight", &e8, "--json"]).contains("\"straight_points\": \"dropped\", "));
+    assert_eq!(done(&["draw", &e8, &ours("e8.svg"), "--drop-straight"]), "");
+    let picture = std::fs::read_to_string(ours("e8.svg")).expect("it is there");
+    assert!(picture.contains(">3 points left, straight ones dropped<"), "{picture}");
     std::fs::remove_dir_all(&folder).expect("it is ours");
 }
 
@@ -49,6 +53,7 @@ fn faults() {
     fails(&[], "--help");
     fails(&["paint"], "--help");
     fails(&["show"], "--help");
+    fails(&["dump", &malformed, "--drop-straight"], "--help");
     fails(&["show", "no-such.graph"], "no-such.graph: ");
     fails(&["draw", &malformed, "never.svg"], "refused 13 at 71: ");
     fails(&["dump", &malformed], "refused 13 at 71: ");
