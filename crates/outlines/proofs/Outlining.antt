@@ -94,8 +94,13 @@ module _ (ax ay bx by : List ℤ) (g : Graph) (cw : Bool) (minimum : ℕ) (b : B
       some = subst Positive (sym sizes-are) (positive ks (kept-threes g minimum ws));
       few = omega (arith, ap sum sizes-are, few-links, room .few);
       within =
-          omega (arith, ap sum sizes-are, points-room, padded-length (pos 0) (coordinates (allPoints g ks)) (length (b .points))
-          (omega (arith, coordinates-length (allPoints g ks), all-points-length g ks, points-room)));
+          omega (
+            arith,
+            ap sum sizes-are,
+            points-room,
+            padded-length (pos 0) (coordinates (allPoints g ks)) (length (b .points))
+                (omega (arith, coordinates-length (allPoints g ks), all-points-length g ks, points-room)),
+          );
       grid = λ k _ h. grid k (omega (arith, h, ap sum sizes-are));
     }
 

@@ -8,7 +8,7 @@ use mathlib.Core.Bool.{Bool, true, false, not, _&&_}
 use mathlib.Core.List.{List, [], _∷_, map, List·Memᴰ, List·Memᴰ·head, List·Memᴰ·tail, List·Memᴰ·cases-cons, List·Memᴰ·not-nil}
 use lib.ListN.{length, set, length-map}
 use lib.IntN.{ℤ, negℤ}
-use Rattle.laws.specs.Test.{Is, yes!}
+use Rattle.laws.specs.Test.{Is, yes! }
 use Rattle.laws.specs.Ring.{ring, var, _:+_, _:-_, _:*_, neg}
 use Rattle.laws.specs.Sign.{Sgn, mns, zer, pls, sgn, flip, eqS, sgn-neg}
 use Rattle.turn.specs.declared.Point.{Point}
@@ -138,9 +138,10 @@ module _ (g : Graph) (st : List ℕ) (ok : Sound g st) where
       (joint prev s op (ol s (List·Memᴰ·head refl)) (a .0) (n .0) (left g home) (goes-to s home (ol s (List·Memᴰ·head refl)) oh (e ∙ sym (n .1))), tt)
   steps-smooth prev (s ∷ (t ∷ l)) home u op ol oh a n e =
       let os = ol s (List·Memᴰ·head refl) in
-      let ot = ol t (List·Memᴰ·tail (List·Memᴰ·head refl)) in
-      (joint prev s op os (a .0) (n .0) (left g t) (goes-to s t os ot (n .1 .0)),
-        steps-smooth s (t ∷ l) home u os (λ p i. ol p (List·Memᴰ·tail i)) oh (a .1) (n .1) e)
+      let ot = ol t (List·Memᴰ·tail (List·Memᴰ·head refl)) in (
+        joint prev s op os (a .0) (n .0) (left g t) (goes-to s t os ot (n .1 .0)),
+        steps-smooth s (t ∷ l) home u os (λ p i. ol p (List·Memᴰ·tail i)) oh (a .1) (n .1) e,
+      )
 
   walk-smooth : (m : ℕ) (now : List ℕ) (l : List Step) → Mark m → Fresh m now l → ((k : ℕ) → Unvisited now k → Unvisited st k)
       → (v : ℕ) → Line g v l v → 3 ≤ length l → Spikeless (map (left g) l)
@@ -164,11 +165,14 @@ module _ (g : Graph) (st : List ℕ) (ok : Sound g st) where
   all-smooth now [] f sub c = tt
   all-smooth now (w ∷ ws) f sub c =
       let m : ℕ = markOf (w .hole) in
-      let r = c w (List·Memᴰ·head refl) in
-      ((walk-smooth m now (w .steps) (mark-of (w .hole)) (f .0) sub (r .0 .0) (r .0 .1) (r .1),
-          subst (λ k. 3 ≤ k) (sym (length-map (w .steps) (left g))) (r .1)),
+      let r = c w (List·Memᴰ·head refl) in (
+        (
+          walk-smooth m now (w .steps) (mark-of (w .hole)) (f .0) sub (r .0 .0) (r .0 .1) (r .1),
+          subst (λ k. 3 ≤ k) (sym (length-map (w .steps) (left g))) (r .1),
+        ),
         all-smooth (marked m (w .steps) now) ws (f .1)
-            (λ j o. sub j (unvisited-before g st ok m now (w .steps) (mark-of (w .hole)) (f .0) j o)) (λ y i. c y (List·Memᴰ·tail i)))
+            (λ j o. sub j (unvisited-before g st ok m now (w .steps) (mark-of (w .hole)) (f .0) j o)) (λ y i. c y (List·Memᴰ·tail i)),
+      )
 
 -- ---- of what is lent
 pub spikeless : (g : Lent) (top st : List ℕ) (r : Room) (cw : Bool) → checked g top st r ≡ Fine → SpikelessScan (graphOf g top) cw st

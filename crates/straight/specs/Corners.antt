@@ -119,9 +119,10 @@ Stays after corners-after corners-before = (Spikeless after) × (corners-after �
 first-gone : (h : Point) (l : List Point) → Ahead (lastOr h l) h (headOr h l) → Smooth h h l → Stays l (allCorners l) (corners h h l)
 first-gone h [] a s = (tt, refl)
 first-gone h (q ∷ l) a s =
-    let z : Point = lastOr q l in
-    (smooth-before z h q (q ∷ l) (next-gone z h q a) (smooth-after h z h (q ∷ l) (before-gone z h q a) s),
-      sym (corners-before z h q (q ∷ l) (next-gone z h q a)) ∙ sym (corners-after h z h (q ∷ l) (before-gone z h q a)))
+    let z : Point = lastOr q l in (
+      smooth-before z h q (q ∷ l) (next-gone z h q a) (smooth-after h z h (q ∷ l) (before-gone z h q a) s),
+      sym (corners-before z h q (q ∷ l) (next-gone z h q a)) ∙ sym (corners-after h z h (q ∷ l) (before-gone z h q a)),
+    )
 
 removed : (h : Point) (l : List Point) → Spikeless (h ∷ l) → Stays (removeLowest (h ∷ l)) (allCorners (removeLowest (h ∷ l))) (allCorners (h ∷ l))
 removed h l s = by (onLine (lastOr h l) h (headOr h l)) refl

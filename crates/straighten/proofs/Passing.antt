@@ -10,13 +10,15 @@ use lib.Seq.{getD-set-other}
 use lib.IntN.{ℤ, pos}
 use Rattle.laws.specs.Test.{pick, pick-ind}
 use Rattle.turn.specs.declared.Point.{Point}
-use Rattle.turn.specs.Points.{OnGrid}
+use Rattle.turn.specs.declared.Vector.{Vector}
+use Rattle.turn.specs.Points.{OnGrid, Short, fromTo}
 use Rattle.leave.specs.Points.{put}
 use Rattle.walk.specs.Code.{paste}
 use Rattle.table.specs.Table.{pointIn}
 use Rattle.straight.specs.Straight.{onLine, headOr, lastOr}
 use Rattle.straight.specs.Corners.{corners, allCorners}
-use Rattle.straighten.specs.Runs.{run, RunOnGrid}
+use Rattle.straighten.specs.Runs.{level, run, RunOnGrid}
+use Rattle.straighten.proofs.Tests.{by-edges}
 
 -- ---- a point that is written leaves the others
 pub put-other : (l : List ℤ) (at : ℕ) (p : Point) (k : ℕ) → at < k → pointIn (put l at p) k ≡ pointIn l k
@@ -60,6 +62,13 @@ module _ (l : List ℤ) (from size to : ℕ) where
     pub unread : (k : ℕ) → i ≤ k → pointIn now k ≡ pointIn l k
     pub written : paste now w (rest prev p i) ≡ paste l to whole
     pub count : w + length (rest prev p i) ≡ to + length whole
+
+  -- the code holds the edge to p, and not the point before it
+  pub record PassingBy (now : List ℤ) (u : Vector) (p : Point) (w i : ℕ) : Type 0 where
+    pub prev : Point
+    pub edge : u ≡ fromTo prev p
+    pub short : Short u
+    pub passing : Passing now prev p w i
 
   module _ (grid : RunOnGrid l from size) where
     -- ---- at the first point
@@ -144,7 +153,7 @@ module _ (l : List ℤ) (from size to : ℕ) where
           count = count-by w p c b ∙ ap (λ (r : List Point). w + length r) (sym (rest-next prev p i k)) ∙ h .count;
         }
 
-    pub goes-on : {now : List ℤ} {prev p : Point} {w i : ℕ} → Passing now prev p w i → i < end
+    goes-on : {now : List ℤ} {prev p : Point} {w i : ℕ} → Passing now prev p w i → i < end
         → (now′ : List ℤ) (next : Point) (w′ : ℕ) → next ≡ pointIn now i
         → w′ ≡ pick (onLine prev p next) w (w + 1) → now′ ≡ pick (onLine prev p next) now (put now w p)
         → Passing now′ p next w′ (i + 1)
@@ -153,16 +162,37 @@ module _ (l : List ℤ) (from size to : ℕ) where
         let r = subst (λ x. Passing (pick (onLine prev p x) now (put now w p)) p x (pick (onLine prev p x) w (w + 1)) (i + 1)) (sym q) (one-on now prev p w i h k) in
         subst (λ v. Passing v p next w′ (i + 1)) (sym ep) (subst (λ v. Passing (pick (onLine prev p next) now (put now w p)) p next v (i + 1)) (sym ew) r)
 
+    pub goes-on-by : {now : List ℤ} {u : Vector} {p : Point} {w i : ℕ} → (h : PassingBy now u p w i) → i < end
+        → (now′ : List ℤ) (v : Vector) (next : Point) (w′ : ℕ) → next ≡ pointIn now i → (v ≡ fromTo p next) × (Short v)
+        → w′ ≡ pick (level u v) w (w + 1) → now′ ≡ pick (level u v) now (put now w p)
+        → PassingBy now′ v next w′ (i + 1)
+    goes-on-by {now} {u} {p} {w} {i} h k now′ v next w′ en ev ew ep =
+        let q : level u v ≡ onLine (h .prev) p next = by-edges u v (h .prev) p next (h .edge) (ev .0) in
+        record {
+          prev = p;
+          edge = ev .0;
+          short = ev .1;
+          passing = goes-on (h .passing) k now′ next w′ en (ew ∙ ap (λ b. pick b w (w + 1)) q) (ep ∙ ap (λ b. pick b now (put now w p)) q);
+        }
+
     -- ---- after the last
-    pub ends : {now : List ℤ} {prev p : Point} {w i : ℕ} → Passing now prev p w i → end ≤ i
+    ends : {now : List ℤ} {prev p : Point} {w i : ℕ} → Passing now prev p w i → end ≤ i
         → (now′ : List ℤ) (w′ : ℕ) → w′ ≡ pick (onLine prev p home) w (w + 1) → now′ ≡ pick (onLine prev p home) now (put now w p)
         → (w′ ≡ to + length whole) × (now′ ≡ paste l to whole)
     ends {now} {prev} {p} {w} {i} h k now′ w′ ew ep =
         let b : Bool = onLine prev p home in
         let z : end - i ≡ 0 = omega (arith, h .within) in
-        let e : rest prev p i ≡ pick b [] (p ∷ []) = ap (λ n. corners prev home (p ∷ run l i n)) z in
-        (ew ∙ none (pick b w (w + 1)) ∙ count-by w p [] b ∙ ap (λ (r : List Point). w + length r) (sym e) ∙ h .count,
-          ep ∙ paste-by now w p [] b ∙ ap (paste now w) (sym e) ∙ h .written)
+        let e : rest prev p i ≡ pick b [] (p ∷ []) = ap (λ n. corners prev home (p ∷ run l i n)) z in (
+          ew ∙ none (pick b w (w + 1)) ∙ count-by w p [] b ∙ ap (λ (r : List Point). w + length r) (sym e) ∙ h .count,
+          ep ∙ paste-by now w p [] b ∙ ap (paste now w) (sym e) ∙ h .written,
+        )
       where
         none : (x : ℕ) → x ≡ x + 0
         none x = omega arith
+
+    pub ends-by : {now : List ℤ} {u : Vector} {p : Point} {w i : ℕ} → (h : PassingBy now u p w i) → end ≤ i
+        → (now′ : List ℤ) (v : Vector) (w′ : ℕ) → v ≡ fromTo p home → w′ ≡ pick (level u v) w (w + 1) → now′ ≡ pick (level u v) now (put now w p)
+        → (w′ ≡ to + length whole) × (now′ ≡ paste l to whole)
+    ends-by {now} {u} {p} {w} {i} h k now′ v w′ ev ew ep =
+        let q : level u v ≡ onLine (h .prev) p home = by-edges u v (h .prev) p home (h .edge) ev in
+        ends (h .passing) k now′ w′ (ew ∙ ap (λ b. pick b w (w + 1)) q) (ep ∙ ap (λ b. pick b now (put now w p)) q)

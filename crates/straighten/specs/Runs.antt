@@ -1,14 +1,21 @@
 -- The contours of a table, read off its points and its sizes, and what the pass over them leaves.
 use Prim.Native.Nat.{ℕ, zero, suc, _+_, _*_, _≤_, _<_}
+use mathlib.Core.Bool.{Bool}
 use mathlib.Core.List.{List, [], _∷_, _++_, map}
 use lib.ListN.{length, getD}
 use lib.IntN.{ℤ}
+use Rattle.laws.specs.Sign.{zer, sgn, eqS}
 use Rattle.turn.specs.declared.Point.{Point}
+use Rattle.turn.specs.declared.Vector.{Vector}
 use Rattle.turn.specs.Limits.{maxLinks}
-use Rattle.turn.specs.Points.{OnGrid}
+use Rattle.turn.specs.Points.{OnGrid, cross}
 use Rattle.keep.specs.Outcome.{sum}
 use Rattle.table.specs.Table.{pointIn}
 use Rattle.straight.specs.Corners.{allCorners}
+
+-- two edges, one after the other, lie on one line
+abbrev pub level : Vector → Vector → Bool
+level u v = eqS (sgn (cross u v)) zer
 
 -- so many points from number `from` on
 abbrev pub run : List ℤ → ℕ → ℕ → List Point

@@ -5,30 +5,31 @@ ghost use Prim.Native.Nat.{ℕ, _+_, _*_, _<_, _≤_};
 ghost use lib.ListN.{length};
 ghost use lib.Seq.{sets};
 ghost use Rattle.laws.specs.Test.{pick};
-ghost use Rattle.turn.specs.Points.{OnGrid};
+ghost use Rattle.turn.specs.Points.{Short};
 ghost use Rattle.leave.specs.Points.{put};
 ghost use Rattle.walk.specs.Code.{paste};
 ghost use Rattle.table.specs.Table.{pointIn};
-ghost use Rattle.straight.specs.Straight.{onLine};
 ghost use Rattle.straight.specs.Corners.{allCorners};
 ghost use Rattle.keep.specs.Outcome.{firsts, sum};
-ghost use Rattle.straighten.specs.Runs.{run, RunOnGrid, contoursOf, cornersOf, sizes, joined, Stands};
+ghost use Rattle.straighten.specs.Runs.{level, run, RunOnGrid, contoursOf, cornersOf, sizes, joined, Stands};
 ghost use Rattle.straighten.specs.Promises.{drop-straight-says};
 use keep::Counts;
 use leave::put_point;
 use table::point_in;
 use turn::Point;
-use turn::turn_of;
+use turn::Vector;
+use turn::between;
+use turn::cross_product;
 use turn::wide;
 use zeros::zero_points;
 
-// A corner is written as point number `to`; a point on one line with its neighbours is not.
-fn keep_corner(points: &mut [i32], prev: Point, p: Point, next: Point, to: usize) -> usize
-    requires { ⌜ (OnGrid prev) × (OnGrid p) × (OnGrid next) × (to * 2 + 1 < length (now points)) ⌝ }
-    ensures { λ r. ⌜ r ≡ pick (onLine prev p next) to (to + 1) ⌝ }
-    ensures { λ _. ⌜ now (points .exit) ≡ pick (onLine prev p next) (now (points .entry)) (put (now (points .entry)) to p) ⌝ }
+// A corner is written as point number `to`; a point where the edge to it, u, and the edge from it, v, lie on one line is not.
+fn keep_corner(points: &mut [i32], u: Vector, v: Vector, p: Point, to: usize) -> usize
+    requires { ⌜ (Short u) × (Short v) × (to * 2 + 1 < length (now points)) ⌝ }
+    ensures { λ r. ⌜ r ≡ pick (level u v) to (to + 1) ⌝ }
+    ensures { λ _. ⌜ now (points .exit) ≡ pick (level u v) (now (points .entry)) (put (now (points .entry)) to p) ⌝ }
 {
-    if turn_of(prev, p, next) == 0 {
+    if cross_product(u, v) == 0 {
         return to;
     }
     put_point(points, to, p);
@@ -43,18 +44,20 @@ fn keep_corners(points: &mut [i32], from: usize, size: usize, to: usize) -> usiz
 {
     let end = from + size;
     let home = point_in(points, from);
-    let mut prev = point_in(points, end - 1);
+    let last = point_in(points, end - 1);
+    let mut u = between(last, home);
     let mut p = home;
     let mut w = to;
     let mut i = from + 1;
     while i < end {
         let next = point_in(points, i);
-        w = keep_corner(points, prev, p, next, w);
-        prev = p;
+        let v = between(p, next);
+        w = keep_corner(points, u, v, p, w);
+        u = v;
         p = next;
         i += 1;
     }
-    keep_corner(points, prev, p, home, w)
+    keep_corner(points, u, between(p, home), p, w)
 }
 
 // The pass: the corners of each contour are written after those of the contour before it, and the table has their place and number.

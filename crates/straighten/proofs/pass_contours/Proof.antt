@@ -48,8 +48,12 @@ cast-first : tie.Need-cast-first Inv-loop μ-loop
 cast-first c =
     let l = c .before .before .before .before .before .before .loop in
     let s = c .before .before .before .before .before .before .before .before .before in
-    omega (arith, l .inv .behind, few-points (s .args .points .now) (s .args .first .now) (s .args .len .now) (s .args .contours) (s .pre) (l .points) (l .first) (l .len) (l .c) (l .at)
-    (l .to) (l .inv) (c .before .before .before .before .before .loop-test .taken) (c .before .before .before .wide .result) (c .before .before .before .wide .ensures))
+    omega (
+      arith,
+      l .inv .behind,
+      few-points (s .args .points .now) (s .args .first .now) (s .args .len .now) (s .args .contours) (s .pre) (l .points) (l .first) (l .len) (l .c) (l .at)
+          (l .to) (l .inv) (c .before .before .before .before .before .loop-test .taken) (c .before .before .before .wide .result) (c .before .before .before .wide .ensures),
+    )
 
 -- src/lib.rt:72:9
 mul-first : tie.Need-mul-first Inv-loop μ-loop
@@ -69,9 +73,12 @@ cast-len : tie.Need-cast-len Inv-loop μ-loop
 cast-len c =
     let l = c .before .before .before .before .before .before .loop in
     let s = c .before .before .before .before .before .before .before .before .before in
-    omega (arith, few-corners (s .args .points .now) (s .args .first .now) (s .args .len .now) (s .args .contours) (s .pre) (l .points) (l .first) (l .len) (l .c) (l .at)
-    (l .to) (l .inv) (c .before .before .before .before .before .loop-test .taken) (c .before .before .before .wide .result) (c .before .keep-corners .result)
-    (c .before .before .before .wide .ensures) (c .before .keep-corners .ensures .0))
+    omega (
+      arith,
+      few-corners (s .args .points .now) (s .args .first .now) (s .args .len .now) (s .args .contours) (s .pre) (l .points) (l .first) (l .len) (l .c) (l .at)
+          (l .to) (l .inv) (c .before .before .before .before .before .loop-test .taken) (c .before .before .before .wide .result) (c .before .keep-corners .result)
+          (c .before .before .before .wide .ensures) (c .before .keep-corners .ensures .0),
+    )
 
 -- src/lib.rt:73:9
 mul-len : tie.Need-mul-len Inv-loop μ-loop
@@ -87,8 +94,11 @@ add-at : tie.Need-add-at Inv-loop μ-loop
 add-at c =
     let l = c .before .before .before .before .before .before .loop in
     let s = c .before .before .before .before .before .before .before .before .before in
-    omega (arith, few-points (s .args .points .now) (s .args .first .now) (s .args .len .now) (s .args .contours) (s .pre) (l .points) (l .first) (l .len) (l .c) (l .at)
-    (l .to) (l .inv) (c .before .before .before .before .before .loop-test .taken) (c .before .before .before .wide .result) (c .before .before .before .wide .ensures))
+    omega (
+      arith,
+      few-points (s .args .points .now) (s .args .first .now) (s .args .len .now) (s .args .contours) (s .pre) (l .points) (l .first) (l .len) (l .c) (l .at)
+          (l .to) (l .inv) (c .before .before .before .before .before .loop-test .taken) (c .before .before .before .wide .result) (c .before .before .before .wide .ensures),
+    )
 
 -- src/lib.rt:76:9
 add-c : tie.Need-add-c Inv-loop μ-loop
