@@ -118,7 +118,8 @@ module _ (ax ay bx by : List ℤ) (g : Graph) (cw : Bool) (minimum : ℕ) (b : B
       let d : c ≡ countsOf g minimum ws = cc in
       let l : b′ ≡ afterWalks g minimum ws b = ap (λ (x : Extracted). x .lent) h in
       subst (λ (x : Buffers). Stands (x .points) (x .first) (x .len) (c .contours)) (sym l)
-      (subst (λ (x : Counts). Stands (afterWalks g minimum ws b .points) (afterWalks g minimum ws b .first) (afterWalks g minimum ws b .len) (x .contours)) (sym d)
+      (subst (λ (x : Counts). Stands (afterWalks g minimum ws b .points) (afterWalks g minimum ws b .first) (afterWalks g minimum ws b .len) (x .contours))
+      (sym d)
       (stands ws after e))
 
   pub stands-after : (r : Extraction) (b′ : Buffers) → extractedAs r b′ ≡ afterScan g minimum b (scan g cw (b .state))

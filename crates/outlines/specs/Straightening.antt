@@ -1,4 +1,5 @@
--- Where no contour has a spike, dropping points on a straight line leaves of each contour its corners, and leaves no contour out: so the pass of `straighten` over
+-- Where no contour has a spike, dropping points on a straight line leaves of each contour its corners, and leaves no contour out: so the pass of
+-- `straighten` over
 -- what extraction wrote comes to the definition.
 use Prim.Native.Nat.{ℕ, suc, _+_, _*_, _≤_, _<_}
 use native.Mathlib.Omega.{arith}

@@ -1,4 +1,5 @@
--- Of a graph that passes checks 1 to 7 dropping points on a straight line leaves no contour out, and the points that go are exactly those that are straight in the
+-- Of a graph that passes checks 1 to 7 dropping points on a straight line leaves no contour out, and the points that go are exactly those that are straight
+-- in the
 -- full contour: so contours keep their numbers, their kinds, their order and their areas. A refusal is what it was.
 use Prim.Native.Nat.{ℕ}
 use native.Mathlib.Omega.{arith}
@@ -26,7 +27,8 @@ use Rattle.extraction.specs.Extract.{Extracted, afterScan, afterChecks, extract
 use Rattle.straight.specs.Straight.{dropStraight}
 use Rattle.straight.specs.Corners.{allCorners, corners-left}
 use Rattle.straight.specs.Areas.{area-stays}
-use Rattle.outlines.specs.Outlines.{Outline, straightened, whole, leftOut, outlineKinds, outlinesOf, straightCounts, straightScan, straightChecks, extractedStraight}
+use Rattle.outlines.specs.Outlines.{Outline, straightened, whole, leftOut, outlineKinds}
+use Rattle.outlines.specs.Outlines.{outlinesOf, straightCounts, straightScan, straightChecks, extractedStraight}
 use Rattle.outlines.specs.Straightening.{AllSpikeless, kept-spikeless, all-whole, none-left-out, same-kinds}
 use Rattle.smooth.specs.Spikes.{spikeless}
 
@@ -52,7 +54,8 @@ module _ (g : Lent) (top : List ℕ) (cw : Bool) (minimum : ℕ) (b : Buffers) w
   zero-one : _≡_ {A = ℕ} 0 1 → ⊥
   zero-one x = omega arith
 
-  refused-scan : (number place : ℕ) (o : Scanned) → afterScan G minimum b o .answer ≡ Refused number place → straightScan G minimum b o ≡ afterScan G minimum b o
+  refused-scan : (number place : ℕ) (o : Scanned) → afterScan G minimum b o .answer ≡ Refused number place → straightScan G minimum b o ≡ afterScan G
+      minimum b o
   refused-scan number place (stopped m p) h = refl
   refused-scan number place (walks ws after) h = let x : _≡_ {A = ℕ} 0 1 = cc in absurd (zero-one x)
 
@@ -102,7 +105,8 @@ module _ (g : Lent) (top : List ℕ) (cw : Bool) (minimum : ℕ) (b : Buffers) w
       let n : countsOf G minimum ws ≡ c = cc in
       let smooth : AllSpikeless G (kept G minimum ws) = kept-spikeless G minimum ws (spikeless g top (b .state) rooms cw k ws after e) in
       let all = all-whole G (kept G minimum ws) smooth in
-      let state : after ≡ extracted g top cw minimum b .lent .state = scanned G cw (b .state) ws after e .states ∙ sym (ap (λ (x : Extracted). x .lent .state) q) in
+      let state : after ≡ extracted g top cw minimum b .lent .state = scanned G cw (b .state) ws after e .states ∙ sym (ap (λ (x : Extracted). x .lent
+      .state) q) in
       record {
         found = ws;
         found-is = e ∙ ap (walks ws) state;

@@ -1,4 +1,5 @@
--- By check 7 no contour of a graph that passes its checks has a spike: where a walk goes on at a node, it does so along another link, and no two links run from a
+-- By check 7 no contour of a graph that passes its checks has a spike: where a walk goes on at a node, it does so along another link, and no two links run
+-- from a
 -- node in the same direction.
 use Prim.Native.Nat.{ℕ, suc, _≤_, _<_}
 use native.Mathlib.Omega.{arith}

@@ -159,7 +159,8 @@ module _ (l : List ℤ) (from size to : ℕ) where
         → Passing now′ p next w′ (i + 1)
     goes-on {now} {prev} {p} {w} {i} h k now′ next w′ en ew ep =
         let q : next ≡ pointIn l i = en ∙ h .unread i (omega arith) in
-        let r = subst (λ x. Passing (pick (onLine prev p x) now (put now w p)) p x (pick (onLine prev p x) w (w + 1)) (i + 1)) (sym q) (one-on now prev p w i h k) in
+        let r = subst (λ x. Passing (pick (onLine prev p x) now (put now w p)) p x (pick (onLine prev p x) w (w + 1)) (i + 1)) (sym q) (one-on now prev p w
+        i h k) in
         subst (λ v. Passing v p next w′ (i + 1)) (sym ep) (subst (λ v. Passing (pick (onLine prev p next) now (put now w p)) p next v (i + 1)) (sym ew) r)
 
     pub goes-on-by : {now : List ℤ} {u : Vector} {p : Point} {w i : ℕ} → (h : PassingBy now u p w i) → i < end

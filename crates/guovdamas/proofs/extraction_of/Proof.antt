@@ -20,7 +20,13 @@ returns : tie.Need-returns
 returns c =
     let n = c .before .before .answer .given .0 .0 in
     let g = c .struct-told .given in
-    rw (toZ-ofZ w64 (n .«kept_area») (record { sfits = g .1 .1 .1 .1 .1 .0 .1 }), toZ-ofZ w64 (n .«rejected_area») (record { sfits = g .1 .1 .1 .1 .1 .1 .0 .1 }))
+    rw (
+      toZ-ofZ w64 (n .«kept_area») (record { sfits = g .1 .1 .1 .1 .1 .0 .1 }),
+      toZ-ofZ w64 (n .«rejected_area») (record {
+        sfits = g .1 .1 .1 .1 .1 .1 .0
+            .1;
+      }),
+    )
     (ap extractionOf (sym (c .before .before .answer .given .1)))
 
 -- src/lib.rt:46:1

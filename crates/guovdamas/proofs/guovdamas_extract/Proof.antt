@@ -36,7 +36,8 @@ same-length-5 c = search needs
 returns : tie.Need-returns
 returns c =
     let o = c .before .before .before .before .before .before .before .before .before .before in
-    let s = c .before .before .before .before .before .before .before .before .before .before .before .before .before .before .before .before .before .before .before .before .before .before .before .before .before .before in
+    let s = c .before .before .before .before .before .before .before .before .before .before .before .before .before .before .before .before .before
+    .before .before .before .before .before .before .before .before .before in
     extraction-numbered (c .extraction-of .ensures) (o .extract .ensures
     ∙ ap (λ (x : Settings). outlined (lent (s .args .ax .now) (s .args .ay .now) (s .args .bx .now) (s .args .by .now) (s .args .a-id .now)
     (s .args .b-id .now) (s .args .start .now) (s .args .list .now)) (s .args .top .now) x

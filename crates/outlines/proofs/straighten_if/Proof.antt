@@ -32,7 +32,8 @@ enum-known-answer-2 c = search needs
 drop-straight-requires : tie.Need-drop-straight-requires
 drop-straight-requires c κs =
     let s = c .before .before .before .before .before .before .before .before .before in
-    subst (λ (a : Extraction). StandsFor a (s .args .points .now) (s .args .first .now) (s .args .len .now)) (c .before .before .before .before .answer2 .given .1)
+    subst (λ (a : Extraction). StandsFor a (s .args .points .now) (s .args .first .now) (s .args .len .now)) (c .before .before .before .before .answer2
+    .given .1)
     (s .pre)
 
 returns-2 : tie.Need-returns-2

@@ -57,7 +57,13 @@ loop-holds c =
 
 point-in-requires-3 : tie.Need-point-in-requires-3 Inv-loop μ-loop
 point-in-requires-3 c κs =
-    let h = c .before .before .loop .inv .passing in omega (arith, c .before .loop-test .taken, h .long, c .before .before .before .before .before .before .before .before .pre .2)
+    let h = c .before .before .loop .inv .passing in omega (
+      arith,
+      c .before .loop-test .taken,
+      h .long,
+      c .before .before .before .before .before .before
+          .before .before .pre .2,
+    )
 
 between-requires-2 : tie.Need-between-requires-2 Inv-loop μ-loop
 between-requires-2 c κs =
@@ -70,11 +76,26 @@ between-requires-2 c κs =
 
 keep-corner-requires : tie.Need-keep-corner-requires Inv-loop μ-loop
 keep-corner-requires c κs =
-    let h = c .before .before .before .before .before .loop .inv in
-    (h .short, c .before .between2 .ensures .1, omega (arith, h .passing .behind, h .passing .within, h .passing .long, c .before .before .before .before .before .before .before .before .before .before .before .pre .2))
+    let h = c .before .before .before .before .before .loop .inv in (
+      h .short,
+      c .before .between2 .ensures .1,
+      omega (
+        arith,
+        h .passing .behind,
+        h .passing .within,
+        h .passing .long,
+        c .before .before .before .before
+            .before .before .before .before .before .before .before .pre .2,
+      ),
+    )
 
 add-i-2 : tie.Need-add-i-2 Inv-loop μ-loop
-add-i-2 c = omega (arith, c .before .before .before .before .before .before .before .loop .inv .passing .within, c .before .before .before .before .before .before .before .before .before .before .before .before .before .pre .2)
+add-i-2 c = omega (
+  arith,
+  c .before .before .before .before .before .before .before .loop .inv .passing .within,
+  c .before .before .before .before .before
+      .before .before .before .before .before .before .before .before .pre .2,
+)
 
 loop-less : tie.Need-loop-less Inv-loop μ-loop
 loop-less c = omega arith
@@ -86,20 +107,35 @@ loop-again c =
     let k = c .before .keep-corner in
     let next = c .before .before .before .before .point-in3 in
     let v = c .before .before .before .between2 in
-    goes-on-by (s .args .points .now) (s .args .from) (s .args .size) (s .args .to) (s .pre .3) (l .inv) (c .before .before .before .before .before .before .loop-test .taken)
+    goes-on-by (s .args .points .now) (s .args .from) (s .args .size) (s .args .to) (s .pre .3) (l .inv) (c .before .before .before .before .before .before
+    .loop-test .taken)
     (k .last .0) (v .result) (next .result) (k .result) (next .ensures) (v .ensures) (k .ensures .0) (k .ensures .1)
 
 between-requires-3 : tie.Need-between-requires-3 Inv-loop μ-loop
 between-requires-3 c κs =
     let s = c .before .before .before .before .before .before .before .before in (
       c .before .before .loop .inv .passing .p-grid,
-      subst OnGrid (sym (c .before .before .before .before .before .before .point-in .ensures)) (s .pre .3 (s .args .from) (omega arith) (omega (arith, s .pre .1))),
+      subst OnGrid (sym (c .before .before .before .before .before .before .point-in .ensures)) (s .pre .3 (s .args .from) (omega arith) (omega (
+        arith,
+        s
+            .pre .1,
+      ))),
     )
 
 keep-corner-requires-2 : tie.Need-keep-corner-requires-2 Inv-loop μ-loop
 keep-corner-requires-2 c κs =
-    let h = c .before .before .before .loop .inv in
-    (h .short, c .between3 .ensures .1, omega (arith, h .passing .behind, h .passing .within, h .passing .long, c .before .before .before .before .before .before .before .before .before .pre .2))
+    let h = c .before .before .before .loop .inv in (
+      h .short,
+      c .between3 .ensures .1,
+      omega (
+        arith,
+        h .passing .behind,
+        h .passing .within,
+        h .passing .long,
+        c .before .before .before .before .before
+            .before .before .before .before .pre .2,
+      ),
+    )
 
 same-length : tie.Need-same-length Inv-loop μ-loop
 same-length c = search needs
@@ -110,8 +146,10 @@ returns c =
     let s = c .before .before .before .before .before .before .before .before .before .before .before in
     let k = c .before .keep-corner2 in
     let v = c .before .before .between3 in
-    ends-by (s .args .points .now) (s .args .from) (s .args .size) (s .args .to) (s .pre .3) (l .inv) (c .before .before .before .before .loop-test .left) (k .last .0)
-    (v .result) (k .result) (v .ensures .0 ∙ ap (fromTo (l .p)) (c .before .before .before .before .before .before .before .before .before .point-in .ensures)) (k .ensures .0) (k .ensures .1)
+    ends-by (s .args .points .now) (s .args .from) (s .args .size) (s .args .to) (s .pre .3) (l .inv) (c .before .before .before .before .loop-test .left)
+    (k .last .0)
+    (v .result) (k .result) (v .ensures .0 ∙ ap (fromTo (l .p)) (c .before .before .before .before .before .before .before .before .before .point-in
+    .ensures)) (k .ensures .0) (k .ensures .1)
 
 pub keep-corners-spec : {M : Type 1} → statement M
 keep-corners-spec =

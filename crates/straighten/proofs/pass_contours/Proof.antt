@@ -52,7 +52,8 @@ cast-first c =
       arith,
       l .inv .behind,
       few-points (s .args .points .now) (s .args .first .now) (s .args .len .now) (s .args .contours) (s .pre) (l .points) (l .first) (l .len) (l .c) (l .at)
-          (l .to) (l .inv) (c .before .before .before .before .before .loop-test .taken) (c .before .before .before .wide .result) (c .before .before .before .wide .ensures),
+          (l .to) (l .inv) (c .before .before .before .before .before .loop-test .taken) (c .before .before .before .wide .result) (c .before .before
+          .before .wide .ensures),
     )
 
 -- src/lib.rt:72:9
@@ -62,7 +63,13 @@ mul-first c = search needs
 -- src/lib.rt:72:9
 slice-write-first : tie.Need-slice-write-first Inv-loop μ-loop
 slice-write-first c =
-    let p = c .before .before .before .before .before .before .loop .inv in omega (arith, c .before .before .before .before .before .loop-test .taken, p .first-long, c .before .before .before .before .before .before .before .before .before .pre .first-room)
+    let p = c .before .before .before .before .before .before .loop .inv in omega (
+      arith,
+      c .before .before .before .before .before .loop-test .taken,
+      p
+          .first-long,
+      c .before .before .before .before .before .before .before .before .before .pre .first-room,
+    )
 
 -- src/lib.rt:73:19
 sub-len : tie.Need-sub-len Inv-loop μ-loop
@@ -76,7 +83,8 @@ cast-len c =
     omega (
       arith,
       few-corners (s .args .points .now) (s .args .first .now) (s .args .len .now) (s .args .contours) (s .pre) (l .points) (l .first) (l .len) (l .c) (l .at)
-          (l .to) (l .inv) (c .before .before .before .before .before .loop-test .taken) (c .before .before .before .wide .result) (c .before .keep-corners .result)
+          (l .to) (l .inv) (c .before .before .before .before .before .loop-test .taken) (c .before .before .before .wide .result) (c .before .keep-corners
+          .result)
           (c .before .before .before .wide .ensures) (c .before .keep-corners .ensures .0),
     )
 
@@ -87,7 +95,13 @@ mul-len c = search needs
 -- src/lib.rt:73:9
 slice-write-len : tie.Need-slice-write-len Inv-loop μ-loop
 slice-write-len c =
-    let p = c .before .before .before .before .before .before .loop .inv in omega (arith, c .before .before .before .before .before .loop-test .taken, p .len-long, c .before .before .before .before .before .before .before .before .before .pre .len-room)
+    let p = c .before .before .before .before .before .before .loop .inv in omega (
+      arith,
+      c .before .before .before .before .before .loop-test .taken,
+      p
+          .len-long,
+      c .before .before .before .before .before .before .before .before .before .pre .len-room,
+    )
 
 -- src/lib.rt:74:9
 add-at : tie.Need-add-at Inv-loop μ-loop
@@ -97,7 +111,8 @@ add-at c =
     omega (
       arith,
       few-points (s .args .points .now) (s .args .first .now) (s .args .len .now) (s .args .contours) (s .pre) (l .points) (l .first) (l .len) (l .c) (l .at)
-          (l .to) (l .inv) (c .before .before .before .before .before .loop-test .taken) (c .before .before .before .wide .result) (c .before .before .before .wide .ensures),
+          (l .to) (l .inv) (c .before .before .before .before .before .loop-test .taken) (c .before .before .before .wide .result) (c .before .before
+          .before .wide .ensures),
     )
 
 -- src/lib.rt:76:9
@@ -115,7 +130,8 @@ loop-again c =
     let s = c .before .before .before .before .before .before .before .before .before in
     let k = c .before .keep-corners in
     goes-on (s .args .points .now) (s .args .first .now) (s .args .len .now) (s .args .contours) (s .pre) (l .points) (l .first) (l .len) (l .c) (l .at)
-    (l .to) (l .inv) (c .before .before .before .before .before .loop-test .taken) (c .before .before .before .wide .result) (k .result) (k .last .0) (c .before .before .before .wide .ensures) (k .ensures .0) (k .ensures .1)
+    (l .to) (l .inv) (c .before .before .before .before .before .loop-test .taken) (c .before .before .before .wide .result) (k .result) (k .last .0) (c
+    .before .before .before .wide .ensures) (k .ensures .0) (k .ensures .1)
 
 -- src/lib.rt:57:1
 same-length : tie.Need-same-length Inv-loop μ-loop
