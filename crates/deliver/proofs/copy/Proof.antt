@@ -2,9 +2,9 @@
 use native.Mathlib.Omega.{arith}
 use Prim.Native.Nat.{_-_}
 use lib.ListN.{length}
-use Rattle.bind.proofs.Copies.{Copying, copy-start, copy-more, copy-end}
-use Rattle.bind.proofs.copy.Statement.{statement}
-use Rattle.bind.proofs.copy.Tie as tie
+use Rattle.deliver.proofs.Copies.{Copying, copy-start, copy-more, copy-end}
+use Rattle.deliver.proofs.copy.Statement.{statement}
+use Rattle.deliver.proofs.copy.Tie as tie
 
 abbrev Inv-loop : tie.InvT-loop
 Inv-loop from to₀ i₀ to i = Copying to₀ to from i

@@ -7,8 +7,8 @@ use lib.Seq.{length-take-le}
 use borrow.Author.Needs.{needs}
 use Rattle.table.specs.Table.{Table, table, maxContours}
 use Rattle.table.specs.Passing.{contours-few}
-use Rattle.bind.proofs.bind_holes.Statement.{statement}
-use Rattle.bind.proofs.bind_holes.Tie as tie
+use Rattle.deliver.proofs.bind_holes.Statement.{statement}
+use Rattle.deliver.proofs.bind_holes.Tie as tie
 
 abbrev t : tie.Start → Table
 t s = table (s .args .points .now) (s .args .first .now) (s .args .len .now) (s .args .kind .now)

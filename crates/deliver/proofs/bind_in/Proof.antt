@@ -4,9 +4,9 @@ use mathlib.Core.Path.{sym, _∙_}
 use borrow.Author.Needs.{needs}
 use Rattle.table.specs.Table.{Table, table}
 use Rattle.table.specs.Passing.{contours-few}
-use Rattle.bind.proofs.Whole.{deliver-stuck, deliver-all}
-use Rattle.bind.proofs.bind_in.Statement.{statement}
-use Rattle.bind.proofs.bind_in.Tie as tie
+use Rattle.deliver.proofs.Delivering.{deliver-stuck, deliver-all}
+use Rattle.deliver.proofs.bind_in.Statement.{statement}
+use Rattle.deliver.proofs.bind_in.Tie as tie
 
 abbrev t : tie.Start → Table
 t s = table (s .args .points .now) (s .args .first .now) (s .args .len .now) (s .args .kind .now)

@@ -7,7 +7,7 @@ use native.Mathlib.Numerals.{add-one}
 use native.Mathlib.Nat.{zero-add}
 use lib.ListN.{length, getD, set, length-set, replicate, length-replicate, getD-replicate}
 use lib.Seq.{paste, paste-zero, paste-suc, take-all}
-use Rattle.bind.specs.Outcome.{overFront}
+use Rattle.deliver.specs.Delivery.{overFront}
 
 -- ---- `copy`: the first i numbers of `from` stand in front of the old tail
 pub record Copying (old new from : List ℕ) (i : ℕ) : Type 0 where

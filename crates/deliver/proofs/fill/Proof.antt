@@ -2,9 +2,9 @@
 use native.Mathlib.Omega.{arith}
 use Prim.Native.Nat.{_-_}
 use lib.ListN.{length, replicate, length-replicate}
-use Rattle.bind.proofs.Copies.{Copying, copy-start, fill-more, copy-end}
-use Rattle.bind.proofs.fill.Statement.{statement}
-use Rattle.bind.proofs.fill.Tie as tie
+use Rattle.deliver.proofs.Copies.{Copying, copy-start, fill-more, copy-end}
+use Rattle.deliver.proofs.fill.Statement.{statement}
+use Rattle.deliver.proofs.fill.Tie as tie
 
 abbrev Inv-loop : tie.InvT-loop
 Inv-loop owner₀ n number i₀ owner i = Copying owner₀ owner (replicate n number) i

@@ -3,9 +3,9 @@ use mathlib.Core.Path.{sym, _∙_}
 use borrow.Author.Needs.{needs}
 use Rattle.table.specs.Table.{Table, table}
 use Rattle.table.specs.Passing.{passes-sound}
-use Rattle.bind.proofs.Whole.{both-fine, both-at}
-use Rattle.bind.proofs.check.Statement.{statement}
-use Rattle.bind.proofs.check.Tie as tie
+use Rattle.check_binding.proofs.Checking.{both-fine, both-at}
+use Rattle.check_binding.proofs.check.Statement.{statement}
+use Rattle.check_binding.proofs.check.Tie as tie
 
 abbrev t : tie.Start → Table
 t s = table (s .args .points .now) (s .args .first .now) (s .args .len .now) (s .args .kind .now)
