@@ -1,13 +1,13 @@
--- `print::write_point` meets its contract.
+-- `print_point::write_point` meets its contract.
 use mathlib.Core.List.{_++_}
 use Rattle.print_lines.specs.Again.{again, point-left}
 use Rattle.print_text.specs.Text.{text}
 use Rattle.print_text.specs.Decimal.{decimalZ}
 use Rattle.print_lines.specs.Lines.{pointLine}
 use Rattle.writing.specs.Write.{left-after, left-last, piece-fits, last-fits}
 use borrow.Author.Needs.{needs}
-use Rattle.print_lines.proofs.write_point.Statement.{statement}
-use Rattle.print_lines.proofs.write_point.Tie as tie
+use Rattle.print_point.proofs.write_point.Statement.{statement}
+use Rattle.print_point.proofs.write_point.Tie as tie
 
 write-signed-requires : tie.Need-write-signed-requires
 unfolding pointLine

@@ -1,8 +1,8 @@
--- `print::write_role` meets its contract.
+-- `print_contour::write_role` meets its contract.
 use borrow.Author.Tests.{eq-eqb, ne-eqb}
 use borrow.Author.Needs.{needs}
-use Rattle.print_lines.proofs.write_role.Statement.{statement}
-use Rattle.print_lines.proofs.write_role.Tie as tie
+use Rattle.print_contour.proofs.write_role.Statement.{statement}
+use Rattle.print_contour.proofs.write_role.Tie as tie
 
 slice-aggregate-write-said : tie.Need-slice-aggregate-write-said
 slice-aggregate-write-said c = search needs

@@ -1,14 +1,14 @@
--- `print::write_refusal` meets its contract.
+-- `print_refusal::write_refusal` meets its contract.
 use mathlib.Core.List.{_++_}
 use native.Mathlib.Nat.{le-trans}
-use Rattle.print.proofs.Lengths.{refusal-short}
+use Rattle.print.specs.Lengths.{refusal-short}
 use Rattle.print_text.specs.Text.{text}
 use Rattle.print_text.specs.Decimal.{said}
 use Rattle.print.specs.Answer.{printedRefusal}
 use Rattle.writing.specs.Write.{left-from-0, left-after, left-last, piece-fits, last-fits, wrote-cut}
 use borrow.Author.Needs.{needs}
-use Rattle.print.proofs.write_refusal.Statement.{statement}
-use Rattle.print.proofs.write_refusal.Tie as tie
+use Rattle.print_refusal.proofs.write_refusal.Statement.{statement}
+use Rattle.print_refusal.proofs.write_refusal.Tie as tie
 
 slice-aggregate-write-said : tie.Need-slice-aggregate-write-said
 slice-aggregate-write-said c = search needs

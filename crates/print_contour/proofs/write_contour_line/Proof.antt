@@ -1,12 +1,12 @@
--- `print::write_contour_line` meets its contract.
+-- `print_contour::write_contour_line` meets its contract.
 use mathlib.Core.List.{_++_}
 use Rattle.print_text.specs.Text.{text}
 use Rattle.print_text.specs.Decimal.{decimal, said}
 use Rattle.print_lines.specs.Lines.{roleText, contourLine}
 use Rattle.writing.specs.Write.{left-all, left-after, left-last, piece-fits, last-fits}
 use borrow.Author.Needs.{needs}
-use Rattle.print_lines.proofs.write_contour_line.Statement.{statement}
-use Rattle.print_lines.proofs.write_contour_line.Tie as tie
+use Rattle.print_contour.proofs.write_contour_line.Statement.{statement}
+use Rattle.print_contour.proofs.write_contour_line.Tie as tie
 
 write-decimal-requires : tie.Need-write-decimal-requires
 unfolding contourLine
