@@ -1,9 +1,9 @@
 -- `goes_before`: by its three ways out.
 use mathlib.Core.Path.{sym, _∙_}
 use borrow.Author.Needs.{needs}
-use Rattle.order.proofs.Insertions.{goes-first, goes-last, goes-by-angle}
-use Rattle.order.proofs.goes_before.Statement.{statement}
-use Rattle.order.proofs.goes_before.Tie as tie
+use Rattle.precede.proofs.Preceding.{goes-first, goes-last, goes-by-angle}
+use Rattle.precede.proofs.goes_before.Statement.{statement}
+use Rattle.precede.proofs.goes_before.Tie as tie
 
 before-requires : tie.Need-before-requires
 before-requires c κs = search needs

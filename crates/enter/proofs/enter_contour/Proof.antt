@@ -1,9 +1,9 @@
--- `keep::enter_contour` meets its contract: positions and lengths up to MAX_LINKS fit 32 bits.
+-- `enter::enter_contour` meets its contract: positions and lengths up to MAX_LINKS fit 32 bits.
 use mathlib.Core.Path.{refl, ap}
 use lib.ListN.{set}
 use borrow.Author.Needs.{needs}
-use Rattle.keep.proofs.enter_contour.Statement.{statement}
-use Rattle.keep.proofs.enter_contour.Tie as tie
+use Rattle.enter.proofs.enter_contour.Statement.{statement}
+use Rattle.enter.proofs.enter_contour.Tie as tie
 
 cast-first : tie.Need-cast-first
 cast-first c = search needs
