@@ -83,7 +83,7 @@ pub fn answer_read(
         answer-read-says read b (now (out .entry)) (now (state .exit)) (now (out .exit)) r) ⌝ }
 {
     match read {
-        FileRead::Refused(why) => print::write_refusal(why.number, why.place, out),
+        FileRead::Refused(why) => print_refusal::write_refusal(why.number, why.place, out),
         FileRead::Graph(counts) => answer_fronts(
             ax,
             ay,

@@ -24,7 +24,8 @@ use Rattle.print.specs.Answer as print
 use Rattle.answer_table.specs.BoundText.{totalsOf, bindingText, outcomeText, boundText}
 use Rattle.anchor.specs.AnchorChecks.{anchorsChecked, bothChecked}
 use Rattle.owners.specs.Owners.{ownersOf}
-use Rattle.bind.specs.Outcome.{Outcome, outcome, droppedOf, handedBy, boundAfter, bound, overFront}
+use Rattle.deliver.specs.Delivery.{overFront}
+use Rattle.bind.specs.Outcome.{Outcome, outcome, droppedOf, handedBy, boundAfter, bound}
 
 abbrev printTable : Table → List ℕ → print.OwnedTable
 printTable t owner = print.ownedTable (t .points) (t .first) (t .len) (t .kind) owner

@@ -30,7 +30,11 @@ fn answer_table(
 {
     let mut owner = [0u16; MAX_CONTOURS];
     match bind::bind(points, first, len, kind, clockwise, &mut owner) {
-        Binding::Refused { number, place } => print::write_refusal(number, place as usize, out),
+        Binding::Refused { number, place } => print_refusal::write_refusal(
+            number,
+            place as usize,
+            out,
+        ),
         Binding::Bound { shapes, dropped } => {
             let totals = Totals {
                 contours: first.len(),
@@ -88,7 +92,7 @@ pub fn answer_extraction(
         answer-extraction-says extraction t clockwise (now (out .entry)) (now (out .exit)) r) ⌝ }
 {
     match extraction {
-        Extraction::Refused { number, place } => print::write_refusal(number, place, out),
+        Extraction::Refused { number, place } => print_refusal::write_refusal(number, place, out),
         Extraction::Done(counts) => answer_kept(points, first, len, kind, counts, clockwise, out),
     }
 }

@@ -1,4 +1,3 @@
 -- What the proofs cite beside the laws of specs/.
-mod Copies
 mod Places
 mod Whole

@@ -1,13 +1,12 @@
 -- The parts joined: the checks, what the search hands on, and the outcome.
 use Prim.Native.Nat.{ℕ, _≤_}
 use mathlib.Core.Path.{_≡_, refl, sym, ap, _∙_, subst}
-use mathlib.Core.Bool.{Bool, true, false}
+use mathlib.Core.Bool.{Bool}
 use mathlib.Core.List.{List}
 use native.Mathlib.Omega.{arith}
 use lib.ListN.{length, take, replicate}
 use lib.Seq.{take-all}
 use borrow.Author.Tests.{ne-eqb}
-use Rattle.laws.specs.Test.{true≢false}
 use Rattle.turn.specs.declared.Checked.{Checked}
 use Rattle.turn.specs.declared.Checked.the-variants.{Fine, Refused as AtFault}
 use Rattle.turn.specs.Refusals.{followedBy}
@@ -18,43 +17,12 @@ use Rattle.table.specs.Passing.{passes-sound}
 use Rattle.anchor.specs.AnchorChecks.{anchorsChecked, bothChecked}
 use Rattle.anchor.specs.Anchored.{Anchored}
 use Rattle.anchor.specs.Anchoring.{passes-anchored}
-use Rattle.order.specs.HoleOrder.{bindingOrder}
 use Rattle.owners.specs.declared.Given.{Given}
 use Rattle.owners.specs.declared.Given.the-variants.{All, Stuck}
-use Rattle.owners.specs.Owners.{contourBelow, firstOwner, tabulate, Owned, owned, giveEach, searchedOwners, ownersOf}
+use Rattle.owners.specs.Owners.{Owned, owned, searchedOwners, ownersOf}
+use Rattle.deliver.specs.Delivery.{overFront, delivered}
 use Rattle.bind.specs.declared.Binding.the-variants.{Bound, Refused}
-use Rattle.bind.specs.Outcome.{droppedOf, Outcome, outcome, overFront, handed, boundAfter, bound, isStuck, delivered}
-
--- ---- the ways out of `check`
-module _ (t : Table) (owners : ℕ) (cw : Bool) where
-  pub both-fine : (r : Checked) → tableChecked t owners ≡ Fine → r ≡ anchorsChecked t cw → r ≡ bothChecked t owners cw
-  both-fine r e q = rw e q
-
-  pub both-at : (n p : ℕ) → tableChecked t owners ≡ AtFault n p → AtFault n p ≡ bothChecked t owners cw
-  both-at n p e = rw e
-
--- ---- the ways out of `bind_in`
-module _ (t : Table) (s : Sound t) (cw : Bool) (numbers own owner : List ℕ) (r : Given) (n : numbers ≡ tabulate (firstOwner (t .kind)) (length (t .kind)))
-    (e : owned r own ≡ giveEach (contourBelow t cw) (bindingOrder t cw) numbers) where
-  found : searchedOwners t cw ≡ owned r own
-  found = ap (λ (k : ℕ). giveEach (contourBelow t cw) (bindingOrder t cw) (tabulate (firstOwner (t .kind)) k)) (sym (s .kind-long))
-      ∙ ap (giveEach (contourBelow t cw) (bindingOrder t cw)) (sym n) ∙ sym e
-
-  -- a hole has found none: nothing is written
-  pub deliver-stuck : isStuck r ≡ true → owned r owner ≡ delivered (searchedOwners t cw) owner
-  deliver-stuck q = go r q ∙ sym (ap (λ (w : Owned). delivered w owner) found)
-    where
-      go : (g : Given) → isStuck g ≡ true → owned g owner ≡ delivered (owned g own) owner
-      go All q = absurd (true≢false q refl)
-      go (Stuck c) q = refl
-
-  -- every hole has its owner: all are written
-  pub deliver-all : (new : List ℕ) → isStuck r ≡ false → new ≡ overFront own owner → owned r new ≡ delivered (searchedOwners t cw) owner
-  deliver-all new q w = ap (owned r) w ∙ go r q ∙ sym (ap (λ (w : Owned). delivered w owner) found)
-    where
-      go : (g : Given) → isStuck g ≡ false → owned g (overFront own owner) ≡ delivered (owned g own) owner
-      go All q = refl
-      go (Stuck c) q = absurd (true≢false refl q)
+use Rattle.bind.specs.Outcome.{droppedOf, Outcome, outcome, handed, boundAfter, bound}
 
 -- ---- the ways out of `bind_sound`
 pub hull-count : (t : Table) → Sound t → (k : ℕ) → k ≡ hulls (take (contourCount t) (t .kind)) → hullCount t ≡ k

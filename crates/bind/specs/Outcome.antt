@@ -1,8 +1,8 @@
 -- The outcome of binding: the answer, and the owner buffer.
 use Prim.Native.Nat.{ℕ}
-use mathlib.Core.Bool.{Bool, true, false}
-use mathlib.Core.List.{List, _++_}
-use lib.ListN.{length, drop}
+use mathlib.Core.Bool.{Bool}
+use mathlib.Core.List.{List}
+use lib.ListN.{length}
 use lib.Dec.{eqb}
 use Rattle.laws.specs.Test.{pick}
 use Rattle.turn.specs.declared.Checked.{Checked}
@@ -11,7 +11,8 @@ use Rattle.table.specs.Table.{Table, contourCount, hullCount}
 use Rattle.anchor.specs.AnchorChecks.{bothChecked}
 use Rattle.owners.specs.declared.Given.{Given}
 use Rattle.owners.specs.declared.Given.the-variants.{All, Stuck}
-use Rattle.owners.specs.Owners.{Owned, owned, ownersOf}
+use Rattle.owners.specs.Owners.{Owned, ownersOf}
+use Rattle.deliver.specs.Delivery.{overFront}
 use Rattle.bind.specs.declared.Binding.{Binding}
 use Rattle.bind.specs.declared.Binding.the-variants.{Bound, Refused}
 
@@ -66,10 +67,6 @@ done shapes dropped owners = record { answer = Bound shapes dropped; values = va
 abbrev pub refusal : (number place : ℕ) → List ℕ → Outcome
 refusal number place buffer = record { answer = Refused number place; values = valued number place 0 0; owner = buffer }
 
--- "An owner buffer longer than needed keeps its tail."
-abbrev pub overFront : List ℕ → List ℕ → List ℕ
-overFront owners buffer = owners ++ drop (length owners) buffer
-
 -- "After 1 to 7 and 10 to 12 all lent memory is as before the call."
 abbrev pub handedBy : Table → Given → List ℕ → List ℕ → Outcome
 handedBy t All owners buffer = done (hullCount t) (droppedOf t) (overFront owners buffer)
@@ -84,16 +81,3 @@ boundAfter Fine t cw buffer = handed t (ownersOf t cw) buffer
 
 abbrev pub bound : Table → Bool → List ℕ → Outcome
 bound t cw buffer = boundAfter (bothChecked t (length buffer) cw) t cw buffer
-
--- whether a hole has found no owner
-abbrev pub isStuck : Given → Bool
-isStuck All = false
-isStuck (Stuck c) = true
-
--- on success the owners stand in front of the old tail; after a refusal nothing has changed
-abbrev pub deliveredBy : Given → List ℕ → List ℕ → Owned
-deliveredBy All owners old = owned All (overFront owners old)
-deliveredBy (Stuck c) owners old = owned (Stuck c) old
-
-abbrev pub delivered : Owned → List ℕ → Owned
-delivered w old = deliveredBy (w .answer) (w .owners) old

@@ -24,7 +24,8 @@ use Rattle.bind.specs.declared.Binding.the-variants as binding
 use Rattle.owners.specs.declared.Given.{Given}
 use Rattle.owners.specs.declared.Given.the-variants.{All, Stuck}
 use Rattle.owners.specs.Owners.{Owned, owned, given, giveEach, firstOwner, tabulate, searchedOwners, ownersOf, contourBelow}
-use Rattle.bind.specs.Outcome.{Outcome, outcome, overFront, handed, handedBy, boundAfter, bound}
+use Rattle.deliver.specs.Delivery.{overFront}
+use Rattle.bind.specs.Outcome.{Outcome, outcome, handed, handedBy, boundAfter, bound}
 use Rattle.order.specs.HoleOrder.{bindingOrder}
 use Rattle.order.specs.OrderLaws.{each-once}
 use Rattle.owners.specs.OwnerLaws.{tabulate-length, tabulate-at, owners-below}

@@ -2,10 +2,9 @@
 ghost use mathlib.Core.Path.{_≡_};
 ghost use mathlib.Core.Bool.{true};
 ghost use mathlib.Core.List.{[]};
-ghost use Prim.Native.Nat.{_+_, _-_, _*_, _<_, _≤_};
-ghost use lib.ListN.{length, set};
+ghost use Prim.Native.Nat.{_+_, _-_, _*_, _≤_};
+ghost use lib.ListN.{length};
 ghost use lib.IntN.{natAbs};
-ghost use Rattle.laws.specs.Test.{pick};
 ghost use Rattle.turn.specs.Limits.{maxLinks};
 ghost use Rattle.turn.specs.Area.{wedgeBound};
 ghost use Rattle.keep.specs.Tables.{tables, enterKept, enterRejected, Within};
@@ -74,33 +73,6 @@ fn rejected_counts(size: usize, area: i64, c: Counts) -> Counts
     }
 }
 
-// A contour's entry in the table.
-fn enter_contour(
-    first: &mut [u32],
-    len: &mut [u32],
-    kind: &mut [u8],
-    hole: bool,
-    i: usize,
-    at: usize,
-    size: usize,
-)
-    requires { ⌜ (i < length (now first)) × (i < length (now len)) × (i < length (now kind)) ⌝ }
-    requires { ⌜ (at ≤ maxLinks) × (size ≤ maxLinks) ⌝ }
-    ensures { λ _. ⌜ now (first .exit) ≡ set (now (first .entry)) i at ⌝ }
-    ensures { λ _. ⌜ now (len .exit) ≡ set (now (len .entry)) i size ⌝ }
-    ensures { λ _. ⌜ now (kind .exit) ≡ set (now (kind .entry)) i (pick hole 1 0) ⌝ }
-{
-    first[i] = at as u32;
-    len[i] = size as u32;
-    kind[i] = kind_of(hole);
-}
-
-fn kind_of(hole: bool) -> u8
-    ensures { λ r. ⌜ r ≡ pick hole 1 0 ⌝ }
-{
-    if hole { 1 } else { 0 }
-}
-
 // Rule 6: a walk whose points stand up to number `to`, with its doubled area, is entered as a contour, or counted as rejected.
 pub fn note_walk(
     first: &mut [u32],
@@ -120,7 +92,7 @@ pub fn note_walk(
     let at = c.points;
     let size = to - at;
     if turn::is_kept(size, area, minimum) {
-        enter_contour(first, len, kind, hole, c.contours, at, size);
+        enter::enter_contour(first, len, kind, hole, c.contours, at, size);
         return kept_counts(size, area, c);
     }
     rejected_counts(size, area, c)

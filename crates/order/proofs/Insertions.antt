@@ -7,33 +7,15 @@ use native.Mathlib.Omega.{arith}
 use native.Mathlib.Numerals.{add-one}
 use native.Mathlib.Nat.{not-suc-le-zero}
 use native.Mathlib.Decide.{ℕ-discrete}
-use lib.Dec.{ltb}
-use lib.IntN.{ℤ, pos, natAbs}
 use lib.ListN.{length, getD, set}
 use lib.Seq.{getD-set-same, getD-set-other}
-use Rattle.laws.specs.Bounds.{Z, same64}
-use Rattle.laws.specs.Compare.{lower}
-use Rattle.turn.specs.Points.{before, cross, productBound}
 use Rattle.table.specs.Fronts.{KeptFrom, kept-all, kept-before, kept-less, kept-then}
 use Rattle.anchor.specs.declared.Anchor.{Anchor}
-use Rattle.anchor.specs.Anchor.{anchorWay}
 use Rattle.anchor.specs.Anchors.{Anchors, listedAnchor}
-use Rattle.order.specs.HoleOrder.{goesBefore, slot, sorted}
+use Rattle.precede.specs.Precedence.{goesBefore}
+use Rattle.order.specs.HoleOrder.{slot, sorted}
 use Rattle.order.specs.Insertion.{Inserted, InsertedInto, slot-same, image, slotIn, sorted-more, entries}
 use Rattle.order.specs.HoleLists.{byAnchor, slotOf, Ordered, OrderedInto}
-
--- ---- the ways out of `goes_before`
-module _ (a b : Anchor) (c d : ℕ) where
-  pub goes-first : before (a .at) (b .at) ≡ true → true ≡ goesBefore a b c d
-  goes-first e = rw e
-
-  pub goes-last : before (a .at) (b .at) ≡ false → before (b .at) (a .at) ≡ true → false ≡ goesBefore a b c d
-  goes-last e f = rw (e, f)
-
-  pub goes-by-angle : before (a .at) (b .at) ≡ false → before (b .at) (a .at) ≡ false → (x : ℤ) → x ≡ cross (anchorWay a) (anchorWay b)
-      → natAbs x ≤ productBound
-      → lower (pos 0) (Z x) (ltb c d) ≡ goesBefore a b c d
-  goes-by-angle e f x q n = rw (e, f) (ap (λ z. lower (pos 0) z (ltb c d)) (same64 x (omega arith) ∙ q))
 
 -- ---- the place, as the loop looks for it
 slot-down : (test : ℕ → Bool) (p : ℕ) → 0 < p → test (p - 1) ≡ true → slot test p ≡ slot test (p - 1)

@@ -10,7 +10,8 @@ use Rattle.table.specs.Table.{Table}
 use Rattle.table.specs.Fronts.{KeptFrom}
 use Rattle.anchor.specs.Anchor.{anchorEdge}
 use Rattle.anchor.specs.Anchors.{Anchors, listedAnchor, AnchorRoom, AnchorsOnGrid, less-room, fewer-anchors}
-use Rattle.order.specs.HoleOrder.{goesBefore, slot, sorted, holesBelow}
+use Rattle.precede.specs.Precedence.{goesBefore}
+use Rattle.order.specs.HoleOrder.{slot, sorted, holesBelow}
 
 -- room for n holes
 pub record Room (who : List ℕ) (h : Anchors) (n : ℕ) : Type 0 where

@@ -1,23 +1,14 @@
 -- Binding's order of the holes.
 use Prim.Native.Nat.{ℕ, zero, suc}
-use mathlib.Core.Bool.{Bool, not, _&&_, _||_}
+use mathlib.Core.Bool.{Bool}
 use mathlib.Core.List.{List, [], _∷_, _++_}
 use lib.ListN.{length, getD, take, drop}
-use lib.Dec.{ltb}
-use lib.IntN.{pos}
 use Rattle.laws.specs.Test.{pick}
-use Rattle.laws.specs.Compare.{lower}
-use Rattle.turn.specs.Points.{before, cross}
 use Rattle.table.specs.Table.{Table, contourCount, isHole}
-use Rattle.anchor.specs.declared.Anchor.{Anchor}
-use Rattle.anchor.specs.Anchor.{anchorEdge, anchorWay}
+use Rattle.anchor.specs.Anchor.{anchorEdge}
+use Rattle.precede.specs.Precedence.{goesBefore}
 
--- "holes go by anchor, then by the anchor edge's angle, lowest first, then by number": whether hole c, with the anchor a, goes before hole d, with the anchor b
-abbrev pub goesBefore : Anchor → Anchor → ℕ → ℕ → Bool
-goesBefore a b c d =
-    before (a .at) (b .at) || (not (before (b .at) (a .at))
-    && lower (pos 0) (cross (anchorWay a) (anchorWay b)) (ltb c d))
-
+-- two holes of a table
 abbrev pub precedes : Table → Bool → ℕ → ℕ → Bool
 precedes t cw c d = goesBefore (anchorEdge t cw c) (anchorEdge t cw d) c d
 

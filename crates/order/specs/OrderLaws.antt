@@ -28,7 +28,8 @@ use Rattle.anchor.specs.declared.Anchor.{Anchor}
 use Rattle.anchor.specs.Anchor.{anchorEdge, anchorWay}
 use Rattle.anchor.specs.Anchored.{Anchored}
 use Rattle.anchor.specs.AnchorLaws.{Onward, onward, edge-ahead}
-use Rattle.order.specs.HoleOrder.{goesBefore, precedes, holesBelow, holes, hole, bindingOrder}
+use Rattle.precede.specs.Precedence.{goesBefore}
+use Rattle.order.specs.HoleOrder.{precedes, holesBelow, holes, hole, bindingOrder}
 use Rattle.order.specs.HoleLaws.{Rising, holes-rising, holes-are}
 use Rattle.order.specs.Insertion.{Strict, InOrder, sorted-in-order, count-all}
 

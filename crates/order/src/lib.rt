@@ -1,13 +1,9 @@
 // Binding's order of the holes: the holes gathered with their anchors, and put in order by insertion.
-use anchor::Anchor;
-ghost use mathlib.Core.Path.{_≡_};
 ghost use Prim.Native.Nat.{ℕ, suc, _<_, _≤_};
 ghost use lib.ListN.{length, getD};
-ghost use Rattle.turn.specs.Points.{OnGrid};
 ghost use Rattle.table.specs.Table.{Table, table, maxContours};
 ghost use Rattle.table.specs.Sound.{Sound};
 ghost use Rattle.anchor.specs.Anchors.{Anchors, anchors};
-ghost use Rattle.order.specs.HoleOrder.{goesBefore};
 ghost use Rattle.order.specs.HoleLists.{Room, Bounded, slotOf};
 ghost use Rattle.order.specs.Insertion.{InsertedInto};
 ghost use Rattle.order.specs.Promises.{gather-holes-says, order-holes-says};
@@ -52,21 +48,6 @@ pub fn gather_holes(
     m
 }
 
-// Hole c, with the anchor a, goes before hole d, with the anchor b.
-fn goes_before(a: Anchor, b: Anchor, c: u32, d: u32) -> bool
-    requires { ⌜ (OnGrid (a .at)) × (OnGrid (a .to)) × (OnGrid (b .at)) × (OnGrid (b .to)) ⌝ }
-    ensures { λ r. ⌜ r ≡ goesBefore a b c d ⌝ }
-{
-    if turn::before(a.at, b.at) {
-        return true;
-    }
-    if turn::before(b.at, a.at) {
-        return false;
-    }
-    let angle = turn::cross_product(turn::between(a.at, a.to), turn::between(b.at, b.to));
-    (0 < angle) | (!(angle < 0) & (c < d))
-}
-
 // Hole j goes among the first j of `ord`, in front of those at the end that it goes before.
 fn insert(who: &[u32], x: &[i32], y: &[i32], to_x: &[i32], to_y: &[i32], ord: &mut [u32], j: usize)
     requires { ⌜ (Bounded (now who) (anchors (now x) (now y) (now «to_x») (now «to_y»)) (suc j)) × (j < maxContours) ⌝ }
@@ -81,7 +62,7 @@ fn insert(who: &[u32], x: &[i32], y: &[i32], to_x: &[i32], to_y: &[i32], ord: &m
         let d = ord[p - 1];
         let i = d as usize;
         let b = anchor::listed_anchor(x, y, to_x, to_y, i);
-        if goes_before(a, b, c, who[i]) {
+        if precede::goes_before(a, b, c, who[i]) {
             ord[p] = d;
             p -= 1;
         } else {

@@ -25,7 +25,8 @@ use Rattle.candidates.specs.Candidates.{rightward}
 use Rattle.nearest.specs.Search.{searchUnder}
 use Rattle.nearest.specs.SearchLists.{giving, SortedAnchors}
 use Rattle.nearest.specs.Least.{under-few}
-use Rattle.order.specs.HoleOrder.{goesBefore, precedes, sorted, holes, hole, bindingOrder}
+use Rattle.precede.specs.Precedence.{goesBefore}
+use Rattle.order.specs.HoleOrder.{precedes, sorted, holes, hole, bindingOrder}
 use Rattle.order.specs.HoleLaws.{Rising, holes-rising, holes-are}
 use Rattle.order.specs.HoleLists.{Room, Gathered, Bounded, byAnchor, Ordered}
 use Rattle.order.specs.Insertion.{sorted-length, sorted-image, entries}

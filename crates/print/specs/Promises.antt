@@ -4,16 +4,10 @@ use mathlib.Core.List.{List}
 use Rattle.writing.specs.Write.{Wrote}
 use Rattle.writing.specs.Promises.{WritesOnce, wrote-once}
 use Rattle.print_lines.specs.declared.Totals.{Totals}
-use Rattle.print.specs.Answer.{OwnedTable, printed, printedRefusal}
+use Rattle.print.specs.Answer.{OwnedTable, printed}
 
 abbrev pub write-answer-says : OwnedTable → Totals → List ℕ → List ℕ → ℕ → Type 0
 write-answer-says t totals old new r = Wrote old new 0 r (printed t totals)
 
 pub write-answer-once : (t : OwnedTable) (totals : Totals) (old : List ℕ) → WritesOnce (write-answer-says t totals old)
 write-answer-once t totals old = wrote-once old 0 (printed t totals)
-
-abbrev pub write-refusal-says : ℕ → ℕ → List ℕ → List ℕ → ℕ → Type 0
-write-refusal-says number place old new r = Wrote old new 0 r (printedRefusal number place)
-
-pub write-refusal-once : (number place : ℕ) (old : List ℕ) → WritesOnce (write-refusal-says number place old)
-write-refusal-once number place old = wrote-once old 0 (printedRefusal number place)

@@ -8,9 +8,9 @@ ghost use Prim.Native.Nat.{_+_, _*_, _<_, _≤_};
 ghost use lib.ListN.{length};
 ghost use Rattle.writing.specs.Cuts.{Cut};
 ghost use Rattle.writing.specs.Write.{Wrote};
-ghost use Rattle.print.specs.Room.{answerBytes, refusalBytes, RangesInside, Printable};
+ghost use Rattle.print.specs.Room.{answerBytes, RangesInside, Printable};
 ghost use Rattle.print.specs.Answer.{OwnedTable, ownedTable, pointLines, contourLines, contoursFrom};
-ghost use Rattle.print.specs.Promises.{write-answer-says, write-refusal-says};
+ghost use Rattle.print.specs.Promises.{write-answer-says};
 
 // Room for every answer: the first line, 24 bytes for a contour's line and 16 for a point's.
 pub const ANSWER_BYTES: usize = 51 + 24 * MAX_CONTOURS + 16 * MAX_LINKS;
@@ -27,7 +27,7 @@ fn write_points(points: &[i32], first: usize, count: usize, out: &mut [u8], at: 
     while p < end {
         let x = points[2 * p];
         let y = points[2 * p + 1];
-        next = print_lines::write_point(x, y, out, next);
+        next = print_point::write_point(x, y, out, next);
         p += 1;
     }
     next
@@ -55,7 +55,7 @@ fn write_contour(
         Wrote (now (out .entry)) (now (out .exit)) at r (contourLines t i)) ⌝ }
 {
     let count = len[i];
-    let next = print_lines::write_contour_line(i, kind[i], owner[i], count, out, at);
+    let next = print_contour::write_contour_line(i, kind[i], owner[i], count, out, at);
     write_points(points, first[i] as usize, count as usize, out, next)
 }
 
@@ -113,15 +113,4 @@ pub fn write_answer(
     let contours = totals.contours;
     let next = print_lines::write_header(totals, out);
     write_contours(points, first, len, kind, owner, contours, out, next)
-}
-
-// "A program's refusal prints one line, as `refused 3 at 2`".
-pub fn write_refusal(number: u32, place: usize, out: &mut [u8]) -> usize
-    requires { ⌜ refusalBytes ≤ length (now out) ⌝ }
-    ensures { λ r. ⌜ write-refusal-says number place (now (out .entry)) (now (out .exit)) r ⌝ }
-    ensures { λ r. ⌜ Cut r (now (out .exit)) ⌝ }
-{
-    let a = print_text::write_said(b"refused ", number as u64, out, 0);
-    let b = print_text::write_said(b" at ", place as u64, out, a);
-    print_text::write_text(b"\n", out, b)
 }

@@ -4,7 +4,7 @@ use native.Mathlib.Omega.{arith}
 use Rattle.print.specs.Answer.{ownedTable, contoursFrom, printed}
 use Rattle.print_lines.specs.Lines.{header}
 use Rattle.writing.specs.Write.{left-from-0, left-after, left-last, piece-fits, last-fits, wrote-cut}
-use Rattle.print.proofs.Lengths.{answer-short}
+use Rattle.print.specs.Lengths.{answer-short}
 use borrow.Author.Needs.{needs}
 use Rattle.print.proofs.write_answer.Statement.{statement}
 use Rattle.print.proofs.write_answer.Tie as tie

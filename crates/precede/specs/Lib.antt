@@ -1,0 +1,3 @@
+-- The definition that the contract cites.
+pub mod Precedence
+pub mod Promises
