@@ -1,21 +1,17 @@
 -- The points of a finished walk: neighbours round it differ, and all are on the grid.
 use Prim.Native.Nat.{ℕ, zero, suc, _<_}
 use native.Mathlib.Omega.{arith}
-use mathlib.Core.Path.{_≡_, refl, sym, _∙_, subst}
-use mathlib.Core.Logic.{_⊎_, ⊎-elim}
+use mathlib.Core.Path.{_≡_, refl, sym, _∙_}
 use mathlib.Core.Bool.{Bool, true, false}
-use mathlib.Core.List.{List, [], _∷_, map, List·Memᴰ, List·Memᴰ·head, List·Memᴰ·tail, List·Memᴰ·cases-cons, List·Memᴰ·not-nil}
-use lib.ListN.{length, getD, set, length-set}
+use mathlib.Core.List.{List, [], _∷_, map, List·Memᴰ, List·Memᴰ·head, List·Memᴰ·tail}
+use lib.ListN.{length, getD}
 use Rattle.laws.specs.Test.{pick, pick-ind}
 use Rattle.turn.specs.Points.{differ, OnGrid}
 use Rattle.turn.specs.PointOrder.{before-differ, differ-sym}
 use Rattle.graph.specs.Graph.{Graph, Lent, graphOf}
 use Rattle.graph.specs.Checks.{Room}
 use Rattle.graph.specs.Fine.{FineGraph}
-use Rattle.next.specs.States.{unvisited-below}
-use Rattle.walk.specs.Walk.{Step, Walk, left, marked, markOf}
-use Rattle.walk.specs.Visits.{Fresh}
-use Rattle.scan.specs.Visits.{AllFresh}
+use Rattle.walk.specs.Walk.{Step, left}
 use Rattle.tour.specs.Statement.{nodeLeft, nodeReached, reached, Line}
 use Rattle.straighten.specs.Reread.{origin}
 

@@ -4,12 +4,10 @@ use native.Mathlib.Omega.{arith}
 use native.Mathlib.Numerals.{add-one}
 use native.Mathlib.Decide.{ℕ-discrete}
 use mathlib.Core.Path.{_≡_, refl, sym, ap, ap₂, _∙_, subst}
-use mathlib.Core.Logic.{_⊎_, ⊎-elim}
 use mathlib.Core.Bool.{Bool, true, false}
-use mathlib.Core.List.{List, [], _∷_, _++_, map, List·Memᴰ, List·Memᴰ·head, List·Memᴰ·tail, List·Memᴰ·cases-cons, List·Memᴰ·not-nil}
+use mathlib.Core.List.{List, [], _∷_, map, List·Memᴰ, List·Memᴰ·head, List·Memᴰ·tail}
 use lib.ListN.{length, getD, length-map}
-use lib.Dec.{eqb}
-use Rattle.laws.specs.Test.{pick, pick-ind}
+use Rattle.laws.specs.Test.{pick}
 use Rattle.laws.specs.Lists.{member}
 use Rattle.turn.specs.declared.Point.{Point}
 use Rattle.turn.specs.Points.{differ, Grid, OnGrid}
@@ -17,10 +15,9 @@ use Rattle.graph.specs.Graph.{Graph, Lent, graphOf}
 use Rattle.graph.specs.Checks.{Room, checked}
 use Rattle.turn.specs.declared.Checked.the-variants.{Fine}
 use Rattle.graph.specs.Fine.{FineGraph, fine}
-use Rattle.next.specs.Next.{unvisited}
 use Rattle.walk.specs.Walk.{Step, Walk, left, points}
 use Rattle.scan.specs.Scan.{walks, scan}
-use Rattle.keep.specs.Outcome.{keeps, kept, lens, firsts, kinds, allPoints, coordinates, sum}
+use Rattle.keep.specs.Outcome.{kept, lens, firsts, kinds, allPoints, coordinates, sum}
 use Rattle.keep.specs.Ledger.{coordinates-length, all-points-length, firsts-length}
 use Rattle.scan.specs.Visits.{scanned}
 use Rattle.tour.specs.Statement.{Line}

@@ -1,15 +1,15 @@
 -- What extraction leaves is a table that the pass over it can read, and what the pass leaves is the definition's outcome.
-use Prim.Native.Nat.{ℕ, suc, _+_, _*_, _-_, _≤_, _<_}
+use Prim.Native.Nat.{ℕ, _*_, _-_, _≤_, _<_}
 use native.Mathlib.Omega.{arith}
 use mathlib.Core.Path.{_≡_, refl, sym, ap, ap₂, _∙_, subst}
-use mathlib.Core.Bool.{Bool, true, false, true≢false}
-use mathlib.Core.List.{List, [], _∷_, map, List·Memᴰ}
+use mathlib.Core.Bool.{Bool, true, false}
+use mathlib.Core.List.{List, [], _∷_}
 use lib.ListN.{length, getD, replicate, length-map}
 use lib.IntN.{ℤ, pos}
 use Rattle.laws.specs.Test.{pick, pick-ind}
 use Rattle.laws.specs.Lists.{padded, member}
 use Rattle.turn.specs.Points.{OnGrid}
-use Rattle.graph.specs.Graph.{Graph, pointAt}
+use Rattle.graph.specs.Graph.{Graph}
 use Rattle.next.specs.Known.{Links}
 use Rattle.rings.specs.Field.{Reads}
 use Rattle.walk.specs.Walk.{Step, Walk, left, points}
@@ -17,7 +17,6 @@ use Rattle.walk.specs.States.{unvisited-some}
 use Rattle.keep.specs.declared.Counts.{Counts}
 use Rattle.keep.specs.Outcome.{kept, lens, firsts, allPoints, coordinates, sum, countsOf}
 use Rattle.keep.specs.Ledger.{coordinates-length, all-points-length, firsts-length}
-use Rattle.contour.specs.declared.Settings.{Settings}
 use Rattle.contour.specs.Notes.{Roomy}
 use Rattle.scan.specs.declared.Extraction.{Extraction}
 use Rattle.scan.specs.declared.Extraction.the-variants.{Done, Refused}
@@ -26,13 +25,12 @@ use Rattle.scan.specs.Visits.{scanned}
 use Rattle.finish.specs.Finish.{Buffers, buffers}
 use Rattle.extraction.specs.Extract.{Extracted, extractedAs, afterWalks, afterScan}
 use Rattle.table.specs.Table.{pointIn}
-use Rattle.straighten.specs.Runs.{sizesFrom, contoursOf, cornersOf, Positive, RunOnGrid, Stands}
-use Rattle.straighten.specs.Promises.{Straightened, rewritten}
+use Rattle.straighten.specs.Runs.{sizesFrom, Positive, Stands}
 use Rattle.straighten.specs.Reread.{origin, point-of, sizes-read, padded-length}
-use Rattle.outlines.specs.Outlines.{straightScan, drawn}
-use Rattle.outlines.specs.Straightening.{AllSpikeless, kept-spikeless, contours, sizes-walks, straightened-as}
+use Rattle.outlines.specs.Outlines.{straightScan}
+use Rattle.outlines.specs.Straightening.{kept-spikeless, contours, sizes-walks, straightened-as}
 use Rattle.outlines.specs.Grid.{Threes, walked-below, kept-of, kept-sum, kept-threes, threes-sum, points-on-grid}
-use Rattle.outlines.specs.Promises.{Answered, answered, straightBy, StandsFor, SpikelessScan}
+use Rattle.outlines.specs.Promises.{Answered, straightBy, StandsFor, SpikelessScan}
 
 positive : (ks : List Walk) → Threes ks → Positive (lens ks)
 positive [] h = tt

@@ -7,13 +7,13 @@ use lib.ListN.{length}
 use Rattle.laws.specs.Test.{pick}
 use Rattle.turn.specs.declared.Checked.{Checked}
 use Rattle.turn.specs.declared.Checked.the-variants as check
-use Rattle.graph.specs.Graph.{Graph, Lent, graphOf}
+use Rattle.graph.specs.Graph.{Lent, graphOf}
 use Rattle.graph.specs.Checks.{room, checked}
 use Rattle.contour.specs.declared.Settings.{Settings}
 use Rattle.scan.specs.declared.Extraction.the-variants.{Refused}
 use Rattle.scan.specs.Scan.{scan}
 use Rattle.finish.specs.Finish.{Buffers}
-use Rattle.extraction.specs.Extract.{Extracted, extractedAs, afterScan, extracted}
+use Rattle.extraction.specs.Extract.{extractedAs, afterScan, extracted}
 use Rattle.extraction.specs.Lends as plain
 use Rattle.outlines.specs.Outlines.{straightScan, straightChecks, extractedStraight, drawn, outlined}
 

@@ -1,31 +1,29 @@
 -- Where no contour has a spike, dropping points on a straight line leaves of each contour its corners, and leaves no contour out: so the pass of
 -- `straighten` over
 -- what extraction wrote comes to the definition.
-use Prim.Native.Nat.{ℕ, suc, _+_, _*_, _≤_, _<_}
+use Prim.Native.Nat.{ℕ, _+_, _*_, _≤_}
 use native.Mathlib.Omega.{arith}
 use mathlib.Core.Path.{_≡_, refl, sym, ap, ap₂, _∙_, subst}
-use mathlib.Core.Bool.{Bool, true, false}
+use mathlib.Core.Bool.{true}
 use mathlib.Core.List.{List, [], _∷_, _++_, map}
 use lib.ListN.{length, length-map}
-use lib.Dec.{leb}
-use lib.IntN.{ℤ, pos}
+use lib.IntN.{pos}
 use borrow.Author.Tests.{le-leb}
 use Rattle.laws.specs.Test.{pick, pick-true, pick-ind}
 use Rattle.laws.specs.Lists.{padded}
 use Rattle.turn.specs.declared.Point.{Point}
 use Rattle.graph.specs.Graph.{Graph}
 use Rattle.walk.specs.Walk.{Walk, points, left}
-use Rattle.keep.specs.declared.Counts.{Counts}
 use Rattle.keep.specs.Outcome.{keeps, kept, lens, firsts, kinds, allPoints, coordinates, sum, countsOf}
 use Rattle.keep.specs.Ledger.{coordinates-length, all-points-length, firsts-length}
 use Rattle.finish.specs.Finish.{Buffers, buffers}
 use Rattle.scan.specs.declared.Extraction.the-variants.{Done}
-use Rattle.extraction.specs.Extract.{Extracted, extractedAs, done, afterWalks}
+use Rattle.extraction.specs.Extract.{extractedAs, done, afterWalks}
 use Rattle.straight.specs.Straight.{dropStraight}
 use Rattle.straight.specs.Corners.{allCorners, Spikeless, corners-left, corners-few}
 use Rattle.straighten.specs.Runs.{contoursOf, cornersOf, sizes, joined}
 use Rattle.straighten.specs.Promises.{Straightened, rewritten, withPoints}
-use Rattle.straighten.specs.Reread.{contours-read, joined-length, numbers-rewritten, points-rewritten, padded-length}
+use Rattle.straighten.specs.Reread.{contours-read, numbers-rewritten, points-rewritten, padded-length}
 use Rattle.outlines.specs.Outlines.{Outline, straightened, isWhole, whole, leftOut, outlineSizes, outlineKinds, outlinePoints, outlinesOf}
 use Rattle.outlines.specs.Outlines.{straightCounts, afterStraight}
 

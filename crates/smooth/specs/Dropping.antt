@@ -6,7 +6,7 @@ use native.Mathlib.Omega.{arith}
 use mathlib.Core.Path.{_≡_, refl, sym, ap, ap₂, _∙_, subst}
 use mathlib.Core.Logic.{_⊎_, ⊎-elim}
 use mathlib.Core.Bool.{Bool}
-use mathlib.Core.List.{List, [], _∷_, map, List·Memᴰ, List·Memᴰ·head, List·Memᴰ·tail, List·Memᴰ·cases-cons, List·Memᴰ·not-nil}
+use mathlib.Core.List.{List, [], _∷_, map, List·Memᴰ, List·Memᴰ·cases-cons, List·Memᴰ·not-nil}
 use lib.ListN.{length, length-map}
 use Rattle.laws.specs.Lists.{padded}
 use Rattle.turn.specs.declared.Point.{Point}
@@ -18,16 +18,14 @@ use Rattle.graph.specs.Checks.{Room, room, checked}
 use Rattle.walk.specs.Walk.{Walk, points}
 use Rattle.keep.specs.declared.Counts.{Counts}
 use Rattle.keep.specs.Outcome.{areaOf, kept, kinds, countsOf}
-use Rattle.scan.specs.declared.Extraction.{Extraction}
 use Rattle.scan.specs.declared.Extraction.the-variants.{Done, Refused}
 use Rattle.scan.specs.Scan.{Scanned, stopped, walks, scan}
 use Rattle.scan.specs.Visits.{scanned}
 use Rattle.finish.specs.Finish.{Buffers}
 use Rattle.extraction.specs.Extract.{Extracted, afterScan, afterChecks, extracted}
-use Rattle.straight.specs.Straight.{dropStraight}
 use Rattle.straight.specs.Corners.{allCorners, corners-left}
 use Rattle.straight.specs.Areas.{area-stays}
-use Rattle.outlines.specs.Outlines.{Outline, straightened, whole, leftOut, outlineKinds}
+use Rattle.outlines.specs.Outlines.{Outline, straightened, whole, outlineKinds}
 use Rattle.outlines.specs.Outlines.{outlinesOf, straightCounts, straightScan, straightChecks, extractedStraight}
 use Rattle.outlines.specs.Straightening.{AllSpikeless, kept-spikeless, all-whole, none-left-out, same-kinds}
 use Rattle.smooth.specs.Spikes.{spikeless}

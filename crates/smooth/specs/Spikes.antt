@@ -1,7 +1,7 @@
 -- By check 7 no contour of a graph that passes its checks has a spike: where a walk goes on at a node, it does so along another link, and no two links run
 -- from a
 -- node in the same direction.
-use Prim.Native.Nat.{ℕ, suc, _≤_, _<_}
+use Prim.Native.Nat.{ℕ, _≤_}
 use native.Mathlib.Omega.{arith}
 use mathlib.Core.Path.{_≡_, refl, sym, ap, ap₂, _∙_, subst}
 use mathlib.Core.Logic.{_⊎_, inl, inr, ⊎-elim}
@@ -23,7 +23,7 @@ use Rattle.graph.specs.Checks.{Room, checked, awayFrom}
 use Rattle.walk.specs.Walk.{Step, Walk, left, points, marked, markOf}
 use Rattle.walk.specs.States.{Unvisited, Mark, set-of}
 use Rattle.walk.specs.Visits.{Fresh, mark-of}
-use Rattle.scan.specs.Scan.{walks, scan}
+use Rattle.scan.specs.Scan.{walks}
 use Rattle.scan.specs.Visits.{AllFresh, scanned}
 use Rattle.tour.specs.Statement.{nodeLeft, nodeReached, Line, reached}
 use Rattle.tour.specs.Sums.{meet}

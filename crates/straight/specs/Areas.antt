@@ -8,7 +8,7 @@ use lib.Dec.{ltb}
 use lib.IntN.{ℤ, pos, _+ℤ_, +ℤ-idr, +ℤ-assoc, +ℤ-comm}
 use Rattle.laws.specs.Test.{pick, true-is}
 use Rattle.laws.specs.Ring.{ring, var, con, _:+_, _:-_, _:*_}
-use Rattle.laws.specs.Sign.{zer, sgn, eqS-eq, sgn-zer}
+use Rattle.laws.specs.Sign.{eqS-eq, sgn-zer}
 use Rattle.turn.specs.declared.Point.{Point}
 use Rattle.turn.specs.Points.{turn}
 use Rattle.turn.specs.Area.{wedge, areaTo, area}

@@ -4,7 +4,7 @@ use mathlib.Core.Path.{_≡_, refl, sym, ap, _∙_}
 use mathlib.Core.Bool.{Bool, true, false, not, _&&_}
 use mathlib.Core.List.{List, [], _∷_}
 use lib.IntN.{ℤ, negℤ, _+ℤ_}
-use Rattle.laws.specs.Test.{Is, yes!, is-true, true-is, true≢false, fst&, snd&, _⇒_, _&_, mp}
+use Rattle.laws.specs.Test.{Is, yes!, true-is, true≢false, fst&, snd&, _⇒_, _&_, mp}
 use Rattle.laws.specs.Ring.{ring, Ex, var, _:+_, _:-_, _:*_, neg}
 use Rattle.laws.specs.Sign.{Sgn, mns, zer, pls, sgn, flip, _⊗_, eqS, is-mns, plusOk, all3, all6, eqS-eq, sgn-neg, sgn-add, three}
 use Rattle.turn.specs.declared.Point.{Point}

@@ -1,5 +1,5 @@
 -- Where a contour has no spike, the rule leaves the corners of the full contour and three points at least: a removal leaves every other bend as it was.
-use Prim.Native.Nat.{ℕ, zero, suc, _+_, _≤_, _<_}
+use Prim.Native.Nat.{ℕ, zero, suc, _+_, _≤_}
 use native.Mathlib.Omega.{arith}
 use mathlib.Core.Path.{_≡_, refl, sym, ap, _∙_, subst}
 use mathlib.Core.Logic.{_⊎_, inl, inr, ⊎-elim}
@@ -11,7 +11,7 @@ use borrow.Author.Tests.{le-ltb}
 use Rattle.laws.specs.Test.{pick, pick-false, not-true, true≢false}
 use Rattle.turn.specs.declared.Point.{Point}
 use Rattle.straight.specs.Straight.{onLine, headOr, lastOr, without, removeLowest, removal, removals, dropStraight}
-use Rattle.straight.specs.Bends.{Bend, bend, level, back, spike, Ahead, next-gone, before-gone, triangle-spike}
+use Rattle.straight.specs.Bends.{bend, level, back, spike, Ahead, next-gone, before-gone, triangle-spike}
 
 -- ---- the corners: the points that do not lie on one line with their neighbours in the full contour
 abbrev pub corners : Point → Point → List Point → List Point

@@ -1,7 +1,7 @@
 -- The rule on bare lists of points, by computing.
 use Prim.Native.Nat.{ℕ}
 use mathlib.Core.Path.{_≡_, refl}
-use mathlib.Core.List.{List, [], _∷_}
+use mathlib.Core.List.{[], _∷_}
 use lib.IntN.{pos}
 use Rattle.turn.specs.declared.Point.{Point}
 use Rattle.straight.specs.Straight.{dropStraight}

@@ -1,21 +1,20 @@
 -- The pass over one contour: what is written so far and the corners of what is still to be read make the corners of the whole.
 use Prim.Native.Nat.{ℕ, zero, suc, _+_, _*_, _-_, _≤_, _<_}
 use native.Mathlib.Omega.{arith}
-use native.Mathlib.Numerals.{add-one}
-use mathlib.Core.Path.{_≡_, refl, sym, ap, ap₂, _∙_, subst}
+use mathlib.Core.Path.{_≡_, refl, sym, ap, _∙_, subst}
 use mathlib.Core.Bool.{Bool, true, false}
 use mathlib.Core.List.{List, [], _∷_}
 use lib.ListN.{length, getD, set, length-set}
 use lib.Seq.{getD-set-other}
 use lib.IntN.{ℤ, pos}
-use Rattle.laws.specs.Test.{pick, pick-ind}
+use Rattle.laws.specs.Test.{pick}
 use Rattle.turn.specs.declared.Point.{Point}
 use Rattle.turn.specs.declared.Vector.{Vector}
 use Rattle.turn.specs.Points.{OnGrid, Short, fromTo}
 use Rattle.leave.specs.Points.{put}
 use Rattle.walk.specs.Code.{paste}
 use Rattle.table.specs.Table.{pointIn}
-use Rattle.straight.specs.Straight.{onLine, headOr, lastOr}
+use Rattle.straight.specs.Straight.{onLine, lastOr}
 use Rattle.straight.specs.Corners.{corners, allCorners}
 use Rattle.straighten.specs.Runs.{level, run, RunOnGrid}
 use Rattle.straighten.proofs.Tests.{by-edges}

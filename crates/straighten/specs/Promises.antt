@@ -1,7 +1,7 @@
 -- What each public function promises, written once: its contract names it, and any two outcomes that it allows are equal.
 use Prim.Native.Nat.{ℕ, _*_}
 use mathlib.Core.List.{List}
-use mathlib.Core.Path.{_≡_, refl}
+use mathlib.Core.Path.{_≡_}
 use lib.IntN.{ℤ, pos}
 use lib.Seq.{sets}
 use Rattle.laws.specs.Lists.{mapFrom}

@@ -2,10 +2,10 @@
 use Prim.Native.Nat.{ℕ, zero, suc, _+_, _*_, _-_, _≤_, _<_}
 use native.Mathlib.Omega.{arith}
 use native.Mathlib.Numerals.{add-one}
-use mathlib.Core.Path.{_≡_, refl, sym, ap, ap₂, _∙_, subst}
-use mathlib.Core.List.{List, [], _∷_, _++_, map}
+use mathlib.Core.Path.{_≡_, refl, sym, ap, ap₂, _∙_}
+use mathlib.Core.List.{List, [], _∷_, _++_}
 use lib.ListN.{length, getD, take, drop, replicate, length-append, length-drop, length-map, length-replicate, List·getD-append}
-use lib.Seq.{sets, sets-eq, take-at, drop-at, drop-cons, drop-drop, take-append-seam, drop-append-seam}
+use lib.Seq.{sets, sets-eq, take-at, drop-cons, drop-drop, take-append-seam, drop-append-seam}
 use lib.IntN.{ℤ, pos}
 use Rattle.laws.specs.Lists.{mapFrom, padded}
 use Rattle.turn.specs.declared.Point.{Point}

@@ -1,14 +1,12 @@
 // Points on a straight line are dropped from what extraction wrote, in one pass over it. Where no contour has a spike this is the rule of `straight`.
 ghost use mathlib.Core.Path.{_≡_};
-ghost use mathlib.Core.List.{List};
-ghost use Prim.Native.Nat.{ℕ, _+_, _*_, _<_, _≤_};
+ghost use Prim.Native.Nat.{_+_, _*_, _<_, _≤_};
 ghost use lib.ListN.{length};
 ghost use lib.Seq.{sets};
 ghost use Rattle.laws.specs.Test.{pick};
 ghost use Rattle.turn.specs.Points.{Short};
 ghost use Rattle.leave.specs.Points.{put};
 ghost use Rattle.walk.specs.Code.{paste};
-ghost use Rattle.table.specs.Table.{pointIn};
 ghost use Rattle.straight.specs.Corners.{allCorners};
 ghost use Rattle.keep.specs.Outcome.{firsts, sum};
 ghost use Rattle.straighten.specs.Runs.{level, run, RunOnGrid, contoursOf, cornersOf, sizes, joined, Stands};

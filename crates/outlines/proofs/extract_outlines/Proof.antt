@@ -1,12 +1,6 @@
 -- `outlines::extract_outlines` meets its contract: what extraction leaves, and then, where asked for, without points on a straight line.
 use borrow.Author.Needs.{needs}
-use lib.ListN.{length}
-use mathlib.Core.Path.{_≡_}
-use Rattle.graph.specs.Graph.{Graph}
-use Rattle.rings.specs.Field.{Field}
-use Rattle.scan.specs.Scan.{scan}
 use Rattle.finish.specs.Finish.{Buffers, buffers}
-use Rattle.extraction.specs.Extract.{extractedAs, afterScan}
 use Rattle.outlines.specs.Promises.{answered}
 use Rattle.outlines.proofs.Outlining.{stands-after, drawn-as}
 use Rattle.outlines.proofs.extract_outlines.Statement.{statement}

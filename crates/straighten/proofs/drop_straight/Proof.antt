@@ -1,16 +1,15 @@
 -- `straighten::drop_straight` meets its contract: the pass, then zeros past what it left.
 use Prim.Native.Nat.{_*_, _≤_}
 use native.Mathlib.Omega.{arith}
-use mathlib.Core.Path.{_≡_, refl, sym, ap, ap₂, _∙_, subst}
+use mathlib.Core.Path.{ap₂, _∙_}
 use borrow.Author.Needs.{needs}
 use lib.IntN.{pos}
-use lib.ListN.{length}
 use mir.Syntax.{w64}
 use mir.ValLaws.{toZ-ofZ}
 use Rattle.laws.specs.Lists.{mapFrom}
 use Rattle.keep.specs.Outcome.{sum}
 use Rattle.straighten.specs.Runs.{sizesFrom}
-use Rattle.straighten.specs.Promises.{Straightened, withPoints}
+use Rattle.straighten.specs.Promises.{withPoints}
 use Rattle.straighten.proofs.Table.{corners-total}
 use Rattle.straighten.proofs.drop_straight.Statement.{statement}
 use Rattle.straighten.proofs.drop_straight.Tie as tie

@@ -1,5 +1,5 @@
 -- `straighten::keep_corner` meets its contract: by the sign of the cross product.
-use mathlib.Core.Path.{_≡_, refl, sym, ap, _∙_}
+use mathlib.Core.Path.{_≡_, sym, _∙_}
 use mathlib.Core.Bool.{true, false}
 use borrow.Author.Needs.{needs}
 use Rattle.laws.specs.Test.{pick-true, pick-false}
