@@ -3,21 +3,16 @@
 -- node in the same direction.
 use Prim.Native.Nat.{ℕ, _≤_}
 use native.Mathlib.Omega.{arith}
-use mathlib.Core.Path.{_≡_, refl, sym, ap, ap₂, _∙_, subst}
+use mathlib.Core.Path.{_≡_, refl, sym, ap, _∙_, subst}
 use mathlib.Core.Logic.{_⊎_, inl, inr, ⊎-elim}
-use mathlib.Core.Bool.{Bool, true, false, not, _&&_}
+use mathlib.Core.Bool.{Bool, true, false}
 use mathlib.Core.List.{List, [], _∷_, map, List·Memᴰ, List·Memᴰ·head, List·Memᴰ·tail, List·Memᴰ·cases-cons, List·Memᴰ·not-nil}
 use lib.ListN.{length, set, length-map}
-use lib.IntN.{ℤ, negℤ}
-use Rattle.laws.specs.Test.{Is, yes! }
-use Rattle.laws.specs.Ring.{ring, var, _:+_, _:-_, _:*_, neg}
-use Rattle.laws.specs.Sign.{Sgn, mns, zer, pls, sgn, flip, eqS, sgn-neg}
+use Rattle.laws.specs.Test.{Is}
 use Rattle.turn.specs.declared.Point.{Point}
-use Rattle.turn.specs.declared.Vector.{Vector}
 use Rattle.turn.specs.declared.Checked.the-variants.{Fine}
-use Rattle.turn.specs.Points.{fromTo, cross, dot, turn}
+use Rattle.turn.specs.Points.{fromTo}
 use Rattle.turn.specs.Angle.{sameDirection, nonzero}
-use Rattle.turn.specs.Directions.{law}
 use Rattle.graph.specs.Graph.{Lent, Graph, graphOf}
 use Rattle.graph.specs.Checks.{Room, checked, awayFrom}
 use Rattle.walk.specs.Walk.{Step, Walk, left, points, marked, markOf}
@@ -31,43 +26,10 @@ use Rattle.tour.specs.Sound.{Sound, below}
 use Rattle.tour.specs.Passing.{sound}
 use Rattle.tour.specs.ThreePoints.{away-left, away-reached, at-node, unvisited-before, finished}
 use Rattle.straight.specs.Straight.{lastOr}
-use Rattle.straight.specs.Bends.{spike}
+use Rattle.straight.specs.Bends.{spike, no-spike}
 use Rattle.straight.specs.Corners.{Smooth, Spikeless}
 use Rattle.outlines.specs.Straightening.{AllSpikeless}
 use Rattle.outlines.specs.Promises.{SpikelessScan}
-
--- ---- two edges that leave a point in different directions make no spike there
-module _ (p q r : Point) where
-  abbrev coordinates : List ℤ
-  coordinates = p .x ∷ p .y ∷ q .x ∷ q .y ∷ r .x ∷ r .y ∷ []
-
-  side-is : turn p q r ≡ negℤ (cross (fromTo q p) (fromTo q r))
-  side-is = ring coordinates
-      ((var 2 :- var 0) :* (var 5 :- var 1) :- (var 3 :- var 1) :* (var 4 :- var 0))
-      (neg ((var 0 :- var 2) :* (var 5 :- var 3) :- (var 1 :- var 3) :* (var 4 :- var 2))) tt
-
-  way-is : dot (fromTo p q) (fromTo q r) ≡ negℤ (dot (fromTo q p) (fromTo q r))
-  way-is = ring coordinates
-      ((var 2 :- var 0) :* (var 4 :- var 2) :+ (var 3 :- var 1) :* (var 5 :- var 3))
-      (neg ((var 0 :- var 2) :* (var 4 :- var 2) :+ (var 1 :- var 3) :* (var 5 :- var 3))) tt
-
-  pub no-spike : Is (nonzero (fromTo q p)) → Is (nonzero (fromTo q r)) → (Is (sameDirection (fromTo q p) (fromTo q r)) → ⊥) → spike p q r ≡ false
-  no-spike hp hr apart =
-      ap₂ (λ (s t : Sgn). eqS s zer && not (eqS t pls)) (ap sgn side-is ∙ sgn-neg (cross u v)) (ap sgn way-is ∙ sgn-neg (dot u v))
-      ∙ by (sgn (cross u v)) (sgn (dot u v)) (law true u v v hp hr hr (λ a _ _ d _ _. not (eqS a zer && eqS d zer)) tt) apart
-    where
-      u : Vector
-      u = fromTo q p
-
-      v : Vector
-      v = fromTo q r
-
-      by : (a d : Sgn) → Is (not (eqS a zer && eqS d zer)) → (Is (eqS a zer && eqS d pls) → ⊥) → (eqS (flip a) zer && not (eqS (flip d) pls)) ≡ false
-      by mns d h k = refl
-      by pls d h k = refl
-      by zer mns h k = refl
-      by zer zer h k = absurd (h .is)
-      by zer pls h k = absurd (k (yes! tt))
 
 -- ---- the last of some steps
 abbrev lastStep : Step → List Step → Step

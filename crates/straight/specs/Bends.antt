@@ -1,17 +1,17 @@
 -- How a contour bends at a point: to which side, and whether it goes on ahead or back. A point that lies on the way from one neighbour to the other may go, and
 -- the bend at every other point stays as it was.
-use mathlib.Core.Path.{_≡_, refl, sym, ap, _∙_}
+use mathlib.Core.Path.{_≡_, refl, sym, ap, ap₂, _∙_}
 use mathlib.Core.Bool.{Bool, true, false, not, _&&_}
 use mathlib.Core.List.{List, [], _∷_}
 use lib.IntN.{ℤ, negℤ, _+ℤ_}
 use Rattle.laws.specs.Test.{Is, yes!, true-is, true≢false, fst&, snd&, _⇒_, _&_, mp}
-use Rattle.laws.specs.Ring.{ring, Ex, var, _:+_, _:-_, _:*_, neg}
+use Rattle.laws.specs.Ring.{ring, _:+_, _:-_, _:*_, neg}
 use Rattle.laws.specs.Sign.{Sgn, mns, zer, pls, sgn, flip, _⊗_, eqS, is-mns, plusOk, all3, all6, eqS-eq, sgn-neg, sgn-add, three}
 use Rattle.turn.specs.declared.Point.{Point}
 use Rattle.turn.specs.declared.Vector.{Vector}
 use Rattle.turn.specs.Points.{fromTo, cross, dot, turn}
 use Rattle.turn.specs.Angle.{sameDirection, nonzero}
-use Rattle.turn.specs.Directions.{cross-anti, dot-comm, dot-sign, square, square-not-below}
+use Rattle.turn.specs.Directions.{VectorE, crossE, dotE, E, F, G, cross-anti, dot-comm, dot-sign, square, square-not-below, law}
 use Rattle.straight.specs.Straight.{onLine}
 
 -- ---- the bend at a point between two others
@@ -44,26 +44,7 @@ towards f g h =
     mp (mp (all6 (λ a b c d i j. plusOk (a ⊗ c) (b ⊗ d) i ⇒ eqS i pls ⇒ not (eqS a zer && eqS b zer)) tt
     (sgn (f .x)) (sgn (f .y)) (sgn (g .x)) (sgn (g .y)) (sgn (dot f g)) zer) (dot-sign f g)) (snd& (eqS (sgn (cross f g)) zer) _ h)
 
--- expressions of three vectors, and of the vectors between three points
-record VectorE : Type 0 where
-  x : Ex
-  y : Ex
-
-abbrev crossE : VectorE → VectorE → Ex
-crossE u v = u .x :* v .y :- u .y :* v .x
-
-abbrev dotE : VectorE → VectorE → Ex
-dotE u v = u .x :* v .x :+ u .y :* v .y
-
-abbrev E : VectorE
-E = record { x = var 0; y = var 1 }
-
-abbrev F : VectorE
-F = record { x = var 2; y = var 3 }
-
-abbrev G : VectorE
-G = record { x = var 4; y = var 5 }
-
+-- the vector between two points, as an expression
 abbrev fromToE : VectorE → VectorE → VectorE
 fromToE p q = record { x = q .x :- p .x; y = q .y :- p .y }
 
@@ -179,3 +160,29 @@ module _ (a b c : Point) where
 
         home : dot v (fromTo c a) ≡ negℤ (dot v s)
         home = ring points (dotE (fromToE F G) (fromToE G E)) (neg (dotE (fromToE F G) (fromToE E G))) tt
+
+-- ---- two edges that leave a point in different directions make no spike there
+module _ (p q r : Point) where
+  side-is : turn p q r ≡ negℤ (cross (fromTo q p) (fromTo q r))
+  side-is = ring (coordinates p q r) (crossE (fromToE E F) (fromToE E G)) (neg (crossE (fromToE F E) (fromToE F G))) tt
+
+  way-is : dot (fromTo p q) (fromTo q r) ≡ negℤ (dot (fromTo q p) (fromTo q r))
+  way-is = ring (coordinates p q r) (dotE (fromToE E F) (fromToE F G)) (neg (dotE (fromToE F E) (fromToE F G))) tt
+
+  pub no-spike : Is (nonzero (fromTo q p)) → Is (nonzero (fromTo q r)) → (Is (sameDirection (fromTo q p) (fromTo q r)) → ⊥) → spike p q r ≡ false
+  no-spike hp hr apart =
+      ap₂ (λ (s t : Sgn). eqS s zer && not (eqS t pls)) (ap sgn side-is ∙ sgn-neg (cross u v)) (ap sgn way-is ∙ sgn-neg (dot u v))
+      ∙ by (sgn (cross u v)) (sgn (dot u v)) (law true u v v hp hr hr (λ a _ _ d _ _. not (eqS a zer && eqS d zer)) tt) apart
+    where
+      u : Vector
+      u = fromTo q p
+
+      v : Vector
+      v = fromTo q r
+
+      by : (a d : Sgn) → Is (not (eqS a zer && eqS d zer)) → (Is (eqS a zer && eqS d pls) → ⊥) → (eqS (flip a) zer && not (eqS (flip d) pls)) ≡ false
+      by mns d h k = refl
+      by pls d h k = refl
+      by zer mns h k = refl
+      by zer zer h k = absurd (h .is)
+      by zer pls h k = absurd (k (yes! tt))

@@ -13,23 +13,23 @@ use Rattle.turn.specs.Points.{cross, dot}
 use Rattle.turn.specs.Angle.{turned, sameDirection, nonzero}
 
 -- ---- expressions of up to four vectors
-record VectorE : Type 0 where
-  x : Ex
-  y : Ex
+pub record VectorE : Type 0 where
+  pub x : Ex
+  pub y : Ex
 
-abbrev crossE : VectorE → VectorE → Ex
+abbrev pub crossE : VectorE → VectorE → Ex
 crossE u v = u .x :* v .y :- u .y :* v .x
 
-abbrev dotE : VectorE → VectorE → Ex
+abbrev pub dotE : VectorE → VectorE → Ex
 dotE u v = u .x :* v .x :+ u .y :* v .y
 
-abbrev E : VectorE
+abbrev pub E : VectorE
 E = record { x = var 0; y = var 1 }
 
-abbrev F : VectorE
+abbrev pub F : VectorE
 F = record { x = var 2; y = var 3 }
 
-abbrev G : VectorE
+abbrev pub G : VectorE
 G = record { x = var 4; y = var 5 }
 
 abbrev K : VectorE
