@@ -1,4 +1,4 @@
-// Runs the proved functions of `turn` at zero and at both extremes, a line for each input.
+// Runs the proved functions of `turn` and `size` at zero and at both extremes, a line for each input.
 use turn::Point;
 use turn::Vector;
 ghost use Prim.Native.Nat.{_≤_};
@@ -13,13 +13,13 @@ fn say(n: u64) {
 fn size(area: i64, minimum: u64) {
     io::write_all(1, b"\nsize");
     say(turn::absolute(area));
-    say(turn::half(area));
-    say(turn::is_kept(18446744073709551615, area, 0) as u64);
-    say(turn::is_kept(3, area, 1) as u64);
-    say(turn::is_kept(3, area, minimum) as u64);
-    say(turn::is_kept(3, area, 9223372036854775808) as u64);
-    say(turn::is_kept(3, area, 18446744073709551615) as u64);
-    say(turn::is_kept(2, area, 0) as u64);
+    say(size::half(area));
+    say(size::is_kept(18446744073709551615, area, 0) as u64);
+    say(size::is_kept(3, area, 1) as u64);
+    say(size::is_kept(3, area, minimum) as u64);
+    say(size::is_kept(3, area, 9223372036854775808) as u64);
+    say(size::is_kept(3, area, 18446744073709551615) as u64);
+    say(size::is_kept(2, area, 0) as u64);
 }
 
 // Whether p is before q, q before p, and whether they differ.

@@ -23,7 +23,8 @@ use Rattle.rings.specs.Climb.{lastOr, Above}
 use Rattle.rings.specs.Follow.{Left}
 use Rattle.rings.specs.Field.{crossMark, nextOf, prevOf, wrapsAt, named, Firsts, Reads, Begun}
 use Rattle.rings.specs.Steering.{later-same}
-use Rattle.first.specs.Leading.{leading, Rises, LeftAt, Falls, Resumes, Asked}
+use Rattle.topmost.specs.Ring.{Rises, LeftAt, Falls}
+use Rattle.first.specs.Leading.{leading, Resumes, Asked}
 
 -- ---- the one of a `Bridge`'s links that is named
 module _ (held : ℕ) (cw : Bool) (k e : ℕ) where

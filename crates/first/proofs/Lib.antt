@@ -1,4 +1,2 @@
 -- Laws that the proofs of this crate share.
-mod Climbing
-mod Falling
 mod Answers

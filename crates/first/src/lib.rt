@@ -2,65 +2,18 @@
 use graph::point_at;
 use next::Next;
 use rings::CROSS;
-use rings::WRAP;
+use topmost::next_below;
 use turn::wide;
 ghost use mathlib.Core.Path.{_≡_};
 ghost use mathlib.Core.Bool.{true};
 ghost use Prim.Native.Nat.{ℕ, _<_, _≤_};
-ghost use lib.ListN.{length, getD};
-ghost use Rattle.laws.specs.Test.{pick};
+ghost use lib.ListN.{length};
 ghost use Rattle.turn.specs.Points.{clockwise};
-ghost use Rattle.graph.specs.Graph.{Graph, pointAt};
-ghost use Rattle.next.specs.declared.Next.{Next};
-ghost use Rattle.next.specs.declared.Next.the-variants.{Link};
+ghost use Rattle.graph.specs.Graph.{pointAt};
 ghost use Rattle.next.specs.Next.{isUnvisited};
 ghost use Rattle.next.specs.Known.{Links, NamesUnvisited};
-ghost use Rattle.rings.specs.Ends.{aEnd};
-ghost use Rattle.rings.specs.Climb.{Above};
-ghost use Rattle.rings.specs.Field.{nextOf, wrapsAt};
-ghost use Rattle.first.specs.Leading.{leading, Rises, LeftAt, Falls, Asked};
+ghost use Rattle.first.specs.Leading.{leading, Asked};
 ghost use Rattle.first.specs.Promises.{find-left-top-link-says};
-
-// Link x if it is unvisited, else s.
-fn unvisited_or(state: &[u8], x: usize, s: usize) -> usize
-    requires { ⌜ x < length (now state) ⌝ }
-    ensures { λ r. ⌜ r ≡ pick (isUnvisited (now (state .entry)) x) x s ⌝ }
-{
-    if state[x] == 0 { x } else { s }
-}
-
-// Rule 1 at a `Cross`: from link k up to the ring's last, the last unvisited link met.
-fn topmost(nxt: &[u32], state: &[u8], k: usize) -> usize
-    requires { ⌜ (Rises (now nxt) (now state) k) × (isUnvisited (now state) k ≡ true) ⌝ }
-    ensures { λ r. ⌜ ((g : Graph) (v : ℕ) (answer : Next)
-        → Above g v (nextOf (now (nxt .entry))) (wrapsAt (now (nxt .entry))) (length (now (state .entry))) (now (state .entry)) answer (aEnd k) k
-        → Link r ≡ answer) ⌝ }
-    ensures { λ r. ⌜ isUnvisited (now (state .entry)) r ≡ true ⌝ }
-{
-    let mut at = 2 * k;
-    let mut s = k;
-    let mut f = nxt[at];
-    while f < WRAP {
-        at = wide(f % CROSS);
-        s = unvisited_or(state, at / 2, s);
-        f = nxt[at];
-    }
-    s
-}
-
-// Rule 1 at a `Cross`, asked again: from link `held`, which it named before, down the ring to the next unvisited link.
-fn next_below(prv: &[u32], state: &[u8], held: usize) -> usize
-    requires { ⌜ Falls (now prv) (now state) held ⌝ }
-    ensures { λ r. ⌜ ((g : Graph) (v : ℕ) (answer : Next)
-        → LeftAt g v (now (prv .entry)) (now (state .entry)) held answer (aEnd held) → Link r ≡ answer) ⌝ }
-    ensures { λ r. ⌜ isUnvisited (now (state .entry)) r ≡ true ⌝ }
-{
-    let mut at = wide(prv[2 * held]);
-    while state[at / 2] != 0 {
-        at = wide(prv[at]);
-    }
-    at / 2
-}
 
 // Rule 1 at a `Bridge`: the one of link k and the other entry e that is named, by what `lead` holds at k.
 fn leading(ax: &[i32], ay: &[i32], bx: &[i32], by: &[i32], held: u8, k: usize, e: usize) -> usize
@@ -108,7 +61,7 @@ pub fn find_left_top_link(
         if held < state.len() {
             return Next::Link(next_below(prv, state, held));
         }
-        return Next::Link(topmost(nxt, state, k));
+        return Next::Link(topmost::topmost(nxt, state, k));
     }
     let named = leading(ax, ay, bx, by, lead[k], k, wide(f) / 2);
     next::only_unvisited(state, named)

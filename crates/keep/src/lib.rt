@@ -91,7 +91,7 @@ pub fn note_walk(
 {
     let at = c.points;
     let size = to - at;
-    if turn::is_kept(size, area, minimum) {
+    if size::is_kept(size, area, minimum) {
         enter::enter_contour(first, len, kind, hole, c.contours, at, size);
         return kept_counts(size, area, c);
     }

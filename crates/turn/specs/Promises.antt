@@ -11,7 +11,6 @@ use Rattle.turn.specs.declared.Vector.{Vector}
 use Rattle.turn.specs.Points.{before, differ, outside, offGrid, Short, fromTo, cross, turn, clockwise, productBound}
 use Rattle.turn.specs.Angle.{sameDirection}
 use Rattle.turn.specs.Area.{wedge, area, pointsOf, wedgeBound}
-use Rattle.turn.specs.Size.{half, isKept}
 
 abbrev pub before-says : Point → Point → Bool → Type 0
 before-says p q r = r ≡ before p q
@@ -90,15 +89,3 @@ absolute-says x r = r ≡ natAbs x
 
 pub absolute-once : (x : ℤ) → Determines (absolute-says x)
 absolute-once x = by-equation (natAbs x)
-
-abbrev pub half-says : ℤ → ℕ → Type 0
-half-says x r = r ≡ half x
-
-pub half-once : (x : ℤ) → Determines (half-says x)
-half-once x = by-equation (half x)
-
-abbrev pub is-kept-says : ℕ → ℤ → ℕ → Bool → Type 0
-is-kept-says points area minimum r = r ≡ isKept points area minimum
-
-pub is-kept-once : (points : ℕ) (area : ℤ) (minimum : ℕ) → Determines (is-kept-says points area minimum)
-is-kept-once points area minimum = by-equation (isKept points area minimum)

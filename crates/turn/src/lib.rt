@@ -1,6 +1,6 @@
-// What every layer above reads: points, turns, the angular order, areas and the size test, all exact; the limits; what a check answers.
+// What every layer above reads: points, turns, the angular order and areas, all exact; the limits; what a check answers.
 ghost use mathlib.Core.Path.{_≡_};
-ghost use Prim.Native.Nat.{_+_, _*_, _<_, _≤_, _/_};
+ghost use Prim.Native.Nat.{_+_, _*_, _<_, _≤_};
 ghost use lib.IntN.{pos, natAbs, _-ℤ_};
 ghost use lib.ListN.{length};
 ghost use Rattle.turn.specs.Limits.{maxLinks, maxCoordinate};
@@ -9,7 +9,7 @@ ghost use Rattle.turn.specs.Points.{span, Grid};
 ghost use Rattle.turn.specs.Angle.{sameDirection};
 ghost use Rattle.turn.specs.Area.{wedge, area, pointsOf, wedgeBound};
 ghost use Rattle.turn.specs.Promises.{before-says, differ-says, outside-says, off-grid-says, wide-says, between-says, cross-product-says, turn-of-says};
-ghost use Rattle.turn.specs.Promises.{clockwise-says, same-direction-says, wedge-says, doubled-area-says, absolute-says, half-says, is-kept-says};
+ghost use Rattle.turn.specs.Promises.{clockwise-says, same-direction-says, wedge-says, doubled-area-says, absolute-says};
 
 // The most links of a graph, and the most points of a contour table.
 pub const MAX_LINKS: usize = 4096;
@@ -170,18 +170,4 @@ pub fn absolute(x: i64) -> u64
     } else {
         x as u64
     }
-}
-
-// Half the absolute value, rounded down.
-pub fn half(x: i64) -> u64
-    ensures { λ r. ⌜ half-says x r ⌝ }
-{
-    absolute(x) / 2
-}
-
-// Rule 6: whether a walk of so many points and such a signed doubled area is kept.
-pub fn is_kept(points: usize, area: i64, minimum: u64) -> bool
-    ensures { λ r. ⌜ is-kept-says points area minimum r ⌝ }
-{
-    (3 <= points) & ((minimum == 0) | (minimum <= half(area)))
 }

@@ -1,10 +1,10 @@
--- `first::topmost` meets its contract. The invariant: from here the climb ends as it does from link k (`Climbing`).
+-- `topmost::topmost` meets its contract. The invariant: from here the climb ends as it does from link k (`Climbing`).
 -- The measure is what is left up to the ring's last.
 use native.Mathlib.Omega.{arith}
-use Rattle.first.proofs.Climbing.{Climbing, left, first-end, first-read, climb-starts, to-below, to-link, to-read}
-use Rattle.first.proofs.Climbing.{climb-less, climb-on, climb-ends}
-use Rattle.first.proofs.topmost.Statement.{statement}
-use Rattle.first.proofs.topmost.Tie as tie
+use Rattle.topmost.proofs.Climbing.{Climbing, left, first-end, first-read, climb-starts, to-below, to-link, to-read}
+use Rattle.topmost.proofs.Climbing.{climb-less, climb-on, climb-ends}
+use Rattle.topmost.proofs.topmost.Statement.{statement}
+use Rattle.topmost.proofs.topmost.Tie as tie
 
 abbrev Inv-loop : tie.InvT-loop
 Inv-loop nxt state k at₀ s₀ f₀ at s f = Climbing nxt state k at s f

@@ -15,7 +15,7 @@ use Rattle.next.specs.States.{read-unvisited, read-shut}
 use Rattle.rings.specs.Ends.{aEnd, linkOf, link-below}
 use Rattle.rings.specs.Climb.{Above, toTop, at-top, climb-below, climbed, higher}
 use Rattle.rings.specs.Field.{crossMark, wrapMark, nextOf, wrapsAt}
-use Rattle.first.specs.Leading.{Rises}
+use Rattle.topmost.specs.Ring.{Rises}
 
 -- ---- link x if it is unvisited, else s, by the code's read
 module _ (st : List ℕ) (x s : ℕ) (l : x < length st) where

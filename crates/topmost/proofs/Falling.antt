@@ -14,7 +14,7 @@ use Rattle.rings.specs.Ends.{aEnd, linkOf, a-link, end-link, link-below}
 use Rattle.rings.specs.Follow.{nextEnd, toGo, step-below, came-back, found, passed, nearer}
 use Rattle.rings.specs.RingLoop.{some-next}
 use Rattle.rings.specs.Field.{prevOf}
-use Rattle.first.specs.Leading.{LeftAt, Falls}
+use Rattle.topmost.specs.Ring.{LeftAt, Falls}
 
 -- at end `at`: the end before, from which a step led there, and what was left of the ring at that one
 pub record Falling (prv st : List ℕ) (held at : ℕ) : Type 0 where

@@ -1,8 +1,8 @@
--- `first::unvisited_or` meets its contract: the state that it reads is the one that the rule tests.
+-- `topmost::unvisited_or` meets its contract: the state that it reads is the one that the rule tests.
 use borrow.Author.Needs.{needs}
-use Rattle.first.proofs.Climbing.{or-hit, or-miss}
-use Rattle.first.proofs.unvisited_or.Statement.{statement}
-use Rattle.first.proofs.unvisited_or.Tie as tie
+use Rattle.topmost.proofs.Climbing.{or-hit, or-miss}
+use Rattle.topmost.proofs.unvisited_or.Statement.{statement}
+use Rattle.topmost.proofs.unvisited_or.Tie as tie
 
 shared-slice-read-if1 : tie.Need-shared-slice-read-if1
 shared-slice-read-if1 c = search needs

@@ -1,11 +1,11 @@
--- `first::next_below` meets its contract. The invariant: a step led to this end, and what was left of the ring before it
+-- `topmost::next_below` meets its contract. The invariant: a step led to this end, and what was left of the ring before it
 -- holds the answer (`Falling`). The measure is how many ends are left; the link looked for comes before the last of them.
 use native.Mathlib.Omega.{arith}
 use Rattle.next.specs.States.{read-unvisited, read-shut}
-use Rattle.first.proofs.Falling.{Falling, toGoDown, held-end, held-read, fall-starts, at-below, at-link, at-read}
-use Rattle.first.proofs.Falling.{fall-ends, fall-on, fall-less}
-use Rattle.first.proofs.next_below.Statement.{statement}
-use Rattle.first.proofs.next_below.Tie as tie
+use Rattle.topmost.proofs.Falling.{Falling, toGoDown, held-end, held-read, fall-starts, at-below, at-link, at-read}
+use Rattle.topmost.proofs.Falling.{fall-ends, fall-on, fall-less}
+use Rattle.topmost.proofs.next_below.Statement.{statement}
+use Rattle.topmost.proofs.next_below.Tie as tie
 
 abbrev Inv-loop : tie.InvT-loop
 Inv-loop prv state held at₀ at = Falling prv state held at

@@ -1,12 +1,12 @@
--- `turn::is_kept` meets its contract: by half the area.
+-- `size::is_kept` meets its contract: by half the area.
 use mathlib.Core.Path.{ap}
 use mathlib.Core.Bool.{_&&_, _||_}
 use mir.Syntax.{w64}
 use mir.ValLaws.{toZ-ofZ}
 use lib.Dec.{leb, eqb}
 use borrow.Author.Needs.{needs}
-use Rattle.turn.proofs.is_kept.Statement.{statement}
-use Rattle.turn.proofs.is_kept.Tie as tie
+use Rattle.size.proofs.is_kept.Statement.{statement}
+use Rattle.size.proofs.is_kept.Tie as tie
 
 half-requires : tie.Need-half-requires
 half-requires c κs = search needs

@@ -1,11 +1,11 @@
--- `turn::half` meets its contract: half of the absolute value.
+-- `size::half` meets its contract: half of the absolute value.
 use mir.Syntax.{w64}
 use mir.ValLaws.{toZ-ofZ}
 use Prim.Native.Nat.{_/_}
 use mathlib.Core.Path.{ap}
 use borrow.Author.Needs.{needs}
-use Rattle.turn.proofs.half.Statement.{statement}
-use Rattle.turn.proofs.half.Tie as tie
+use Rattle.size.proofs.half.Statement.{statement}
+use Rattle.size.proofs.half.Tie as tie
 
 absolute-requires : tie.Need-absolute-requires
 absolute-requires c κs = search needs
