@@ -5,19 +5,16 @@ use mathlib.Core.Bool.{Bool}
 use mathlib.Core.List.{List}
 use lib.IntN.{ℤ}
 use Rattle.laws.specs.Unique.{Determines, by-equation, same-part}
-use Rattle.turn.specs.declared.Checked.{Checked}
-use Rattle.turn.specs.Refusals.{Tells, tells-once}
-use Rattle.table.specs.Table.{Table}
+use Rattle.turn.specs.declared.Point.{Point}
 use Rattle.anchor.specs.declared.Anchor.{Anchor}
-use Rattle.anchor.specs.Anchor.{anchorEdgeIn}
-use Rattle.anchor.specs.AnchorChecks.{anchorsChecked}
+use Rattle.anchor.specs.Anchor.{anchorPointIn, anchorEdgeIn}
 use Rattle.anchor.specs.Anchors.{Anchors, anchors, listedAnchor, withAnchor}
 
-abbrev pub check-anchors-says : Table → Bool → Checked → Type 0
-check-anchors-says t clockwise r = Tells r (anchorsChecked t clockwise)
+abbrev pub anchor-point-says : List ℤ → ℕ → Bool → Point → Type 0
+anchor-point-says points from clockwise r = r ≡ anchorPointIn points from clockwise
 
-pub check-anchors-once : (t : Table) (clockwise : Bool) → Determines (check-anchors-says t clockwise)
-check-anchors-once t clockwise = tells-once (anchorsChecked t clockwise)
+pub anchor-point-once : (points : List ℤ) (from : ℕ) (clockwise : Bool) → Determines (anchor-point-says points from clockwise)
+anchor-point-once points from clockwise = by-equation (anchorPointIn points from clockwise)
 
 abbrev pub left-bottom-segment-from-says : List ℤ → ℕ → ℕ → Bool → Anchor → Type 0
 left-bottom-segment-from-says points from len clockwise r = r ≡ anchorEdgeIn points from (from + len) clockwise

@@ -16,7 +16,7 @@ pub fn check(
         check-says t owners clockwise r) ⌝ }
 {
     match check_table::check_table(points, first, len, kind, owners) {
-        Checked::Fine => anchor::check_anchors(points, first, len, kind, clockwise),
+        Checked::Fine => check_anchors::check_anchors(points, first, len, kind, clockwise),
         Checked::Refused { number, place } => Checked::Refused {
             number: number,
             place: place,

@@ -1,3 +1,3 @@
--- The loops that fill the lists.
-pub mod Fill
+-- What the proofs cite beside the laws of specs/.
+pub mod SameColumns
 pub mod Nodes

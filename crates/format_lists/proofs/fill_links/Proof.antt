@@ -1,5 +1,5 @@
 -- `format::fill_links` meets its contract.
-use Rattle.format_lists.proofs.Fill.{same-columns}
+use Rattle.format_lists.proofs.SameColumns.{same-columns}
 use native.Mathlib.Omega.{arith}
 use borrow.Author.Needs.{needs}
 use Rattle.format_lists.proofs.fill_links.Statement.{statement}

@@ -1,8 +1,8 @@
 -- `hole_up_to`: by the kind.
 use borrow.Author.Tests.{eq-eqb, ne-eqb}
 use borrow.Author.Needs.{needs}
-use Rattle.anchor.proofs.hole_up_to.Statement.{statement}
-use Rattle.anchor.proofs.hole_up_to.Tie as tie
+use Rattle.check_anchors.proofs.hole_up_to.Statement.{statement}
+use Rattle.check_anchors.proofs.hole_up_to.Tie as tie
 
 add-result : tie.Need-add-result
 add-result c = search needs

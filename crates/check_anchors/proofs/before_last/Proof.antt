@@ -6,10 +6,10 @@ use denote.Ref.{now}
 use borrow.Author.Tests.{lt-ltb}
 use borrow.Author.Needs.{needs}
 use Rattle.turn.specs.Points.{before}
 use Rattle.anchor.specs.Anchor.{anchorPointIn}
-use Rattle.anchor.proofs.Answers.{and-rest}
-use Rattle.anchor.proofs.before_last.Statement.{statement}
-use Rattle.anchor.proofs.before_last.Tie as tie
+use Rattle.check_anchors.proofs.Answers.{and-rest}
+use Rattle.check_anchors.proofs.before_last.Statement.{statement}
+use Rattle.check_anchors.proofs.before_last.Tie as tie
 
 returns : tie.Need-returns
 returns c = rw (c .if1 .taken)

@@ -4,10 +4,10 @@ use native.Mathlib.Omega.{arith}
 use borrow.Author.Needs.{needs}
 use Rattle.table.specs.Table.{Table, table}
 use Rattle.table.specs.Passing.{ranges-within}
 use Rattle.anchor.specs.AnchorPositions.{paired}
-use Rattle.anchor.proofs.Answers.{hole-low, anchor-hull, anchor-high-up, anchor-order}
-use Rattle.anchor.proofs.anchor_fault.Statement.{statement}
-use Rattle.anchor.proofs.anchor_fault.Tie as tie
+use Rattle.check_anchors.proofs.Answers.{hole-low, anchor-hull, anchor-high-up, anchor-order}
+use Rattle.check_anchors.proofs.anchor_fault.Statement.{statement}
+use Rattle.check_anchors.proofs.anchor_fault.Tie as tie
 
 abbrev t-of : tie.Start → Table
 t-of c = table (now (c .args .points)) (now (c .args .first)) (now (c .args .len)) (now (c .args .kind))

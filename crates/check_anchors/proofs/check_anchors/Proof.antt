@@ -7,10 +7,10 @@ use lib.ListN.{length}
 use Rattle.turn.specs.Refusals.{tells}
 use Rattle.laws.specs.Lowest.{None}
 use Rattle.table.specs.Table.{table}
 use Rattle.anchor.specs.AnchorChecks.{holeBefore, badAnchor}
-use Rattle.anchor.proofs.Answers.{no-hole, hole-next, anchors-bad, anchors-fine}
-use Rattle.anchor.proofs.check_anchors.Statement.{statement}
-use Rattle.anchor.proofs.check_anchors.Tie as tie
+use Rattle.check_anchors.proofs.Answers.{no-hole, hole-next, anchors-bad, anchors-fine}
+use Rattle.check_anchors.proofs.check_anchors.Statement.{statement}
+use Rattle.check_anchors.proofs.check_anchors.Tie as tie
 
 abbrev Inv-loop : tie.InvT-loop
 Inv-loop points first len kind clockwise last₀ c₀ last c =

@@ -1,12 +1,12 @@
--- `format::fill_u8` meets its contract.
+-- `format_fill::fill_u8` meets its contract.
 use native.Mathlib.Nat.{zero-add}
 use Prim.Native.Nat.{ℕ, _-_}
 use mathlib.Core.Path.{refl, sym}
 use native.Mathlib.Omega.{arith}
 use lib.ListN.{getD}
-use Rattle.format_lists.proofs.Fill.{Filling, filling-first, filling-next, filling-last}
-use Rattle.format_lists.proofs.fill_u8.Statement.{statement}
-use Rattle.format_lists.proofs.fill_u8.Tie as tie
+use Rattle.format_fill.proofs.Fill.{Filling, filling-first, filling-next, filling-last}
+use Rattle.format_fill.proofs.fill_u8.Statement.{statement}
+use Rattle.format_fill.proofs.fill_u8.Tie as tie
 
 abbrev Inv-loop : tie.InvT-loop
 Inv-loop s from n out₀ at₀ k₀ out at k = Filling (λ (i : ℕ). getD s i 0) 28 from n 0 out₀ out at k

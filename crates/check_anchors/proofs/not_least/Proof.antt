@@ -9,8 +9,8 @@ use Rattle.laws.specs.Lowest.{None, some-yes, some-no}
 use Rattle.turn.specs.declared.Point.{Point}
 use Rattle.turn.specs.Points.{before}
 use Rattle.table.specs.Table.{pointIn}
-use Rattle.anchor.proofs.not_least.Statement.{statement}
-use Rattle.anchor.proofs.not_least.Tie as tie
+use Rattle.check_anchors.proofs.not_least.Statement.{statement}
+use Rattle.check_anchors.proofs.not_least.Tie as tie
 
 abbrev Inv-loop : tie.InvT-loop
 Inv-loop points from len anchor k₀ k = (k ≤ len) × None (λ i. before (pointIn points (from + i)) anchor) k

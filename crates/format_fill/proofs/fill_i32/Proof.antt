@@ -1,4 +1,4 @@
--- `format::fill_i32` meets its contract.
+-- `format_fill::fill_i32` meets its contract.
 use mir.Syntax.{w32}
 use mir.ValLaws.{toZ-ofZ}
 use Prim.Native.Nat.{_-_}
@@ -6,10 +6,10 @@ use mathlib.Core.Path.{sym, ap, _∙_}
 use native.Mathlib.Omega.{arith}
 use borrow.Author.Needs.{needs}
 use Rattle.format_numbers.specs.Bytes.{i32At, signed}
-use Rattle.format_lists.proofs.Fill.{Filling, filling-first, filling-next, filling-last}
+use Rattle.format_fill.proofs.Fill.{Filling, filling-first, filling-next, filling-last}
 use native.Mathlib.Nat.{zero-add}
-use Rattle.format_lists.proofs.fill_i32.Statement.{statement}
-use Rattle.format_lists.proofs.fill_i32.Tie as tie
+use Rattle.format_fill.proofs.fill_i32.Statement.{statement}
+use Rattle.format_fill.proofs.fill_i32.Tie as tie
 
 abbrev Inv-loop : tie.InvT-loop
 Inv-loop s from n out₀ at₀ k₀ out at k = Filling (i32At s) 28 from n 0 out₀ out at k

@@ -1,11 +1,11 @@
--- `format::fill_u16` meets its contract.
+-- `format_fill::fill_u16` meets its contract.
 use Prim.Native.Nat.{_-_}
 use mathlib.Core.Path.{refl}
 use native.Mathlib.Omega.{arith}
 use Rattle.format_numbers.specs.Bytes.{u16At}
-use Rattle.format_lists.proofs.Fill.{Filling, filling-first, filling-next, filling-last}
-use Rattle.format_lists.proofs.fill_u16.Statement.{statement}
-use Rattle.format_lists.proofs.fill_u16.Tie as tie
+use Rattle.format_fill.proofs.Fill.{Filling, filling-first, filling-next, filling-last}
+use Rattle.format_fill.proofs.fill_u16.Statement.{statement}
+use Rattle.format_fill.proofs.fill_u16.Tie as tie
 
 abbrev Inv-loop : tie.InvT-loop
 Inv-loop s from step n out₀ to at₀ k₀ out at k = Filling (u16At s) step from n to out₀ out at k

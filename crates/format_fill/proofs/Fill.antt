@@ -7,9 +7,7 @@ use native.Mathlib.Numerals.{add-one}
 use native.Mathlib.Omega.{arith}
 use lib.ListN.{length, set, length-set}
 use Rattle.writing.specs.Put.{putAt, put-none, put-cons}
-use lib.IntN.{ℤ}
 use Rattle.format_numbers.specs.Bytes.{every}
-use Rattle.format_lists.specs.Columns.{columns}
 
 -- k of n values stand in out from index `to` on, and the next is at byte `at`: filling out from here on gives what filling out₀ from the start gives
 pub record Filling {A : Type 0} (f : ℕ → A) (d from n to : ℕ) (out₀ out : List A) (at k : ℕ) : Type 0 where
@@ -56,9 +54,3 @@ module _ {A : Type 0} (f : ℕ → A) (d from n to : ℕ) (out₀ : List A) wher
       where
         all : 0 ≡ n - k
         all = omega (arith, h .done)
-
--- the columns of the links are equal one by one
-pub same-columns : {ax ax′ ay ay′ bx bx′ by by′ : List ℤ} {a a′ b b′ t t′ s s′ : List ℕ}
-    → ax ≡ ax′ → ay ≡ ay′ → bx ≡ bx′ → by ≡ by′ → a ≡ a′ → b ≡ b′ → t ≡ t′ → s ≡ s′
-    → columns ax ay bx by a b t s ≡ columns ax′ ay′ bx′ by′ a′ b′ t′ s′
-same-columns e1 e2 e3 e4 e5 e6 e7 e8 = rw (e1, e2, e3, e4, e5, e6, e7, e8)

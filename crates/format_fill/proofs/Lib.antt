@@ -1,0 +1,2 @@
+-- The loops that fill the lists.
+pub mod Fill
