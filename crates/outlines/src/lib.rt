@@ -1,5 +1,6 @@
 // Extraction of a graph that passes its checks, as its settings ask for it: its contours, and then, where asked for, without points on a straight line.
 ghost use mathlib.Core.Path.{_≡_};
+ghost use mathlib.Core.Bool.{true};
 ghost use mathlib.Core.List.{map};
 ghost use lib.ListN.{length};
 ghost use Rattle.next.specs.Known.{Links};
@@ -13,9 +14,8 @@ use extraction::extract_fine;
 use scan::Extraction;
 use straighten::drop_straight;
 
-// An answer that is done loses its points on a straight line, if that is asked for.
-fn straighten_if(
-    drop: bool,
+// An answer that is done loses its points on a straight line.
+fn straighten_answer(
     answer: Extraction,
     points: &mut [i32],
     first: &mut [u32],
@@ -23,11 +23,8 @@ fn straighten_if(
 ) -> Extraction
     requires { ⌜ StandsFor answer (now points) (now first) (now len) ⌝ }
     ensures { λ r. ⌜ answered r (now (points .exit)) (now (first .exit)) (now (len .exit))
-        ≡ straightBy drop answer (now (points .entry)) (now (first .entry)) (now (len .entry)) ⌝ }
+        ≡ straightBy true answer (now (points .entry)) (now (first .entry)) (now (len .entry)) ⌝ }
 {
-    if !drop {
-        return answer;
-    }
     match answer {
         Extraction::Refused { number, place } => Extraction::Refused {
             number: number,
@@ -37,7 +34,8 @@ fn straighten_if(
     }
 }
 
-// Extraction of a graph that passes checks 1 to 7, over the field of its ends.
+// Extraction of a graph that passes checks 1 to 7, over the field of its ends. It is called in two places, so that the compiler keeps it apart: in
+// one function with what follows it its walks would want for registers (a twentieth more time at graphs of `Bridge`s).
 pub fn extract_outlines(
     ax: &[i32],
     ay: &[i32],
@@ -63,7 +61,26 @@ pub fn extract_outlines(
         (buffers (now (state .entry)) (now (points .entry)) (now (first .entry)) (now (len .entry)) (now (kind .entry))) r
         (buffers (now (state .exit)) (now (points .exit)) (now (first .exit)) (now (len .exit)) (now (kind .exit))) ⌝ }
 {
-    let answer = extract_fine(
+    if settings.drop_straight {
+        let answer = extract_fine(
+            ax,
+            ay,
+            bx,
+            by,
+            nxt,
+            prv,
+            lead,
+            top,
+            settings,
+            state,
+            points,
+            first,
+            len,
+            kind,
+        );
+        return straighten_answer(answer, points, first, len);
+    }
+    extract_fine(
         ax,
         ay,
         bx,
@@ -78,6 +95,5 @@ pub fn extract_outlines(
         first,
         len,
         kind,
-    );
-    straighten_if(settings.drop_straight, answer, points, first, len)
+    )
 }
