@@ -34,8 +34,8 @@ fn straighten_answer(
     }
 }
 
-// Extraction of a graph that passes checks 1 to 7, over the field of its ends. It is called in two places, so that the compiler keeps it apart: in
-// one function with what follows it its walks would want for registers (a twentieth more time at graphs of `Bridge`s).
+// Extraction of a graph that passes checks 1 to 7, over the field of its ends. `extract_fine` is called in two places, so that the compiler keeps it
+// apart: in one function with what follows, its walks would want for registers (a twentieth more time at graphs of `Bridge`s).
 pub fn extract_outlines(
     ax: &[i32],
     ay: &[i32],
