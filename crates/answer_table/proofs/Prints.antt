@@ -1,17 +1,17 @@
 -- What binding has bound may be printed: its table passed check 10.
-use Prim.Native.Nat.{ℕ, suc, _+_, _-_, _≤_}
+use Prim.Native.Nat.{ℕ, _≤_}
 use native.Mathlib.Omega.{arith}
 use mathlib.Core.Path.{_≡_, refl, sym, ap, _∙_, subst}
 use mathlib.Core.Bool.{Bool}
-use mathlib.Core.List.{List, [], _∷_}
+use mathlib.Core.List.{List}
 use lib.Dec.{eqb}
 use lib.ListN.{length, drop, replicate, length-append, length-drop}
 use Rattle.laws.specs.Test.{pick-ind}
 use Rattle.turn.specs.declared.Checked.{Checked}
 use Rattle.turn.specs.declared.Checked.the-variants.{Fine, Refused as AtFault}
-use Rattle.laws.specs.Count.{count}
 use Rattle.table.specs.Table.{Table, contourCount, maxContours, hulls, hullCount}
 use Rattle.table.specs.TableChecks.{tableChecked}
+use Rattle.table.specs.TableLaws.{hulls-few}
 use Rattle.turn.specs.Refusals.{first-fine}
 use Rattle.table.specs.Sound.{Sound}
 use Rattle.table.specs.Passing.{passes-sound, ranges-within}
@@ -29,11 +29,6 @@ use Rattle.bind.specs.Outcome.{Outcome, outcome, droppedOf, handedBy, boundAfte
 
 abbrev printTable : Table → List ℕ → print.OwnedTable
 printTable t owner = print.ownedTable (t .points) (t .first) (t .len) (t .kind) owner
-
-hulls-few : (l : List ℕ) → hulls l ≤ length l
-unfolding count
-hulls-few [] = omega arith
-hulls-few (k ∷ l) = pick-ind (eqb k 0) 1 0 (λ (n : ℕ). n + hulls l ≤ suc (length l)) (λ _. omega (arith, hulls-few l)) (λ _. omega (arith, hulls-few l))
 
 dropped-few : (t : Table) → droppedOf t ≤ contourCount t
 dropped-few t = pick-ind (eqb (hullCount t) 0) (contourCount t) 0 (λ (n : ℕ). n ≤ contourCount t) (λ _. omega arith) (λ _. omega arith)

@@ -1,10 +1,8 @@
 // Candidate edges: every edge of a table, listed by its points, with its ends as candidates have them.
 use edges::Edge;
-ghost use mathlib.Core.Path.{_≡_};
 ghost use Prim.Native.Nat.{ℕ, _<_, _≤_};
 ghost use lib.ListN.{length};
 ghost use Rattle.turn.specs.Limits.{maxLinks};
-ghost use Rattle.table.specs.Table.{nextIn};
 ghost use Rattle.candidates.specs.EdgeLists.{EdgeLists, edgeLists, Fit, ContourListed, Ranges};
 ghost use Rattle.candidates.specs.Promises.{listed-edge-says, list-edges-says};
 
@@ -44,18 +42,6 @@ pub fn listed_edge(
     }
 }
 
-// The point after point k, round a contour that stands from a position up to another.
-fn follows(k: usize, from: usize, to: usize) -> u32
-    requires { ⌜ (from ≤ k) × (k < to) × (to ≤ maxLinks) ⌝ }
-    ensures { λ r. ⌜ r ≡ nextIn from to k ⌝ }
-{
-    if k + 1 == to {
-        from as u32
-    } else {
-        k as u32 + 1
-    }
-}
-
 // The points from..to are contour c's.
 fn list_contour(next: &mut [u32], of: &mut [u32], c: u32, from: usize, to: usize)
     requires { ⌜ (from ≤ to) × (to ≤ maxLinks) × (to ≤ length (now next)) × (to ≤ length (now of)) ⌝ }
@@ -64,7 +50,7 @@ fn list_contour(next: &mut [u32], of: &mut [u32], c: u32, from: usize, to: usize
     let mut k = from;
     while k < to {
         of[k] = c;
-        next[k] = follows(k, from, to);
+        next[k] = table::next_position(k, from, to) as u32;
         k += 1;
     }
 }

@@ -6,13 +6,25 @@ use lib.IntN.{ℤ}
 use lib.ListN.{take}
 use Rattle.laws.specs.Unique.{Determines, by-equation, by-equation-with}
 use Rattle.turn.specs.declared.Point.{Point}
-use Rattle.table.specs.Table.{pointIn, hulls}
+use Rattle.table.specs.Table.{pointIn, nextIn, previousIn, hulls}
 
 abbrev pub point-in-says : List ℤ → ℕ → Point → Type 0
 point-in-says points p r = r ≡ pointIn points p
 
 pub point-in-once : (points : List ℤ) (p : ℕ) → Determines (point-in-says points p)
 point-in-once points p = by-equation (pointIn points p)
+
+abbrev pub next-position-says : ℕ → ℕ → ℕ → ℕ → Type 0
+next-position-says from to p r = r ≡ nextIn from to p
+
+pub next-position-once : (from to p : ℕ) → Determines (next-position-says from to p)
+next-position-once from to p = by-equation (nextIn from to p)
+
+abbrev pub previous-position-says : ℕ → ℕ → ℕ → ℕ → Type 0
+previous-position-says from to p r = r ≡ previousIn from to p
+
+pub previous-position-once : (from to p : ℕ) → Determines (previous-position-says from to p)
+previous-position-once from to p = by-equation (previousIn from to p)
 
 abbrev pub hulls-before-says : List ℕ → ℕ → ℕ → Type 0
 hulls-before-says kind n r = (r ≡ hulls (take n kind)) × (r ≤ n)

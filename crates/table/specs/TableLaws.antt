@@ -1,18 +1,20 @@
--- Laws of the table's definitions: points on the grid, where ranges begin, and the way round a contour.
+-- Laws of the table's definitions: points on the grid, where ranges begin, the way round a contour, and how many hulls there are.
 use Prim.Native.Nat.{ℕ, zero, suc, _+_, _*_, _-_, _≤_, _<_}
 use mathlib.Core.Path.{_≡_, refl, sym, subst}
 use mathlib.Core.Bool.{Bool, true, false}
-use mathlib.Core.List.{List}
+use mathlib.Core.List.{List, [], _∷_}
 use native.Mathlib.Omega.{arith}
 use native.Mathlib.Numerals.{add-one}
 use native.Mathlib.Nat.{not-suc-le-zero}
 use lib.IntN.{ℤ}
+use lib.Dec.{eqb}
 use lib.ListN.{length, getD}
 use borrow.Author.Tests.{eq-eqb, ne-eqb}
-use Rattle.laws.specs.Test.{pick}
+use Rattle.laws.specs.Test.{pick, pick-ind}
+use Rattle.laws.specs.Count.{count}
 use Rattle.turn.specs.declared.Point.{Point}
 use Rattle.turn.specs.Points.{OnGrid, Grid}
-use Rattle.table.specs.Table.{pointIn, nextIn, previousIn}
+use Rattle.table.specs.Table.{pointIn, nextIn, previousIn, hulls}
 use Rattle.table.specs.TableChecks.{startIn}
 
 -- ---- points
@@ -47,3 +49,9 @@ previous-inside from to p h = let n : p ≡ from → ⊥ = λ q. omega arith in 
 pub bit-small : (b : Bool) → pick b 1 0 ≤ 1
 bit-small true = omega arith
 bit-small false = omega arith
+
+-- ---- no more hulls than contours
+pub hulls-few : (l : List ℕ) → hulls l ≤ length l
+unfolding count
+hulls-few [] = omega arith
+hulls-few (k ∷ l) = pick-ind (eqb k 0) 1 0 (λ (n : ℕ). n + hulls l ≤ suc (length l)) (λ _. omega (arith, hulls-few l)) (λ _. omega (arith, hulls-few l))

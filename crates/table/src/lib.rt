@@ -1,11 +1,11 @@
-// The contour table: its points, and its hulls counted.
+// The contour table: its points, the way round a contour, and its hulls counted.
 use turn::Point;
 ghost use mathlib.Core.Path.{_≡_};
 ghost use Prim.Native.Nat.{_+_, _*_, _^_, _<_, _≤_};
 ghost use lib.Dec.{eqb};
 ghost use lib.ListN.{length};
 ghost use Rattle.laws.specs.Test.{pick};
-ghost use Rattle.table.specs.Promises.{point-in-says, hulls-before-says};
+ghost use Rattle.table.specs.Promises.{point-in-says, next-position-says, previous-position-says, hulls-before-says};
 
 // The most contours of a table: each has at least 3 points.
 pub const MAX_CONTOURS: usize = turn::MAX_LINKS / 3;
@@ -23,6 +23,28 @@ pub fn point_in(points: &[i32], p: usize) -> Point
         x: points[i],
         y: points[i + 1],
     }
+}
+
+// The position after p, round a contour that stands from a position up to another.
+pub fn next_position(p: usize, from: usize, to: usize) -> usize
+    requires { ⌜ p < to ⌝ }
+    ensures { λ r. ⌜ next-position-says from to p r ⌝ }
+{
+    if p + 1 == to {
+        return from;
+    }
+    p + 1
+}
+
+// The position before p, round a contour that stands from a position up to another.
+pub fn previous_position(p: usize, from: usize, to: usize) -> usize
+    requires { ⌜ (from ≤ p) × (p < to) ⌝ }
+    ensures { λ r. ⌜ previous-position-says from to p r ⌝ }
+{
+    if p == from {
+        return to - 1;
+    }
+    p - 1
 }
 
 // How many of the first n contours are hulls.
