@@ -1,11 +1,11 @@
 -- A hole's anchor and its anchor edge.
-use Prim.Native.Nat.{ℕ, _+_}
+use Prim.Native.Nat.{ℕ, zero, suc, _+_, _-_}
 use mathlib.Core.Bool.{Bool}
 use mathlib.Core.List.{List}
 use lib.IntN.{ℤ}
 use Rattle.laws.specs.Test.{pick}
 use Rattle.turn.specs.declared.Point.{Point}
-use Rattle.turn.specs.Points.{clockwise, fromTo}
+use Rattle.turn.specs.Points.{clockwise, differ, fromTo}
 use Rattle.turn.specs.declared.Vector.{Vector}
 use Rattle.table.specs.Table.{Table, pointIn, firstOf, rangeEnd, nextIn, previousIn}
 use Rattle.anchor.specs.declared.Anchor.{Anchor}
@@ -29,17 +29,28 @@ anchorPoint t cw c = anchorPointIn (t .points) (firstOf t c) cw
 abbrev pub lowerEnd : Point → Point → Point → Point
 lowerEnd at p q = pick (clockwise at p q) q p
 
--- "the lower of the two edges at that position": at position p of the contour that stands from a position up to another
-abbrev pub lowerEdgeAt : List ℤ → ℕ → ℕ → ℕ → Anchor
-lowerEdgeAt points from to p =
-    record {
-      at = pointIn points p;
-      to = lowerEnd (pointIn points p) (pointIn points (nextIn from to p)) (pointIn points (previousIn from to p));
-    }
+-- ---- "takes all edges at the anchor point and keeps the lowest" [02, b], of a contour that stands from a position up to another
+-- the lowest so far, which goes to b, beside both edges at position p
+abbrev pub lowestThere : List ℤ → (from to : ℕ) → Point → ℕ → Point → Point
+lowestThere points from to at p b = lowerEnd at (lowerEnd at b (pointIn points (nextIn from to p))) (pointIn points (previousIn from to p))
+
+-- these count where the contour passes the point `at` there
+abbrev pub lowestWith : List ℤ → (from to : ℕ) → Point → ℕ → Point → Point
+lowestWith points from to at p b = pick (differ (pointIn points p) at) b (lowestThere points from to at p b)
+
+-- the first n positions in turn
+unfoldable pub lowestEnd : List ℤ → (from to : ℕ) → Point → Point → ℕ → Point
+lowestEnd points from to at b zero = b
+lowestEnd points from to at b (suc n) = lowestWith points from to at (from + n) (lowestEnd points from to at b n)
+
+-- all positions, and the point at position p, which is one of them: its own edge onward is the first that counts
+abbrev pub lowestEdge : List ℤ → ℕ → ℕ → ℕ → Anchor
+lowestEdge points from to p =
+    record { at = pointIn points p; to = lowestEnd points from to (pointIn points p) (pointIn points (nextIn from to p)) (to - from) }
 
 -- the anchor edge of the contour that stands from a position up to another
 abbrev pub anchorEdgeIn : List ℤ → ℕ → ℕ → Bool → Anchor
-anchorEdgeIn points from to cw = lowerEdgeAt points from to (anchorPositionIn from cw)
+anchorEdgeIn points from to cw = lowestEdge points from to (anchorPositionIn from cw)
 
 abbrev pub anchorEdge : Table → Bool → ℕ → Anchor
 anchorEdge t cw c = anchorEdgeIn (t .points) (firstOf t c) (rangeEnd t c) cw

@@ -1,165 +1,169 @@
--- The anchor edge is the lower of the two at the anchor; and where neither is lower, both have one direction, so that
--- no rule tells which was chosen.
-use Prim.Native.Nat.{ℕ, _≤_, _<_}
+-- A hole's anchor edge: it is an edge of the contour at the anchor, none of these is lower, and edges at the anchor of which
+-- neither is lower have one direction, so that no rule tells which was kept. Where the contour passes its anchor once, it is
+-- the lower of the two edges there.
+use Prim.Native.Nat.{ℕ, _+_, _-_, _≤_, _<_}
 use native.Mathlib.Omega.{arith}
-use mathlib.Core.Path.{_≡_, refl, sym, ap, _∙_, subst}
+use mathlib.Core.Path.{_≡_, sym, ap, _∙_, subst}
 use mathlib.Core.Logic.{_⊎_, inl, inr, ⊎-elim}
-use mathlib.Core.Bool.{Bool, true, false, not, _&&_}
-use mathlib.Core.List.{[], _∷_}
-use lib.IntN.{ℤ, pos, negℤ, _-ℤ_, _*ℤ_}
-use lib.Signed.{ltZ, _<ℤ_}
-use Rattle.laws.specs.Test.{Is, yes!, not-is, true≢false, pick-ind, _⇒_, mp, or-true, and-true}
-use Rattle.laws.specs.Ring.{ring, var, con, _:-_}
-use Rattle.laws.specs.Sign.{Sgn, mns, zer, pls, sgn, flip, _⊗_, is-mns, eqS, plusOk, all6, sgn-neg, sgn-mul, sgn-add, ltZ-sgn}
-use Rattle.laws.specs.Order.{sub-pos, <-sgn, antisym}
-use Rattle.laws.specs.Compare.{lt-yes, lt-no}
+use mathlib.Core.Bool.{Bool, true, false}
+use mathlib.Core.List.{List}
+use lib.IntN.{ℤ}
+use Rattle.laws.specs.Test.{Is, true≢false, or-true}
 use Rattle.turn.specs.declared.Point.{Point}
-use Rattle.turn.specs.declared.Vector.{Vector}
-use Rattle.turn.specs.Points.{before, differ, fromTo, cross, dot, clockwise}
+use Rattle.turn.specs.Points.{before, differ, fromTo, clockwise}
 use Rattle.turn.specs.Angle.{sameDirection}
-use Rattle.turn.specs.Directions.{cross-anti, cross-self}
-use Rattle.turn.specs.PointOrder.{differ-sym}
-use Rattle.table.specs.Table.{Table, point, contourCount, firstOf, rangeEnd, isHole, next, previous}
+use Rattle.turn.specs.PointOrder.{differ-sym, differ-same, same-of-differ}
+use Rattle.table.specs.Table.{Table, pointIn, point, contourCount, firstOf, rangeEnd, isHole, nextIn, previousIn, next, previous}
 use Rattle.table.specs.Sound.{Sound}
 use Rattle.table.specs.Passing.{next-within, previous-within, next-previous}
+use Rattle.anchor.specs.declared.Anchor.{Anchor}
 use Rattle.anchor.specs.Anchor.{anchorPosition, anchorPoint, lowerEnd, anchorEdge}
 use Rattle.anchor.specs.AnchorPositions.{anchor-low, anchor-high}
 use Rattle.anchor.specs.Anchored.{Anchored}
+use Rattle.anchor.specs.Onward.{one-direction}
+use Rattle.anchor.specs.LowestEdges.{Ends, lowest-is, lowest-lower, lowest-once}
 
--- ---- clockwise, seen from a point
-not-self : (at p : Point) → clockwise at p p ≡ false
-not-self at p = ap (λ (z : ℤ). ltZ z (pos 0)) (cross-self (fromTo at p))
+-- ---- a contour's edges at a point
+-- the contour passes the point at position p
+pub record PassesAt (t : Table) (c : ℕ) (at : Point) (p : ℕ) : Type 0 where
+  pub from : firstOf t c ≤ p
+  pub to : p < rangeEnd t c
+  pub here : point t p ≡ at
 
-not-back : (at p q : Point) → clockwise at p q ≡ true → clockwise at q p ≡ false
-not-back at p q e =
-    ltZ-sgn (cross v u) ∙ ap (λ (z : ℤ). is-mns (sgn z)) (cross-anti u v) ∙ ap is-mns (sgn-neg (cross u v))
-    ∙ go (sgn (cross u v)) (sym (ltZ-sgn (cross u v)) ∙ e)
-  where
-    u : Vector
-    u = fromTo at p
+-- an edge of the contour from the point to another
+pub record EdgeAt (t : Table) (c : ℕ) (at end : Point) : Type 0 where
+  pub position : ℕ
+  pub passes : PassesAt t c at position
+  pub either : (end ≡ point t (next t c position)) ⊎ (end ≡ point t (previous t c position))
 
-    v : Vector
-    v = fromTo at q
+-- ---- "the lower of the two edges at that position" (document 01), of a contour that passes its anchor once
+abbrev pub lowerEdgeAt : List ℤ → ℕ → ℕ → ℕ → Anchor
+lowerEdgeAt points from to p =
+    record {
+      at = pointIn points p;
+      to = lowerEnd (pointIn points p) (pointIn points (nextIn from to p)) (pointIn points (previousIn from to p));
+    }
 
-    go : (s : Sgn) → is-mns s ≡ true → is-mns (flip s) ≡ false
-    go mns h = refl
-    go zer h = refl
-    go pls h = absurd (true≢false h refl)
+module _ (t : Table) (cw : Bool) (s : Sound t) (c : ℕ) (l : c < contourCount t) where
+  abbrev k : ℕ
+  k = anchorPosition t cw c
 
--- neither p nor q is strictly clockwise of the lower one's end
-pub record Lower (at p q to : Point) : Type 0 where
-  pub first : clockwise at to p ≡ false
-  pub second : clockwise at to q ≡ false
+  abbrev at : Point
+  at = anchorPoint t cw c
 
-pub lower-end : (at p q : Point) → Lower at p q (lowerEnd at p q)
-lower-end at p q = pick-ind (clockwise at p q) q p (Lower at p q)
-    (λ e. record { first = not-back at p q e; second = not-self at q }) (λ e. record { first = not-self at p; second = e })
+  anchor-passes : PassesAt t c at k
+  anchor-passes = record {
+    from = anchor-low (firstOf t c) cw;
+    to = omega (arith, anchor-high (firstOf t c) cw, s .long c l);
+    here = λ _. at;
+  }
 
--- and it is one of the two
-pub one-of : (P : Point → Type 0) (at p q : Point) → P p → P q → P (lowerEnd at p q)
-one-of P at p q h k = pick-ind (clockwise at p q) q p P (λ e. k) (λ e. h)
+  -- position k of the table is number k - first of the contour
+  number : (p : ℕ) → firstOf t c ≤ p → firstOf t c + (p - firstOf t c) ≡ p
+  number p h = omega arith
 
--- ---- from the least point every edge runs onward: rightward, or straight up
-abbrev pub Onward : Vector → Type 0
-Onward v = (pos 0 <ℤ v .x) ⊎ ((v .x ≡ pos 0) × (pos 0 <ℤ v .y))
+  passes-of : (i : ℕ) → i < rangeEnd t c - firstOf t c → differ (point t (firstOf t c + i)) at ≡ false → PassesAt t c at (firstOf t c + i)
+  passes-of i h q = record { from = omega arith; to = omega arith; here = same-of-differ (point t (firstOf t c + i)) at q }
 
-pub onward : (p q : Point) → before p q ≡ true → Onward (fromTo p q)
-onward p q e = go (ltZ (p .x) (q .x)) refl
-  where
-    nothing : (x y : ℤ) → x ≡ y → y -ℤ x ≡ pos 0
-    nothing x y h = rw h (ring (y ∷ []) (var 0 :- var 0) (con (pos 0)) tt)
+  -- what holds of the ends of all edges at the anchor
+  all-ends : (P : Point → Type 0) → ((p : ℕ) → PassesAt t c at p → (P (point t (next t c p))) × (P (point t (previous t c p))))
+      → Ends (t .points) (firstOf t c) (rangeEnd t c) at P (rangeEnd t c - firstOf t c)
+  all-ends P h i m q = h (firstOf t c + i) (passes-of i m q)
 
-    go : (b : Bool) → ltZ (p .x) (q .x) ≡ b → Onward (fromTo p q)
-    go true h = inl (sub-pos (p .x) (q .x) (lt-yes (p .x) (q .x) h))
-    go false h =
-        let k = and-true (not (ltZ (q .x) (p .x))) (ltZ (p .y) (q .y)) (rw h at e) in
-        inr (
-          nothing (p .x) (q .x) (antisym (lt-no (q .x) (p .x) (not-is (ltZ (q .x) (p .x)) (k .0))) (lt-no (p .x) (q .x) h)),
-          sub-pos (p .y) (q .y) (lt-yes (p .y) (q .y) (k .1)),
-        )
+  -- the anchor edge's end is one of them
+  pub edge-end : (P : Point → Type 0) → ((p : ℕ) → PassesAt t c at p → (P (point t (next t c p))) × (P (point t (previous t c p))))
+      → P (anchorEdge t cw c .to)
+  edge-end P h =
+      lowest-is (t .points) (firstOf t c) (rangeEnd t c) at P (point t (next t c k)) (rangeEnd t c - firstOf t c) (h k anchor-passes .0) (all-ends P h)
 
-abbrev ahead : Sgn → Sgn → Bool
-ahead mns b = false
-ahead zer b = eqS b pls
-ahead pls b = true
+  pub edge-at : EdgeAt t c at (anchorEdge t cw c .to)
+  edge-at = edge-end (EdgeAt t c at) (λ p q. (
+    record { position = p; passes = q; either = inl (λ _. point t (next t c p)) },
+    record { position = p; passes = q; either = inr (λ _. point t (previous t c p)) },
+  ))
 
-runs-ahead : (v : Vector) → Onward v → Is (ahead (sgn (v .x)) (sgn (v .y)))
-runs-ahead v (inl h) = rw (<-sgn (v .x) h) (yes! tt)
-runs-ahead v (inr (e, h)) = rw (e, <-sgn (v .y) h) (yes! tt)
+  -- of a contour that passes its anchor once
+  pub edge-once : ((p : ℕ) → PassesAt t c at p → p ≡ k) → anchorEdge t cw c ≡ lowerEdgeAt (t .points) (firstOf t c) (rangeEnd t c) k
+  edge-once h = λ i. record { at = at; to = ends i }
+    where
+      e : firstOf t c + (k - firstOf t c) ≡ k
+      e = number k (anchor-passes .from)
 
--- two such vectors of which neither is clockwise of the other: by all signs of their coordinates, of the cross and of the dot product
-abbrev alike : Sgn → Sgn → Sgn → Sgn → Sgn → Sgn → Bool
-alike a b c d s e =
-    ahead a b ⇒ (ahead c d ⇒ (not (is-mns s) ⇒ (not (is-mns (flip s)) ⇒
-    (plusOk (a ⊗ d) (flip (b ⊗ c)) s ⇒ (plusOk (a ⊗ c) (b ⊗ d) e ⇒ (eqS s zer && eqS e pls))))))
+      ends : anchorEdge t cw c .to ≡ lowerEdgeAt (t .points) (firstOf t c) (rangeEnd t c) k .to
+      ends =
+          rw e at
+          (lowest-once (t .points) (firstOf t c) (rangeEnd t c) at (k - firstOf t c) (rangeEnd t c - firstOf t c)
+          (omega (arith, anchor-passes .from, anchor-passes .to))
+          (rw e (differ-same at))
+          (λ i m q. let w = h (firstOf t c + i) (passes-of i m q) in omega arith))
 
-pub one-direction : (at p q : Point) → before at p ≡ true → before at q ≡ true → clockwise at p q ≡ false → clockwise at q p ≡ false
-    → Is (sameDirection (fromTo at p) (fromTo at q))
-one-direction at p q hp hq e f =
-    mp (mp (mp (mp (mp (mp
-    (all6 alike tt (sgn (u .x)) (sgn (u .y)) (sgn (v .x)) (sgn (v .y)) (sgn (cross u v)) (sgn (dot u v)))
-    (runs-ahead u (onward at p hp))) (runs-ahead v (onward at q hq))) (no _ (sym (ltZ-sgn (cross u v)) ∙ e))) (no _ back)) crossed) dotted
-  where
-    u : Vector
-    u = fromTo at p
-
-    v : Vector
-    v = fromTo at q
-
-    no : (b : Bool) → b ≡ false → Is (not b)
-    no b h = rw h (yes! tt)
-
-    back : is-mns (flip (sgn (cross u v))) ≡ false
-    back = ap is-mns (sym (sgn-neg (cross u v))) ∙ ap (λ (z : ℤ). is-mns (sgn z)) (sym (cross-anti u v)) ∙ sym (ltZ-sgn (cross v u)) ∙ f
-
-    crossed : Is (plusOk (sgn (u .x) ⊗ sgn (v .y)) (flip (sgn (u .y) ⊗ sgn (v .x))) (sgn (cross u v)))
-    crossed = rw (sgn-mul (u .x) (v .y), sgn-neg (u .y *ℤ v .x), sgn-mul (u .y) (v .x)) at (sgn-add (u .x *ℤ v .y) (negℤ (u .y *ℤ v .x)))
-
-    dotted : Is (plusOk (sgn (u .x) ⊗ sgn (v .x)) (sgn (u .y) ⊗ sgn (v .y)) (sgn (dot u v)))
-    dotted = rw (sgn-mul (u .x) (v .x), sgn-mul (u .y) (v .y)) at (sgn-add (u .x *ℤ v .x) (u .y *ℤ v .y))
-
--- ---- in a table that passes both checks
+-- ---- of a hole in a table that passes both checks
 ahead-of : (at p : Point) → differ at p ≡ true → before p at ≡ false → before at p ≡ true
 ahead-of at p h k = ⊎-elim (λ (e : before at p ≡ true). e) (λ (e : before p at ≡ true). absurd (true≢false e k)) (or-true (before at p) (before p at) h)
 
 module _ (t : Table) (cw : Bool) (s : Sound t) (a : Anchored t cw) (c : ℕ) (l : c < contourCount t) (h : isHole t c ≡ true) where
-  abbrev k : ℕ
-  k = anchorPosition t cw c
+  abbrev anchor : Point
+  anchor = anchorPoint t cw c
 
-  -- the points after and before the anchor
-  abbrev pub after : Point
-  after = point t (next t c k)
+  -- every edge at the anchor runs rightward or straight up
+  abbrev Ahead : Point → Type 0
+  Ahead p = before anchor p ≡ true
 
-  abbrev pub earlier : Point
-  earlier = point t (previous t c k)
+  ends-ahead : (p : ℕ) → PassesAt t c anchor p → (Ahead (point t (next t c p))) × (Ahead (point t (previous t c p)))
+  ends-ahead p q = (
+    ahead-of anchor (point t (next t c p)) (subst (λ (x : Point). differ x (point t (next t c p)) ≡ true) (q .here) (s .neighbours c p l (q .from) (q .to)))
+        (a .least c (next t c p) l h (n .0) (n .1)),
+    ahead-of anchor (point t (previous t c p))
+        (differ-sym anchor (point t (previous t c p))
+        ∙ subst (λ (x : Point). differ (point t (previous t c p)) x ≡ true)
+        (ap (point t) (next-previous (firstOf t c) (rangeEnd t c) p (q .from) (q .to)) ∙ q .here) (s .neighbours c (previous t c p) l (w .0) (w .1)))
+        (a .least c (previous t c p) l h (w .0) (w .1)),
+  )
+    where
+      n : (firstOf t c ≤ next t c p) × (next t c p < rangeEnd t c)
+      n = next-within (firstOf t c) (rangeEnd t c) p (q .from) (q .to)
 
-  low : firstOf t c ≤ k
-  low = anchor-low (firstOf t c) cw
+      w : (firstOf t c ≤ previous t c p) × (previous t c p < rangeEnd t c)
+      w = previous-within (firstOf t c) (rangeEnd t c) p (q .from) (q .to)
 
-  high : k < rangeEnd t c
-  high = omega (arith, anchor-high (firstOf t c) cw, s .long c l)
-
-  after-ahead : before (anchorPoint t cw c) after ≡ true
-  after-ahead =
-      let w = next-within (firstOf t c) (rangeEnd t c) k low high in
-      ahead-of (anchorPoint t cw c) after (s .neighbours c k l low high) (a .least c (next t c k) l h (w .0) (w .1))
-
-  earlier-ahead : before (anchorPoint t cw c) earlier ≡ true
-  earlier-ahead =
-      let w = previous-within (firstOf t c) (rangeEnd t c) k low high in
-      let d = s .neighbours c (previous t c k) l (w .0) (w .1) in
-      let e = subst (λ (x : ℕ). differ earlier (point t x) ≡ true) (next-previous (firstOf t c) (rangeEnd t c) k low high) d in
-      ahead-of (anchorPoint t cw c) earlier (differ-sym (anchorPoint t cw c) earlier ∙ e) (a .least c (previous t c k) l h (w .0) (w .1))
-
-  -- a hole's anchor edge runs rightward or straight up
+  -- so does the anchor edge
   pub edge-ahead : before (anchorEdge t cw c .at) (anchorEdge t cw c .to) ≡ true
-  edge-ahead = one-of (λ (p : Point). before (anchorPoint t cw c) p ≡ true) (anchorPoint t cw c) after earlier after-ahead earlier-ahead
+  edge-ahead = edge-end t cw s c l Ahead ends-ahead
 
-  -- neither edge at the anchor is strictly clockwise of it
-  pub edge-lower : Lower (anchorPoint t cw c) after earlier (anchorEdge t cw c .to)
-  edge-lower = lower-end (anchorPoint t cw c) after earlier
+  -- no edge of the contour at the anchor is strictly clockwise of the anchor edge
+  pub edge-lowest : (p : Point) → EdgeAt t c anchor p → clockwise anchor (anchorEdge t cw c .to) p ≡ false
+  edge-lowest p e = go (e .either)
+    where
+      i : ℕ
+      i = e .position - firstOf t c
 
-  -- where neither of the two is lower than the other, both have one direction
-  pub edge-tie : clockwise (anchorPoint t cw c) after earlier ≡ false → clockwise (anchorPoint t cw c) earlier after ≡ false
-      → Is (sameDirection (fromTo (anchorPoint t cw c) after) (fromTo (anchorPoint t cw c) earlier))
-  edge-tie = one-direction (anchorPoint t cw c) after earlier after-ahead earlier-ahead
+      z : firstOf t c + i ≡ e .position
+      z = number t cw s c l (e .position) (e .passes .from)
+
+      passing : differ (point t (firstOf t c + i)) anchor ≡ false
+      passing = subst (λ (x : Point). differ x anchor ≡ false) (sym (ap (point t) z ∙ e .passes .here)) (differ-same anchor)
+
+      low : (clockwise anchor (anchorEdge t cw c .to) (point t (next t c (e .position))) ≡ false)
+          × (clockwise anchor (anchorEdge t cw c .to) (point t (previous t c (e .position))) ≡ false)
+      low =
+          subst (λ (q : ℕ). (clockwise anchor (anchorEdge t cw c .to) (point t (next t c q)) ≡ false)
+          × (clockwise anchor (anchorEdge t cw c .to) (point t (previous t c q)) ≡ false)) z
+          (lowest-lower (t .points) (firstOf t c) (rangeEnd t c) anchor (point t (next t c (anchorPosition t cw c)))
+          (ends-ahead (anchorPosition t cw c) (anchor-passes t cw s c l) .0) (rangeEnd t c - firstOf t c) (all-ends t cw s c l Ahead ends-ahead) i
+          (omega (arith, e .passes .from, e .passes .to)) passing)
+
+      go : (p ≡ point t (next t c (e .position))) ⊎ (p ≡ point t (previous t c (e .position))) → clockwise anchor (anchorEdge t cw c .to) p ≡ false
+      go (inl q) = rw q (low .0)
+      go (inr q) = rw q (low .1)
+
+  edge-onward : (p : Point) → EdgeAt t c anchor p → Ahead p
+  edge-onward p e = go (e .either)
+    where
+      go : (p ≡ point t (next t c (e .position))) ⊎ (p ≡ point t (previous t c (e .position))) → Ahead p
+      go (inl q) = rw q (ends-ahead (e .position) (e .passes) .0)
+      go (inr q) = rw q (ends-ahead (e .position) (e .passes) .1)
+
+  -- an edge at the anchor than which the anchor edge is not lower has its direction
+  pub edge-tie : (p : Point) → EdgeAt t c anchor p → clockwise anchor p (anchorEdge t cw c .to) ≡ false
+      → Is (sameDirection (fromTo anchor (anchorEdge t cw c .to)) (fromTo anchor p))
+  edge-tie p e q = one-direction anchor (anchorEdge t cw c .to) p edge-ahead (edge-onward p e) (edge-lowest p e) q

@@ -4,6 +4,8 @@ pub mod AnchorChecks
 pub mod Anchors
 pub mod Anchored
 pub mod Examples
+pub mod Onward
+pub mod LowestEdges
 pub mod AnchorPositions
 pub mod Anchoring
 pub mod AnchorLaws

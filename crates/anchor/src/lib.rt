@@ -4,8 +4,8 @@ ghost use mathlib.Core.Path.{_≡_};
 ghost use Prim.Native.Nat.{ℕ, suc, _+_, _*_, _^_, _<_, _≤_};
 ghost use lib.ListN.{length};
 ghost use Rattle.turn.specs.Points.{Grid, OnGrid};
-ghost use Rattle.table.specs.Table.{previousIn};
-ghost use Rattle.anchor.specs.Anchor.{anchorPositionIn, lowerEnd};
+ghost use Rattle.anchor.specs.Anchor.{anchorPositionIn, lowerEnd, lowestThere};
+ghost use Rattle.anchor.specs.LowestEdges.{NextVisit};
 ghost use Rattle.anchor.specs.Anchors.{Anchors, anchors, AnchorRoom};
 ghost use Rattle.anchor.specs.Promises.{anchor-point-says, left-bottom-segment-from-says, listed-anchor-says, put-anchor-says};
 
@@ -45,29 +45,47 @@ fn lower_end(at: Point, p: Point, q: Point) -> Point
     p
 }
 
-// The anchor edge of the contour of so many points from a position on.
+// The first position from p on, and before `to`, at which the contour passes the point `at`; `to` where there is none.
+fn next_visit(points: &[i32], at: Point, p: usize, to: usize) -> usize
+    requires { ⌜ (p ≤ to) × (to * 2 ≤ length (now points)) ⌝ }
+    ensures { λ r. ⌜ NextVisit (now (points .entry)) at p to r ⌝ }
+{
+    let mut q = p;
+    while q < to {
+        if turn::differ(table::point_in(points, q), at) {
+            q += 1;
+            continue;
+        }
+        return q;
+    }
+    q
+}
+
+// The lowest edge so far, by its other end, beside both edges at position p, where the contour passes the point `at`.
+fn lowest_there(points: &[i32], from: usize, to: usize, at: Point, p: usize, best: Point) -> Point
+    requires { ⌜ (from ≤ p) × (p < to) × (to * 2 ≤ length (now points)) × (Grid (now points)) × (OnGrid at) × (OnGrid best) ⌝ }
+    ensures { λ r. ⌜ r ≡ lowestThere (now (points .entry)) from to at p best ⌝ }
+{
+    let next = table::point_in(points, table::next_position(p, from, to));
+    let previous = table::point_in(points, table::previous_position(p, from, to));
+    lower_end(at, lower_end(at, best, next), previous)
+}
+
+// The anchor edge of the contour of so many points from a position on: the lowest of all its edges at the anchor.
+// The search for the next visit has a loop of its own: nearly all points are none, and nothing else is kept while it runs.
 pub fn left_bottom_segment_from(points: &[i32], from: usize, len: usize, clockwise: bool) -> Anchor
     requires { ⌜ (3 ≤ len) × ((from + len) * 2 ≤ length (now points)) × (Grid (now points)) ⌝ }
     ensures { λ r. ⌜ left-bottom-segment-from-says (now (points .entry)) from len clockwise r ⌝ }
 {
+    let to = from + len;
     let at = anchor_point(points, from, clockwise);
-    let next = table::point_in(points, anchor_position(from, clockwise) + 1);
-    let previous = table::point_in(points, before_anchor(from, len, clockwise));
-    Anchor {
-        at: at,
-        to: lower_end(at, next, previous),
+    let mut best = table::point_in(points, anchor_position(from, clockwise) + 1);
+    let mut p = next_visit(points, at, from, to);
+    while p < to {
+        best = lowest_there(points, from, to, at, p, best);
+        p = next_visit(points, at, p + 1, to);
     }
-}
-
-// The position before the anchor's, round the contour.
-fn before_anchor(from: usize, len: usize, clockwise: bool) -> usize
-    requires { ⌜ (3 ≤ len) × (from + len < 2 ^ 64) ⌝ }
-    ensures { λ r. ⌜ r ≡ previousIn from (from + len) (anchorPositionIn from clockwise) ⌝ }
-{
-    if clockwise {
-        return from;
-    }
-    from + len - 1
+    Anchor { at: at, to: best }
 }
 
 // Anchor j of those that the lists hold.

@@ -1,13 +1,14 @@
--- E9 and E10, and what binding answers of tables near them.
+-- E9 and E10, what binding answers of tables near them, and holes that pass their anchor twice.
 use mathlib.Core.Path.{_≡_, refl}
 use mathlib.Core.Bool.{true, false}
-use mathlib.Core.List.{[], _∷_, _++_}
-use lib.IntN.{pos}
+use mathlib.Core.List.{List, [], _∷_, _++_}
+use lib.IntN.{ℤ, pos}
 use Rattle.laws.specs.Lowest.{lowest}
 use Rattle.laws.specs.Count.{count}
 use Rattle.table.specs.Table.{Table, table, droppedOwner}
 use Rattle.table.specs.TableChecks.{tableChecked}
 use Rattle.table.specs.Examples.{e9, e10, e10One, noHull}
+use Rattle.anchor.specs.Anchor.{lowestEnd}
 use Rattle.anchor.specs.AnchorChecks.{holeBefore, anchorsChecked}
 use Rattle.edges.specs.Edges.{liesUnder, winsTie, nearer}
 use Rattle.candidates.specs.Candidates.{edge}
@@ -62,3 +63,32 @@ e9-clockwise : bound e9Clockwise true (7 ∷ 7 ∷ 7 ∷ 7 ∷ []) ≡ outcome (
 unfolding e9Clockwise tableChecked anchorsChecked lowest count holeBefore liesUnder winsTie nearer edge kept offered keep nearest contourUnder slot
     inserted sorted holesBelow tabulate giveEach ownersOf
 e9-clockwise = refl
+
+-- ---- "A hole touching its island" [02, b]: a filled island touches the hole's leftmost point, (4, 10), and there is another
+-- patch. The anchor edge is the hole's lowest there, to (10, 4), so that none of its own lies under: the hull's lower side does.
+abbrev hullOne : List ℤ
+hullOne = pos 0 ∷ pos 20 ∷ pos 0 ∷ pos 0 ∷ pos 20 ∷ pos 0 ∷ pos 20 ∷ pos 20 ∷ []
+
+abbrev touchedHole : List ℤ
+touchedHole =
+    pos 4 ∷ pos 10 ∷ pos 10 ∷ pos 16 ∷ pos 16 ∷ pos 10 ∷ pos 10 ∷ pos 4 ∷ pos 4 ∷ pos 10 ∷ pos 8 ∷ pos 8 ∷ pos 8 ∷ pos 12 ∷ []
+
+abbrev hullTwo : List ℤ
+hullTwo = pos 30 ∷ pos 10 ∷ pos 30 ∷ pos 0 ∷ pos 40 ∷ pos 0 ∷ pos 40 ∷ pos 10 ∷ []
+
+touched : bound (table (hullOne ++ (touchedHole ++ hullTwo)) (0 ∷ 4 ∷ 11 ∷ []) (4 ∷ 7 ∷ 4 ∷ []) (0 ∷ 1 ∷ 0 ∷ [])) false (7 ∷ 7 ∷ 7 ∷ [])
+    ≡ outcome (Bound 2 0) (0 ∷ 0 ∷ 1 ∷ [])
+unfolding tableChecked anchorsChecked lowest count holeBefore lowestEnd liesUnder winsTie nearer edge kept offered keep nearest contourUnder slot inserted
+    sorted holesBelow tabulate giveEach ownersOf
+touched = refl
+
+-- With a hole in that island, from the same point to (7, 11) and (7, 9), which lies over the island's edge to (8, 8): the
+-- other hole goes first by the angles of the anchor edges, and this one gets its parent.
+abbrev pond : List ℤ
+pond = pos 4 ∷ pos 10 ∷ pos 7 ∷ pos 11 ∷ pos 7 ∷ pos 9 ∷ []
+
+touched-twice : bound (table (hullTwo ++ (pond ++ (touchedHole ++ hullOne))) (0 ∷ 4 ∷ 7 ∷ 14 ∷ []) (4 ∷ 3 ∷ 7 ∷ 4 ∷ []) (0 ∷ 1 ∷ 1 ∷ 0 ∷ [])) false
+    (7 ∷ 7 ∷ 7 ∷ 7 ∷ []) ≡ outcome (Bound 2 0) (0 ∷ 1 ∷ 1 ∷ 1 ∷ [])
+unfolding tableChecked anchorsChecked lowest count holeBefore lowestEnd liesUnder winsTie nearer edge kept offered keep nearest contourUnder slot inserted
+    sorted holesBelow tabulate giveEach ownersOf
+touched-twice = refl

@@ -10,78 +10,28 @@ use native.Mathlib.Decide.{decLe, ℕ-discrete}
 use lib.Dec.{T, ltb, ltb→lt, lt→ltb}
 use borrow.Author.Tests.{eq-eqb, ne-eqb, lt-ltb, le-ltb, ltb-false}
 use lib.ListN.{length}
-use lib.IntN.{ℤ, pos, _-ℤ_, _*ℤ_}
-use lib.Signed.{_<ℤ_}
-use Rattle.laws.specs.Test.{pick, Is, yes!, is-true, true-is, not-is, or-false, and-true}
-use Rattle.laws.specs.Ring.{ring, var, con, _:+_, _:-_, _:*_, neg}
-use Rattle.laws.specs.Sign.{Sgn, mns, zer, pls, sgn, flip, _⊗_, plusOk, three, sgn-mul, sgn-neg}
-use Rattle.laws.specs.Order.{<-sgn}
+use lib.IntN.{ℤ, pos, _-ℤ_}
+use Rattle.laws.specs.Test.{pick, is-true, true-is, not-is, or-false, and-true}
+use Rattle.laws.specs.Ring.{ring, var, con, _:-_, _:*_}
+use Rattle.laws.specs.Sign.{sgn}
 use Rattle.laws.specs.Compare.{lower, lower-sign, bySign, lower-trans, lower-neither}
 use Rattle.laws.specs.Count.{count, count-snoc}
 use Rattle.turn.specs.declared.Point.{Point}
 use Rattle.turn.specs.declared.Vector.{Vector}
 use Rattle.turn.specs.Points.{before, cross}
+use Rattle.turn.specs.Directions.{cross-self}
 use Rattle.turn.specs.PointOrder.{before-irreflexive, before-transitive, before-total}
 use Rattle.table.specs.Table.{Table, contourCount, isHole}
 use Rattle.table.specs.Sound.{Sound}
 use Rattle.anchor.specs.declared.Anchor.{Anchor}
 use Rattle.anchor.specs.Anchor.{anchorEdge, anchorWay}
 use Rattle.anchor.specs.Anchored.{Anchored}
-use Rattle.anchor.specs.AnchorLaws.{Onward, onward, edge-ahead}
+use Rattle.anchor.specs.Onward.{Onward, onward, turning}
+use Rattle.anchor.specs.AnchorLaws.{edge-ahead}
 use Rattle.precede.specs.Precedence.{goesBefore}
 use Rattle.order.specs.HoleOrder.{precedes, holesBelow, holes, hole, bindingOrder}
 use Rattle.order.specs.HoleLaws.{Rising, holes-rising, holes-are}
 use Rattle.order.specs.Insertion.{Strict, InOrder, sorted-in-order, count-all}
-
--- ---- turning from one vector that runs onward to another never passes straight down
-by-one : (s : Sgn) → s ⊗ pls ≡ s
-by-one mns = refl
-by-one zer = refl
-by-one pls = refl
-
--- against a vector u that runs straight up
-module _ (u v : Vector) (e : u .x ≡ pos 0) (h : pos 0 <ℤ u .y) where
-  to-up : sgn (cross v u) ≡ sgn (v .x)
-  to-up =
-      ap sgn (ap (λ (x : ℤ). v .x *ℤ u .y -ℤ v .y *ℤ x) e ∙ ring (v .x ∷ v .y ∷ u .y ∷ []) (var 0 :* var 2 :- var 1 :* con (pos 0)) (var 0 :* var 2) tt)
-      ∙ sgn-mul (v .x) (u .y) ∙ ap (λ (s : Sgn). sgn (v .x) ⊗ s) (<-sgn (u .y) h) ∙ by-one (sgn (v .x))
-
-  from-up : sgn (cross u v) ≡ flip (sgn (v .x))
-  from-up =
-      ap sgn (ap (λ (x : ℤ). x *ℤ v .y -ℤ u .y *ℤ v .x) e ∙ ring (v .x ∷ v .y ∷ u .y ∷ []) (con (pos 0) :* var 1 :- var 2 :* var 0) (neg (var 2 :* var 0)) tt)
-      ∙ sgn-neg (u .y *ℤ v .x) ∙ ap flip (sgn-mul (u .y) (v .x) ∙ ap (λ (s : Sgn). s ⊗ sgn (v .x)) (<-sgn (u .y) h))
-
-low-any : (s : Sgn) → Is (plusOk s mns mns)
-low-any mns = yes! tt
-low-any zer = yes! tt
-low-any pls = yes! tt
-
-any-high : (s : Sgn) → Is (plusOk pls s pls)
-any-high mns = yes! tt
-any-high zer = yes! tt
-any-high pls = yes! tt
-
-turning : (u v w : Vector) → Onward u → Onward v → Onward w → Is (plusOk (sgn (cross v u)) (sgn (cross w v)) (sgn (cross w u)))
-turning u v w (inl a) (inl b) (inl c) =
-    rw (<-sgn (u .x) a, <-sgn (v .x) b, <-sgn (w .x) c) at
-    (three (v .x) (cross w u) (w .x) (cross v u) (u .x) (cross w v)
-    (ring (u .x ∷ u .y ∷ v .x ∷ v .y ∷ w .x ∷ w .y ∷ [])
-    (var 2 :* (var 4 :* var 1 :- var 5 :* var 0))
-    (var 4 :* (var 2 :* var 1 :- var 3 :* var 0) :+ var 0 :* (var 4 :* var 3 :- var 5 :* var 2)) tt))
-turning u v w (inl a) (inl b) (inr (c, d)) =
-    rw (from-up w v c d ∙ ap flip (<-sgn (v .x) b), from-up w u c d ∙ ap flip (<-sgn (u .x) a)) (low-any (sgn (cross v u)))
-turning u v w (inl a) (inr (b, d)) (inl c) =
-    rw (from-up v u b d ∙ ap flip (<-sgn (u .x) a), to-up v w b d ∙ <-sgn (w .x) c) (yes! tt)
-turning u v w (inl a) (inr (b, d)) (inr (c, f)) =
-    rw (from-up v u b d ∙ ap flip (<-sgn (u .x) a), to-up v w b d ∙ ap sgn c, from-up w u c f ∙ ap flip (<-sgn (u .x) a)) (yes! tt)
-turning u v w (inr (a, d)) (inl b) (inl c) =
-    rw (to-up u v a d ∙ <-sgn (v .x) b, to-up u w a d ∙ <-sgn (w .x) c) (any-high (sgn (cross w v)))
-turning u v w (inr (a, d)) (inl b) (inr (c, f)) =
-    rw (to-up u v a d ∙ <-sgn (v .x) b, from-up w v c f ∙ ap flip (<-sgn (v .x) b)) (yes! tt)
-turning u v w (inr (a, d)) (inr (b, f)) (inl c) =
-    rw (to-up u v a d ∙ ap sgn b, to-up v w b f ∙ <-sgn (w .x) c, to-up u w a d ∙ <-sgn (w .x) c) (yes! tt)
-turning u v w (inr (a, d)) (inr (b, f)) (inr (c, g)) =
-    rw (to-up u v a d ∙ ap sgn b, to-up v w b f ∙ ap sgn c, to-up u w a d ∙ ap sgn c) (yes! tt)
 
 -- ---- by angle, then by number
 abbrev byAngle : Vector → Vector → ℕ → ℕ → Bool
@@ -159,16 +109,22 @@ goes-total a b c d n p = go (goesBefore b a d c) refl
     go true q = q
     go false q = absurd (n (neither q))
 
+-- a hole does not go before itself
+pub precedes-itself : (t : Table) (cw : Bool) (c : ℕ) → precedes t cw c c ≡ false
+precedes-itself t cw c =
+    let a = anchorEdge t cw c in
+    rw (before-irreflexive (a .at), cross-self (anchorWay a)) (le-ltb c c (omega arith))
+
 -- ---- in a table that passes checks 10 and 11
 module _ (t : Table) (cw : Bool) (s : Sound t) (a : Anchored t cw) where
   -- a hole of the table
-  abbrev IsHole : ℕ → Type 0
+  abbrev pub IsHole : ℕ → Type 0
   IsHole c = (c < contourCount t) × (isHole t c ≡ true)
 
   ahead : (c : ℕ) → IsHole c → Onward (anchorWay (anchorEdge t cw c))
   ahead c (l, h) = onward (anchorEdge t cw c .at) (anchorEdge t cw c .to) (edge-ahead t cw s a c l h)
 
-  strict : Strict (precedes t cw) IsHole
+  pub strict : Strict (precedes t cw) IsHole
   strict = record {
     transitive = λ x y z h k m. goes-trans (anchorEdge t cw x) (anchorEdge t cw y) (anchorEdge t cw z) x y z (ahead x h) (ahead y k) (ahead z m);
     total = λ x y h k n. goes-total (anchorEdge t cw x) (anchorEdge t cw y) x y n;

@@ -115,7 +115,7 @@ module _ (under : ℕ → ℕ) (n : ℕ) (some : 0 < n) where
           joined b (r (held-on old c (given (under c) old) b h) q)
 
 -- ---- the first owners
-hull-below : (kinds : List ℕ) (c : ℕ) → c < length kinds → getD kinds c 0 ≡ 0 → firstOwner kinds c < hulls kinds
+pub hull-below : (kinds : List ℕ) (c : ℕ) → c < length kinds → getD kinds c 0 ≡ 0 → firstOwner kinds c < hulls kinds
 hull-below kinds c l e =
     let m : hulls (take (c + 1) kinds) ≡ hulls (take c kinds) + 1 = count-more 0 kinds c l ∙ rw (eq-eqb _ _ e) in
     rw (eq-eqb _ _ e) (omega (arith, m, count-most 0 (c + 1) kinds))
