@@ -57,8 +57,8 @@
  *        coordinate is out of range; kind is neither 0 nor 1
  *   11   a hole's anchor (point 1 for clockwise output, else point 0) is not its  lowest such contour
  *        least point, or is before the previous hole's anchor
- *   12   there are two hulls or more, and no edge lies under a hole's anchor, or  that hole's contour
- *        the nearest one belongs to a hole that has no owner yet
+ *   12   there are two hulls or more, and no edge with fill above lies under a    that hole's contour
+ *        hole's anchor
  *
  * What the buffers hold afterwards.
  *   0         what was asked for; see each function.

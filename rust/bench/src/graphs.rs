@@ -35,6 +35,7 @@ pub fn large() -> Vec<Group> {
         Group::of_one("checkerboard of 1,024 touching squares", checkerboard(64, 32)),
         Group::of_one("one contour of 4,094 links", one_contour(2046)),
         Group::of_one("board with 930 holes", holes(63, 61)),
+        Group::of_one("two hulls, 7 holes of 500 links", long_holes(7, 249)),
         Group::of_one("random mesh, 200 holes, 400 hulls", blocks(BLOCKS, 1)),
         Group::of_one("another such mesh", blocks(BLOCKS, 2)),
         Group::of_one("star of 2,730 links at one node", star(2730, Numbering::Sorted)),
@@ -80,6 +81,7 @@ pub fn small() -> Vec<Group> {
         Group::of_one("small checkerboard", checkerboard(4, 3)),
         Group::of_one("short contour", one_contour(6)),
         Group::of_one("small board with holes", holes(7, 5)),
+        Group::of_one("two hulls, few holes", long_holes(2, 5)),
         Group::of_one("small star", star(10, Numbering::Sorted)),
         Group::of_one("star of 40, its entries shuffled", star(40, Numbering::Shuffled)),
         Group { name: "small meshes", samples: (1..=3).map(|seed| blocks(3, seed)).collect(), repeats: 2 },
@@ -136,6 +138,15 @@ fn strip(columns: usize) -> Sample {
 
 fn holes(columns: usize, rows: usize) -> Sample {
     board(columns, rows, |column, row| column % 2 == 0 || row % 2 == 0)
+}
+
+/// So many holes above one another, each one cell high and so many wide, and a filled cell beside them: so the holes are searched.
+fn long_holes(count: usize, width: usize) -> Sample {
+    board(width + 4, 2 * count + 1, |column, row| {
+        let is_hole = row % 2 == 1 && (1..=width).contains(&column);
+        let is_beside = (column, row) == (width + 3, 0);
+        is_beside || column < width + 2 && !is_hole
+    })
 }
 
 /// A band with a toothed upper and a toothed lower rim.

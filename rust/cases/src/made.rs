@@ -86,3 +86,12 @@ pub fn boxes(table: &mut Table, hulls: usize, holes: usize) {
         table.push(&[[x, y], [x, y + 6], [x + 6, y + 6], [x + 6, y]].map(|[x, y]| Point::new(x, y)), true);
     }
 }
+
+/// A hole that passes (1, 1) so many times, clockwise round a triangle each time; the lowest comes halfway.
+pub fn petals(table: &mut Table, visits: usize) {
+    let petal = |visit: usize| {
+        let low = 1 + 2 * ((visit + visits / 2) % visits) as i32;
+        [[1, 1], [30, low + 1], [30, low]].map(|[x, y]| Point::new(x, y))
+    };
+    table.push(&(0..visits).flat_map(petal).collect::<Vec<_>>(), true);
+}

@@ -121,6 +121,7 @@ impl Block {
             "hull" | "hole" => input.table.push(&line.points(1), line.word(0) == "hole"),
             "zigzag" => made::zigzag(&mut input.table, line.number(1)),
             "boxes" => made::boxes(&mut input.table, line.number(1), line.number(2)),
+            "petals" => made::petals(&mut input.table, line.number(1)),
             "direction" | "minimum" | "straight" => setting(input, line),
             "look" => input.look = line.numbers(1),
             "room" => room(input, line),

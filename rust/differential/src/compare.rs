@@ -1,7 +1,7 @@
 //! One graph under one setting: the text's answer, ours, and what their comparison says.
 
 use crate::sides::Outcome;
-use reading::bind::is_difference_2;
+use reading::bind::anchor_visits;
 use reading::geometry::Point;
 use reading::walk::Walk;
 use std::panic::{AssertUnwindSafe, catch_unwind};
@@ -30,26 +30,28 @@ pub fn ask_text(run: &mut Run) -> TextAnswer {
     TextAnswer { contours, states, shapes }
 }
 
-/// The difference that document 01 names for a run, if any.
+/// What document 01 says of a run.
 #[derive(Clone, Copy, Debug, PartialEq, Eq)]
 pub enum Expected {
-    /// Everything is equal.
-    Equality,
+    /// Everything is equal. Revisited: there are two hulls or more, and a hole passes its anchor point more than once.
+    Equality { revisited: bool },
     /// A rejected walk leaves the scan's link unvisited: the crate moves on.
     Difference1,
-    /// A hole passes its anchor point twice: the crate looks at every visit. The contours are equal.
-    Difference2,
+}
+
+impl Expected {
+    pub fn is_equality(self) -> bool {
+        matches!(self, Self::Equality { .. })
+    }
 }
 
 pub fn expected(walks: &[Walk], outcome: &Outcome, clockwise: bool) -> Expected {
     let mut holes = outcome.contours.iter().zip(&outcome.kinds).filter(|(_, kind)| **kind == 1);
     if walks.iter().any(|walk| walk.is_difference_1()) {
-        Expected::Difference1
-    } else if outcome.hulls() > 1 && holes.any(|(hole, _)| is_difference_2(hole, clockwise)) {
-        Expected::Difference2
-    } else {
-        Expected::Equality
+        return Expected::Difference1;
     }
+    let revisited = outcome.hulls() > 1 && holes.any(|(hole, _)| anchor_visits(hole, clockwise).count() > 1);
+    Expected::Equality { revisited }
 }
 
 /// What was found equal.

@@ -2,7 +2,7 @@
 
 use crate::compare::Shapes;
 use generators::Sample;
-use reading::bind::{NO_OWNER, Table, Visits, bind_seeing};
+use reading::bind::{NO_OWNER, Table, bind};
 use reading::geometry::Point;
 use reading::graph::Buffers;
 use reading::walk::{Scan, walks};
@@ -69,9 +69,9 @@ pub fn by(side: Side, sample: &Sample, settings: Settings) -> Result<Outcome, Re
     Ok(Outcome::new(&table, lent.state, walked, owners))
 }
 
-/// The reading's answer with the crate's own rules where document 01 names a difference: the scan moves on (D1), and the anchor
-/// edge is sought at every visit (D2). A scan that moves on may find holes out of the order that check 11 asks for; the crate asks
-/// for it with two hulls or more. None where that scan's walks are refused. For a graph that passed checks 1 to 7.
+/// The reading's answer with the crate's own rule where document 01 names a difference: the scan moves on (D1). It may then find
+/// holes out of the order that check 11 asks for; the crate asks for it with two hulls or more. None where that scan's walks are
+/// refused. For a graph that passed checks 1 to 7.
 pub fn by_crate_rules(sample: &Sample, settings: Settings) -> Option<Outcome> {
     let walks = walks(&sample.graph, &sample.state, settings, Scan::MovesOn).ok()?;
     let mut states = sample.state.clone();
@@ -87,7 +87,7 @@ pub fn by_crate_rules(sample: &Sample, settings: Settings) -> Option<Outcome> {
     }
     let mut outcome = Outcome::new(&table, states, walked, Ok(Vec::new()));
     let mut owner = vec![0; table.contours()];
-    outcome.owners = match bind_seeing(Visits::All, &table, settings.clockwise, &mut owner) {
+    outcome.owners = match bind(&table, settings.clockwise, &mut owner) {
         Err(Refusal { number: 11, .. }) if outcome.hulls() < 2 && outcome.anchors_are_least(settings.clockwise) => {
             Ok(vec![if outcome.hulls() == 0 { NO_OWNER } else { 0 }; table.contours()])
         }

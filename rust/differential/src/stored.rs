@@ -42,7 +42,7 @@ pub fn parse(text: &str) -> Vec<Case> {
 const MAX_STORED: usize = 40;
 
 /// Asks the text about `count` small graphs of its domain, from every family, and writes the sample. Half of them have holes
-/// whose shape must be searched.
+/// whose shape must be searched; in one of eight such a hole passes its anchor point more than once.
 pub fn write(count: usize) -> String {
     let mut out = String::new();
     let mut seed = 0;
@@ -57,11 +57,13 @@ pub fn write(count: usize) -> String {
         let settings = rng.choose(&choices);
         let outcome = by(READING, &sample, settings).expect("planar graphs are walked");
         let walks = walks(&sample.graph, &sample.state, settings, Scan::Stays).expect("planar graphs are walked");
-        let is_searched = outcome.hulls() > 1 && outcome.contours.len() > outcome.hulls();
-        if (1..=MAX_STORED).contains(&sample.graph.links())
-            && (written % 2 == 0 || is_searched)
-            && expected(&walks, &outcome, settings.clockwise) == Expected::Equality
-        {
+        let expected = expected(&walks, &outcome, settings.clockwise);
+        let is_wanted = match written % 8 {
+            7 => expected == Expected::Equality { revisited: true },
+            1 | 3 | 5 => outcome.hulls() > 1 && outcome.contours.len() > outcome.hulls(),
+            _ => true,
+        };
+        if (1..=MAX_STORED).contains(&sample.graph.links()) && is_wanted && expected.is_equality() {
             let mut run = Run::new(&sample.graph, &sample.state, settings, rng.below(Run::RULES));
             let answer = print(&ask_text(&mut run));
             let Sample { graph, state } = sample;

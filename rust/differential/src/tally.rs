@@ -20,11 +20,11 @@ pub struct Tally {
     pub refused: usize,
     pub contours: usize,
     pub holes_searched: usize,
+    /// Runs without D1, with two hulls or more, in which a hole passes its anchor point more than once.
+    pub revisited: usize,
     pub equal: usize,
     pub difference_1: usize,
     pub difference_1_seen: usize,
-    pub difference_2: usize,
-    pub difference_2_seen: usize,
     /// Runs in which the text's `extract_shapes` panics.
     pub panics: usize,
     /// Graphs round some of whose nodes filled and empty do not come by turns: demand 3 says nothing of them.
@@ -53,14 +53,10 @@ impl Tally {
         self.panics += text.shapes.is_none() as usize;
         self.equal += is_equal as usize;
         match expected {
-            Expected::Equality => {}
+            Expected::Equality { revisited } => self.revisited += revisited as usize,
             Expected::Difference1 => {
                 self.difference_1 += 1;
                 self.difference_1_seen += !is_equal as usize;
-            }
-            Expected::Difference2 => {
-                self.difference_2 += 1;
-                self.difference_2_seen += !is_equal as usize;
             }
         }
     }
@@ -71,19 +67,18 @@ impl Tally {
         self.refused += other.refused;
         self.contours += other.contours;
         self.holes_searched += other.holes_searched;
+        self.revisited += other.revisited;
         self.equal += other.equal;
         self.difference_1 += other.difference_1;
         self.difference_1_seen += other.difference_1_seen;
-        self.difference_2 += other.difference_2;
-        self.difference_2_seen += other.difference_2_seen;
         self.panics += other.panics;
         self.uneven += other.uneven;
         self.findings += other.findings;
     }
 
     pub const HEADINGS: &str = "\
-        | family | graphs | runs | not run | contours | holes searched | equal | D1 | seen | D2 | seen | panics | uneven | findings |\n\
-        |---|---:|---:|---:|---:|---:|---:|---:|---:|---:|---:|---:|---:|---:|";
+        | family | graphs | runs | not run | contours | holes searched | revisited | equal | D1 | seen | panics | uneven | findings |\n\
+        |---|---:|---:|---:|---:|---:|---:|---:|---:|---:|---:|---:|---:|";
 }
 
 impl fmt::Display for Tally {
@@ -94,11 +89,10 @@ impl fmt::Display for Tally {
             self.refused,
             self.contours,
             self.holes_searched,
+            self.revisited,
             self.equal,
             self.difference_1,
             self.difference_1_seen,
-            self.difference_2,
-            self.difference_2_seen,
             self.panics,
             self.uneven,
             self.findings,
@@ -245,8 +239,8 @@ fn judge(
     };
     let (is_equal, is_explained) = (agrees(outcome), agrees(&crates));
     tally.count(outcome, &text, expected, is_equal);
-    let is_unforeseen = expected == Expected::Equality && !is_equal;
-    let is_orphan = in_domain && expected != Expected::Difference1 && text.shapes.is_none();
+    let is_unforeseen = expected.is_equality() && !is_equal;
+    let is_orphan = in_domain && expected.is_equality() && text.shapes.is_none();
     let is_whole = compared.is_whole(outcome, settings.clockwise);
     if !is_explained || is_unforeseen || is_orphan || !is_whole {
         tally.find(&compared.sample, settings);

@@ -48,11 +48,14 @@ fn made_graphs() {
         return;
     }
     println!("{}", Tally::HEADINGS);
+    let mut revisited = 0;
     for family in FAMILIES {
         let (tally, smallest) = front(family, 336);
         println!("| {family:?} |{tally}");
         assert_eq!(tally.findings, 0, "{}", smallest.expect("a finding is kept"));
+        revisited += tally.revisited;
     }
+    assert!(revisited > 50, "only {revisited} runs have anchors passed again");
 }
 
 /// The graph that the generators make of the mesh of some patches, and the one that the text makes of its faces as polygons.

@@ -1,10 +1,10 @@
-//! What document 01 and request a of document 02 promise of every run, seen on the reading and generated graphs.
+//! What document 01 and requests a and b of document 02 promise of every run, seen on the reading, generated graphs and tables.
 
 use differential::tally::ALL;
 use generators::planar::{FAMILIES, sample};
 use generators::rng::Rng;
-use generators::{Sample, joints, planar, wild};
-use reading::bind::{Table, bind, lookup};
+use generators::{Sample, joints, planar, tables, wild};
+use reading::bind::{Table, anchor_visits, bind, contours_under, lookup};
 use reading::fill::{area_of_links, sides_alternate};
 use reading::graph::{Buffers, check};
 use reading::straight::is_straight;
@@ -138,4 +138,46 @@ fn points_on_a_line_go_and_contours_stay() {
     assert!(gone.as_flattened().iter().all(|[later, _]| *later > 1000) && refused > 100);
     // the least point of a contour is a corner: a walk that begins there begins at no joint
     assert!(gone[0][0][1] > 100 && gone[1][1][1] > 100);
+}
+
+/// A table that passes checks 10 and 11, with two hulls or more; none where the generators give another.
+fn searched_table(seed: u64, clockwise: bool) -> Option<(Table, Result<Vec<u16>, Refusal>)> {
+    let mut rng = Rng::new(seed ^ 14 << 40);
+    let table = match seed % 2 {
+        0 => tables::sample(7, clockwise, &mut rng),
+        _ => tables::crowded(6, clockwise, &mut rng),
+    };
+    let mut owner = vec![0; table.contours()];
+    let answer = bind(&table, clockwise, &mut owner).map(|_| owner);
+    let is_searched = table.kind.iter().filter(|&&kind| kind == 0).count() > 1;
+    let is_refused = matches!(answer, Err(Refusal { number: 10 | 11, .. }));
+    (is_searched && !is_refused).then_some((table, answer))
+}
+
+/// 12 says that no edge lies under the hole, and that alone: under no anchor lies an edge of its own hole.
+#[test]
+fn orphans_have_no_edge_under_them() {
+    for clockwise in [false, true] {
+        let (mut orphans, mut bound, mut again) = (0, 0, 0);
+        for (table, answer) in (0..60_000).filter_map(|seed| searched_table(seed, clockwise)) {
+            let holes = || (0..table.contours()).filter(|&contour| table.is_hole(contour));
+            let under = |hole: usize| contours_under(&table, hole, clockwise);
+            assert!(holes().all(|hole| !under(hole).contains(&hole)), "{table:?} {clockwise}");
+            again += holes().filter(|&hole| anchor_visits(&table.contour(hole), clockwise).count() > 1).count();
+            match answer {
+                Ok(_) => {
+                    assert!(holes().all(|hole| !under(hole).is_empty()), "{table:?} {clockwise}");
+                    bound += 1;
+                }
+                Err(Refusal { number, place }) => {
+                    assert_eq!((number, under(place as usize)), (12, Vec::new()), "{table:?} {clockwise}");
+                    orphans += 1;
+                }
+            }
+        }
+        println!(
+            "clockwise {clockwise}: {bound} tables bound, {orphans} refused, {again} holes pass their anchor again"
+        );
+        assert!(bound > 10_000 && orphans > 5000 && again > 20_000);
+    }
 }

@@ -1,9 +1,13 @@
 //! The given text against the reading (and, with the feature `library`, the library): its stored answers, and, where the text is
 //! at hand, generated graphs. The program `differential` compares many more.
 
-use differential::compare::ask_text;
+use differential::compare::{Expected, ask_text, expected};
+use differential::sides::by;
 use differential::{stored, tally};
+use generators::Sample;
 use generators::planar::FAMILIES;
+use reading::READING;
+use reading::file::{Study, parse};
 use reading::walk::{Scan, walks};
 use text::Run;
 
@@ -19,16 +23,24 @@ fn stored_answers() {
         #[cfg(feature = "library")]
         assert_eq!(&by_library(file), answer);
     }
-    println!("{} stored answers of the text replayed", cases.len());
+    let revisited = cases.iter().filter(|case| is_revisited(&case.file)).count();
+    println!("{} stored answers of the text replayed, {revisited} of anchors passed again", cases.len());
+    assert!(revisited >= 20);
+}
+
+/// Whether a hole whose shape is searched passes its anchor point more than once.
+fn is_revisited(file: &[u8]) -> bool {
+    let Study { settings, graph, state } = parse(file).expect("a stored graph is well formed");
+    let walks = walks(&graph, &state, settings, Scan::Stays).expect("a stored graph is walked");
+    let outcome = by(READING, &Sample { graph, state }, settings).expect("a stored graph is walked");
+    expected(&walks, &outcome, settings.clockwise) == Expected::Equality { revisited: true }
 }
 
 /// The library's answer in the program's words.
 #[cfg(feature = "library")]
 fn by_library(file: &[u8]) -> String {
-    let reading::file::Study { settings, graph, state } =
-        reading::file::parse(file).expect("a stored graph is well formed");
-    let sample = generators::Sample { graph, state };
-    let outcome = differential::sides::by(lending::LIBRARY, &sample, settings).expect("a stored graph is walked");
+    let Study { settings, graph, state } = parse(file).expect("a stored graph is well formed");
+    let outcome = by(lending::LIBRARY, &Sample { graph, state }, settings).expect("a stored graph is walked");
     let shapes = outcome.shapes();
     stored::print(&differential::compare::TextAnswer { contours: outcome.contours, states: outcome.states, shapes })
 }
@@ -46,7 +58,7 @@ fn stored_answers_are_the_texts() {
 #[test]
 fn the_text_drops_the_hull_of_the_incident() {
     let file = include_bytes!("../../../tests/cases/e8.graph");
-    let reading::file::Study { settings, graph, state } = reading::file::parse(file).expect("E8 is well formed");
+    let Study { settings, graph, state } = parse(file).expect("E8 is well formed");
     let walks = walks(&graph, &state, settings, Scan::MovesOn).expect("E8 is walked");
     let kept: Vec<_> = walks.into_iter().filter(|walk| walk.kept).collect();
     assert_eq!(kept.iter().map(|walk| walk.hole).collect::<Vec<_>>(), [true]);
@@ -68,11 +80,14 @@ fn generated_graphs() {
         return;
     }
     println!("{}", tally::Tally::HEADINGS);
+    let mut revisited = 0;
     for family in FAMILIES {
         let tally = tally::planar(family, 1000);
         println!("| {family:?} |{tally}");
         assert_eq!(tally.findings, 0, "{:?}", tally.smallest);
+        revisited += tally.revisited;
     }
+    assert!(revisited > 2000, "only {revisited} runs have anchors passed again");
     let tally = tally::outside(1000);
     println!("| outside the domain |{tally}");
     assert_eq!(tally.findings, 0, "{:?}", tally.smallest);

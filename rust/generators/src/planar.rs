@@ -10,7 +10,7 @@ use std::collections::BTreeMap;
 
 /// The families of planar graphs. `differential --look` tells how they look beside those that the crate makes of polygons: most
 /// nodes have two links there, crossings four, and more than eight hardly come up. Boards, Rings and Bands stand for those, and
-/// Triangles for outlines that touch in a point; Fan and Flower are extremes that find the odd cases.
+/// Triangles for outlines that touch in a point; Fan, Flower and Islands are extremes that find the odd cases.
 #[derive(Clone, Copy, Debug, PartialEq, Eq, PartialOrd, Ord)]
 pub enum Family {
     /// Cells between random lines, some from bound to bound: touching corners, holes, islands, several hulls.
@@ -27,10 +27,21 @@ pub enum Family {
     Flower,
     /// A level of dose round a centre, with its holes and islands: long outlines, nodes of two links.
     Bands,
+    /// Holes to the right of a centre, which is the least point of each: islands touch it, have holes there themselves, or part one
+    /// hole from the next.
+    Islands,
 }
 
-pub const FAMILIES: [Family; 7] =
-    [Family::Board, Family::Sheared, Family::Triangles, Family::Rings, Family::Fan, Family::Flower, Family::Bands];
+pub const FAMILIES: [Family; 8] = [
+    Family::Board,
+    Family::Sheared,
+    Family::Triangles,
+    Family::Rings,
+    Family::Fan,
+    Family::Flower,
+    Family::Bands,
+    Family::Islands,
+];
 
 /// A graph of the family's patches. Without skipped links, as the crate's `overlay` makes its graphs; with the outlines of a
 /// second set of faces, as its view of all links has them; or with any.
@@ -73,6 +84,7 @@ fn patch(family: Family, size: usize, rng: &mut Rng) -> Patch {
         Family::Rings => rings(&mesh, rng),
         Family::Flower if rng.chance(70) => petals(&mesh, rng),
         Family::Bands => levels(&mesh, rng),
+        Family::Islands => islands(&mesh, rng),
         Family::Fan if rng.chance(50) => (0..mesh.faces.len()).map(|face| face % 2 == 0).collect(),
         _ => fill(&mesh, rng),
     };
@@ -108,6 +120,7 @@ fn mesh(family: Family, size: usize, rng: &mut Rng) -> Mesh {
             Mesh::fan(centre(rng), spokes, 2 + rng.below(3), rng.chance(20), rng)
         }
         Family::Bands => Mesh::fan(centre(rng), 8 + rng.below(4 * size), 2 + rng.below(3), false, rng),
+        Family::Islands => Mesh::fan(centre(rng), 12 + rng.below(2 * size), 4, false, rng),
     }
 }
 
@@ -145,11 +158,26 @@ fn petals(mesh: &Mesh, rng: &mut Rng) -> Vec<bool> {
     let empty_rings = rng.choose(&[1, 2, 2, 2]);
     let is_filled = |face: usize| {
         let (ring, sector) = (face / mesh.columns, face % mesh.columns);
-        let is_right = mesh.faces[face].iter().all(|&corner| mesh.points[corner] >= mesh.points[0]);
         let is_island = ring == 0 && sector % 2 == 1;
-        (ring >= empty_rings || !is_right || is_island) != rng.chance(changed)
+        (ring >= empty_rings || !is_right(mesh, face) || is_island) != rng.chance(changed)
     };
     (0..mesh.faces.len()).map(is_filled).collect()
+}
+
+/// Filled to the left of the middle and in the outermost ring; within, each ring at random to a percentage. Where the third is
+/// empty, an island may have a hole of its own at the middle, and the hole round it still passes there again.
+fn islands(mesh: &Mesh, rng: &mut Rng) -> Vec<bool> {
+    let percents = rng.choose(&[[50, 0, 100], [50, 20, 100], [30, 40, 100], [50, 50, 0], [60, 70, 0]]);
+    let is_filled = |face: usize| match percents.get(face / mesh.columns) {
+        Some(&percent) if is_right(mesh, face) => rng.chance(percent),
+        _ => true,
+    };
+    (0..mesh.faces.len()).map(is_filled).collect()
+}
+
+/// No corner of the face is before the middle of the fan.
+fn is_right(mesh: &Mesh, face: usize) -> bool {
+    mesh.faces[face].iter().all(|&corner| mesh.points[corner] >= mesh.points[0])
 }
 
 /// Filled from one ring to another, which go up and down from sector to sector.

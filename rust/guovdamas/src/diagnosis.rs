@@ -35,7 +35,7 @@ pub(crate) fn of_table(
     let reason = match number {
         10 => wrong_table(table, owners).or_else(|| wrong_contour(table, place)),
         11 => wrong_anchor(table, place, clockwise),
-        12 => no_owner(table, place, clockwise),
+        12 => Some(NothingUnder),
         _ => None,
     };
     reason.unwrap_or(Unknown { number })
@@ -210,24 +210,4 @@ fn wrong_anchor(table: &Table<'_>, hole: usize, clockwise: bool) -> Option<Refus
     let points = table.contour(hole)?;
     let anchor = *points.get(anchor_position(clockwise))?;
     Some(if points.iter().any(|point| *point < anchor) { AnchorNotLeast } else { HolesOutOfOrder })
-}
-
-/// Whether any edge at all lies under the hole: then the nearest of them is of a hole without an owner.
-fn no_owner(table: &Table<'_>, hole: usize, clockwise: bool) -> Option<RefusalKind> {
-    let points = table.contour(hole)?;
-    let (at, count) = (anchor_position(clockwise), points.len());
-    let anchor = *points.get(at)?;
-    let (next, previous) = (points[(at + 1) % count], points[(at + count - 1) % count]);
-    let lower = if turn(anchor, next, previous) < 0 { previous } else { next };
-    let lies_under = |[left, right]: [[i32; 2]; 2]| {
-        let above = turn(left, right, anchor);
-        // with the anchor on the edge's line, the anchor edge is turned to the side on which it ends
-        let is_under = above > 0 || above == 0 && turn(left, right, lower) > 0;
-        left[0] <= anchor[0] && anchor[0] < right[0] && is_under
-    };
-    let has_one_under = |contour: usize| {
-        let points = table.contour(contour).unwrap_or_default();
-        edges_round(&points).any(|[from, to]| lies_under(if clockwise { [to, from] } else { [from, to] }))
-    };
-    Some(if (0..table.first.len()).any(has_one_under) { UnderAHole } else { NothingUnder })
 }

@@ -202,10 +202,8 @@ pub enum RefusalKind {
     AnchorNotLeast,
     /// 11: the hole's anchor is before that of the hole before it.
     HolesOutOfOrder,
-    /// 12: no edge lies under the hole's least point.
+    /// 12: no edge with fill above lies under the hole's anchor.
     NothingUnder,
-    /// 12: the nearest edge under the hole is of a hole that has no shape yet, maybe its own.
-    UnderAHole,
     /// What was lent shows no reason. Not met: every refusal has one.
     Unknown {
         /// The refusal's number.
@@ -231,7 +229,7 @@ impl RefusalKind {
             UnevenColumns | LittleRoomForOwners | TooManyPoints | HalfAPoint | PointsLeft => 10,
             NotAdjoining | PastThePoints | FewPoints | EqualNeighbours | PointOutOfRange | WrongKind => 10,
             AnchorNotLeast | HolesOutOfOrder => 11,
-            NothingUnder | UnderAHole => 12,
+            NothingUnder => 12,
             Unknown { number } => number,
         }
     }
@@ -315,8 +313,7 @@ impl RefusalKind {
             WrongKind => "has a kind other than 0 and 1",
             AnchorNotLeast => "has a point before its anchor",
             HolesOutOfOrder => "has its anchor before that of the hole before it",
-            NothingUnder => "belongs to no shape: no edge lies under it",
-            UnderAHole => "finds no shape: the nearest edge under it is of a hole that has none yet",
+            NothingUnder => "belongs to no shape: no edge with fill above lies under it",
             _ => "for no reason that is known",
         })
     }

@@ -49,7 +49,8 @@ fn every_refusal_of_a_table_has_a_reason() {
     for seed in 0..20_000 {
         let mut rng = Rng::new(seed ^ 9 << 40);
         let clockwise = rng.chance(50);
-        let mut soiled = tables::sample(6, clockwise, &mut rng);
+        let generate = rng.choose(&[tables::sample, tables::crowded]);
+        let mut soiled = generate(6, clockwise, &mut rng);
         let room = if rng.chance(70) { damage::table(&mut soiled, &mut rng) } else { soiled.contours() };
         let direction = ContourDirection::from_clockwise(clockwise != rng.chance(20));
         if let Err(refusal) = lent::bind(table(&soiled), direction, &mut vec![0; room]) {

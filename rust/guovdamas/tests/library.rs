@@ -10,21 +10,47 @@ use reading::graph::{Buffers, Graph};
 use reading::{Settings, bind, walk};
 use std::collections::BTreeMap;
 
-/// How often each number was answered, 0 for done.
+/// How often each number was answered, 0 for done, and how many of the holes that were searched pass their anchor point two,
+/// three and more times.
 #[derive(Default)]
-struct Tally(BTreeMap<u32, usize>);
+struct Tally {
+    answers: BTreeMap<u32, usize>,
+    again: [usize; 3],
+}
 
 impl Tally {
     fn count(&mut self, number: u32) {
-        *self.0.entry(number).or_default() += 1;
+        *self.answers.entry(number).or_default() += 1;
+    }
+
+    /// Counts the holes of a table with two hulls or more that passed checks 10 and 11.
+    fn count_holes(&mut self, table: &Table, clockwise: bool) {
+        let (holes, hulls): (Vec<usize>, Vec<usize>) =
+            (0..table.contours()).partition(|&contour| table.is_hole(contour));
+        if hulls.len() < 2 {
+            return;
+        }
+        for hole in holes {
+            let visits = bind::anchor_visits(&table.contour(hole), clockwise).count();
+            if visits > 1 {
+                self.again[visits.min(4) - 2] += 1;
+            }
+        }
     }
 
     /// Prints the counts and sees that each number was met often enough to mean something.
     fn report(&self, what: &str, numbers: &[u32]) {
-        println!("{what}: {} compared; answers by number: {:?}", self.0.values().sum::<usize>(), self.0);
+        let Self { answers, again } = self;
+        println!("{what}: {} compared; answers by number: {answers:?}", answers.values().sum::<usize>());
+        println!("  holes searched that pass their anchor two, three and more times: {again:?}");
         for number in numbers {
-            assert!(self.0.get(number).is_some_and(|&met| met >= 20), "{what}: {number} is hardly met");
+            assert!(answers.get(number).is_some_and(|&met| met >= 20), "{what}: {number} is hardly met");
         }
+    }
+
+    /// Sees that holes that pass their anchor again were met so often, by how many times they do.
+    fn assert_again(&self, least: [usize; 3]) {
+        assert!(self.again.iter().zip(least).all(|(met, least)| *met >= least), "{:?} of {least:?}", self.again);
     }
 }
 
@@ -54,7 +80,11 @@ fn compare_binding(lent: &Table, room: usize, clockwise: bool, tally: &mut Tally
     let due = bind::bind(lent, clockwise, &mut read);
     assert_eq!((LIBRARY.bind)(lent, clockwise, &mut ours), due, "{lent:?} {clockwise}");
     assert_eq!(ours, read, "{lent:?} {clockwise}");
-    tally.count(due.err().map_or(0, |refusal| refusal.number));
+    let number = due.err().map_or(0, |refusal| refusal.number);
+    tally.count(number);
+    if matches!(number, 0 | 12) {
+        tally.count_holes(lent, clockwise);
+    }
     compare_lookups(lent, &read);
 }
 
@@ -87,6 +117,9 @@ fn planar_graphs() {
             compare_extraction(&sample.graph, &lent, settings, &mut tally);
         }
         tally.report(&format!("planar, {family:?}"), &[0]);
+        if family == Family::Islands {
+            tally.assert_again([300, 50, 10]);
+        }
     }
 }
 
@@ -113,6 +146,7 @@ fn graphs_with_joints() {
     }
     // 11: without straight points a hole's anchor may stand elsewhere
     tally.report("joints", &[0, 3, 7, 8, 9, 11, 12]);
+    tally.assert_again([200, 50, 10]);
 }
 
 #[test]
@@ -163,6 +197,7 @@ fn upset_tops_and_wild_graphs() {
         compare_extraction(&sample.graph, &lent, settings, &mut tally);
     }
     tally.report("upset tops and wild", &[0, 8, 9, 12]);
+    tally.assert_again([200, 50, 10]);
 }
 
 #[test]
@@ -195,6 +230,22 @@ fn tables_with_ties() {
         compare_binding(&table, room, clockwise, &mut tally);
     }
     tally.report("tables", &[0, 12]);
+    tally.assert_again([5000, 1000, 100]);
+}
+
+#[test]
+fn tables_with_anchors_passed_again() {
+    for clockwise in [false, true] {
+        let mut tally = Tally::default();
+        for seed in 0..30_000 {
+            let mut rng = Rng::new(seed ^ 13 << 40);
+            let table = tables::crowded(6, clockwise, &mut rng);
+            let room = table.contours() + rng.below(3);
+            compare_binding(&table, room, clockwise, &mut tally);
+        }
+        tally.report("crowded tables", &[0, 11, 12]);
+        tally.assert_again([5000; 3]);
+    }
 }
 
 #[test]
@@ -203,11 +254,13 @@ fn damaged_tables() {
     for seed in 0..40_000 {
         let mut rng = Rng::new(seed ^ 6 << 40);
         let clockwise = rng.chance(50);
-        let mut table = tables::sample(6, clockwise, &mut rng);
+        let generate = rng.choose(&[tables::sample, tables::crowded]);
+        let mut table = generate(6, clockwise, &mut rng);
         let room = damage::table(&mut table, &mut rng);
         compare_binding(&table, room, clockwise != rng.chance(20), &mut tally);
     }
     tally.report("damaged tables", &[0, 10, 11, 12]);
+    tally.assert_again([300; 3]);
 }
 
 #[test]

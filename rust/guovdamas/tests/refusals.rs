@@ -252,10 +252,7 @@ fn holes() {
     assert_refused(earlier.bind().unwrap_err(), HolesOutOfOrder, 2, words);
 
     let two_hulls = Framed::new().with(&[[20, 10], [20, 0], [30, 0], [30, 10]], 0);
-    let astray = two_hulls.clone().with(&[[40, 2], [40, 8], [46, 8], [46, 2]], 1);
-    assert_refused(astray.bind().unwrap_err(), NothingUnder, 3, "hole 3 belongs to no shape: no edge lies under it");
-    // it passes its anchor twice, and the nearest edge under the one visit is its own, of the other
-    let twice = two_hulls.with(&[[22, 2], [24, 8], [24, 4], [22, 2], [26, 1], [25, 3]], 1);
-    let words = "hole 3 finds no shape: the nearest edge under it is of a hole that has none yet";
-    assert_refused(twice.bind().unwrap_err(), UnderAHole, 3, words);
+    let astray = two_hulls.with(&[[40, 2], [40, 8], [46, 8], [46, 2]], 1);
+    let words = "hole 3 belongs to no shape: no edge with fill above lies under it";
+    assert_refused(astray.bind().unwrap_err(), NothingUnder, 3, words);
 }

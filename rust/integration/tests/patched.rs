@@ -72,7 +72,7 @@ fn compare_run(sample: &Sample, settings: Settings, rule: usize, in_domain: bool
     assert!(equal.contours && equal.shapes, "{outcome:?}\n{answer:?}");
     let walks = walks(&sample.graph, &sample.state, settings, Scan::Stays).expect("as above");
     let expected = expected(&walks, &outcome, settings.clockwise);
-    if in_domain && expected == Expected::Equality {
+    if in_domain && expected.is_equality() {
         let text = ask_text(&mut text::Run::new(&sample.graph, &sample.state, settings, rule));
         assert_eq!(answer, text, "the text as it is");
     }
@@ -94,9 +94,10 @@ fn generated_graphs() {
         }
     }
     let count = |wanted| seen.iter().filter(|&&expected| expected == Some(wanted)).count();
-    let [equal, first, second] = [Expected::Equality, Expected::Difference1, Expected::Difference2].map(count);
-    println!("{} runs: {equal} as the text, {first} with D1, {second} with D2", seen.len());
-    assert!(equal > 20_000 && first > 500 && second > 100);
+    let [plain, revisited] = [false, true].map(|revisited| count(Expected::Equality { revisited }));
+    let first = count(Expected::Difference1);
+    println!("{} runs: {plain} and, of anchors revisited, {revisited} as the text, {first} with D1", seen.len());
+    assert!(plain > 20_000 && first > 500 && revisited > 1000);
 }
 
 #[test]

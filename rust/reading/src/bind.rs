@@ -77,10 +77,10 @@ fn anchor_position(clockwise: bool) -> usize {
     clockwise as usize
 }
 
-/// The hole passes its anchor point more than once: there the crate looks at every visit (difference D2).
-pub fn is_difference_2(hole: &[Point], clockwise: bool) -> bool {
+/// The positions at which a hole passes its anchor point.
+pub fn anchor_visits(hole: &[Point], clockwise: bool) -> impl Iterator<Item = usize> {
     let anchor = hole[anchor_position(clockwise)];
-    hole.iter().filter(|&&point| point == anchor).count() > 1
+    (0..hole.len()).filter(move |&position| hole[position] == anchor)
 }
 
 /// Check 10, first what is told of the table as a whole, then contour by contour.
@@ -128,15 +128,6 @@ fn check_anchors(table: &Table, clockwise: bool) -> Result<(), Refusal> {
     Ok(())
 }
 
-/// At which visits of a hole to its anchor point the anchor edge is sought.
-#[derive(Clone, Copy, Debug, PartialEq, Eq)]
-pub enum Visits {
-    /// At the anchor's position alone.
-    One,
-    /// At every visit: "there the crate looks at every visit, D2".
-    All,
-}
-
 /// A hole's anchor with the direction of its anchor edge.
 #[derive(Clone, Copy, Debug)]
 struct Anchor {
@@ -146,15 +137,13 @@ struct Anchor {
 }
 
 impl Anchor {
-    /// "Its anchor edge is the lower of the two edges at that position."
-    fn of(table: &Table, hole: usize, clockwise: bool, visits: Visits) -> Self {
+    /// The anchor edge, as request b of document 02 has it: "takes all edges at the anchor point and keeps the lowest".
+    fn of(table: &Table, hole: usize, clockwise: bool) -> Self {
         let points = table.contour(hole);
-        let (n, anchor) = (points.len(), anchor_position(clockwise));
-        let point = points[anchor];
-        let is_seen = |&at: &usize| at == anchor || visits == Visits::All && points[at] == point;
-        let edges = (0..n).filter(is_seen).flat_map(|at| [points[(at + 1) % n], points[(at + n - 1) % n]]);
+        let (n, point) = (points.len(), points[anchor_position(clockwise)]);
+        let ends = anchor_visits(&points, clockwise).flat_map(|at| [points[(at + 1) % n], points[(at + n - 1) % n]]);
         let lower = |edge: Vector, other: Vector| if edge.cross(other) < 0 { other } else { edge };
-        let edge = edges.map(|end| point.to(end)).reduce(lower).expect("the anchor is seen");
+        let edge = ends.map(|end| point.to(end)).reduce(lower).expect("a hole passes its anchor");
         Self { hole, point, edge }
     }
 
@@ -215,13 +204,19 @@ impl Edge {
     }
 }
 
-/// Binding: the owner of every contour, written only on success.
-pub fn bind(table: &Table, clockwise: bool, owner: &mut [u16]) -> Result<Bound, Refusal> {
-    bind_seeing(Visits::One, table, clockwise, owner)
+/// The edges that span the anchor and lie under it.
+fn edges_under<'a>(edges: &'a [Edge], anchor: &Anchor) -> impl Iterator<Item = &'a Edge> {
+    edges.iter().filter(move |edge| edge.spans(anchor) && edge.lies_under(anchor))
 }
 
-/// Binding with the anchor edges sought at one visit, as document 01 says, or at all, as the crate does.
-pub fn bind_seeing(visits: Visits, table: &Table, clockwise: bool, owner: &mut [u16]) -> Result<Bound, Refusal> {
+/// The contours whose candidate edges span a hole's anchor and lie under it.
+pub fn contours_under(table: &Table, hole: usize, clockwise: bool) -> Vec<usize> {
+    let (edges, anchor) = (candidate_edges(table, clockwise), Anchor::of(table, hole, clockwise));
+    edges_under(&edges, &anchor).map(|edge| edge.contour).collect()
+}
+
+/// Binding: the owner of every contour, written only on success.
+pub fn bind(table: &Table, clockwise: bool, owner: &mut [u16]) -> Result<Bound, Refusal> {
     check_table(table, owner.len())?;
     check_anchors(table, clockwise)?;
 
@@ -234,7 +229,7 @@ pub fn bind_seeing(visits: Visits, table: &Table, clockwise: bool, owner: &mut [
         // "With one hull, every hole gets it without a search."
         1 => holes.iter().for_each(|&hole| parent[hole] = Some(0)),
         _ => {
-            let anchors = holes.iter().map(|&hole| Anchor::of(table, hole, clockwise, visits)).collect();
+            let anchors = holes.iter().map(|&hole| Anchor::of(table, hole, clockwise)).collect();
             search_parents(table, anchors, clockwise, &mut parent)?;
         }
     }
@@ -256,8 +251,7 @@ fn search_parents(
     let edges = candidate_edges(table, clockwise);
     anchors.sort_by(Anchor::binding_order);
     for anchor in &anchors {
-        let under = edges.iter().filter(|edge| edge.spans(anchor) && edge.lies_under(anchor));
-        let nearest = under.min_by(|e, f| e.nearness(f, anchor));
+        let nearest = edges_under(&edges, anchor).min_by(|e, f| e.nearness(f, anchor));
         // "A hull gives its own shape number (hulls counted from 0); a hole gives its parent's."
         let found = nearest.and_then(|edge| match edge.hole {
             true => parent[edge.contour],

@@ -1,6 +1,6 @@
-//! Document 01's examples E1 to E10, with every number that it gives.
+//! Document 01's examples E1 to E10, with every number that it gives, and request b's hole.
 
-use crate::bind::{Bound, NO_OWNER, Record, Role, Table, bind, lookup};
+use crate::bind::{Bound, NO_OWNER, Record, Role, Table, anchor_visits, bind, contours_under, lookup};
 use crate::file::{Study, answer, encode, parse};
 use crate::geometry::Point;
 use crate::graph::{Buffers, Graph};
@@ -163,6 +163,19 @@ fn e10_an_orphan() {
     let one_hull = table(&[FIRST_HULL, FIRST_HOLE, FAR_HOLE]);
     assert_eq!(bind(&one_hull, false, &mut owner), Ok(Bound { shapes: 1, dropped: 0 }));
     assert_eq!(owner, [0, 0, 0, 7]);
+}
+
+/// Document 02, b: "a filled island touches a hole's leftmost point".
+#[test]
+fn a_hole_touching_its_island() {
+    const TOUCHED: (&[i32], u8) = (&[22, 10, 26, 16, 29, 10, 26, 4, 22, 10, 25, 9, 25, 11], 1);
+    let table = table(&[FIRST_HULL, SECOND_HULL, TOUCHED]);
+    assert_eq!(anchor_visits(&table.contour(2), false).collect::<Vec<_>>(), [0, 4]);
+    // under the anchor lies the hull's lower edge, and no edge of the hole itself
+    assert_eq!(contours_under(&table, 2, false), [1]);
+    let mut owner = [7; 3];
+    assert_eq!(bind(&table, false, &mut owner), Ok(Bound { shapes: 2, dropped: 0 }));
+    assert_eq!(owner, [0, 1, 1]);
 }
 
 #[test]

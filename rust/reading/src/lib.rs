@@ -3,7 +3,7 @@
 //! It is written from the document's words and from nothing else, to be read beside it and to be compared with the proved
 //! library: no cleverness, exact numbers in `i128`, one function for each rule. [`graph`] holds the lent graph and checks
 //! 1 to 7, [`walk`] the walking rules 1 to 7, [`straight`] the points on a line that document 02's request a drops, [`bind`]
-//! checks 10 to 12 with binding and lookup, [`fill`] the third demand's condition and total, [`file`](mod@file) the program's
+//! checks 10 to 12 with binding, its anchor edge by request b, and lookup, [`fill`] the third demand's condition and total, [`file`](mod@file) the program's
 //! file and its printed answer.
 
 pub mod bind;

@@ -1,11 +1,10 @@
 //! Draws a study as i_overlay 9.0.1 reads it: `cargo run -p study --example crate_reading -- study.graph out.svg`.
 //!
-//! The crate's scan moves on after each rejected walk (D1), and its anchor edges are sought at every visit (D2). The
-//! crate cannot be built here; the reading with these two rules answers what the crate's given text answers
-//! (docs/DIFFERENCES.md).
+//! The crate's scan moves on after each rejected walk (D1). The crate cannot be built here; the reading with this rule
+//! answers what the crate's given text answers (docs/DIFFERENCES.md).
 
 use guovdamas::study::Study;
-use reading::bind::{Table, Visits, bind_seeing};
+use reading::bind::{Table, bind};
 use reading::walk::{Scan, Walk, walks};
 use std::error::Error;
 use std::{env, fs};
@@ -33,7 +32,7 @@ fn found(file: &[u8]) -> Result<Found, reading::Refusal> {
     let mut owners = vec![u16::MAX; kept.len()];
     // without a hull the crate asks nothing of a hole and drops it
     if table.kind.contains(&0) {
-        bind_seeing(Visits::All, &table, settings.clockwise, &mut owners)?;
+        bind(&table, settings.clockwise, &mut owners)?;
     }
 
     let patches = |walks: &[&Walk]| walks.iter().enumerate().map(|(number, walk)| patch(number, walk)).collect();
