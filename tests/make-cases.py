@@ -199,8 +199,6 @@ def contours():
     both_ways("hole-at-wall", "an empty part that touches the hull's side: the hull passes that point twice", wall)
     near = edges(filled(*outer), other, [(10, 10), (14, 14), (18, 10), (14, 6)])
     both_ways("hole-searched", "a hole that is no box, and two hulls", near)
-    touched = edges(filled(*outer), other, [(4, 10), (10, 16), (16, 10), (10, 4)], [(4, 10), (8, 9), (8, 11)])
-    both_ways("d2", "D2: an island touches a hole's least point, and two hulls", touched, lambda cw: refused(12, 1))
     far_ends = [((9, -3), (9, -1)), ((8, 2), (7, 4)), ((-1, 9), (-4, 8)), ((-9, -1), (-8, -3))]
     both_ways("star", "four triangles at one node of degree 8", edges(*[[(0, 0), p, q] for p, q in far_ends]))
 
@@ -213,6 +211,40 @@ def contours():
     shapes = [box(*corners) for box, corners in zip([filled, filled, empty, filled, empty, empty], boxes)]
     owned = [hull(0, boxes[0]), hull(1, boxes[1]), hole(1, boxes[2]), hull(2, boxes[3]), hole(1, boxes[4]), hole(1, boxes[5])]
     case("owners", "three hulls; holes over a hull's edge and over holes", edges(*shapes), says(*owned))
+
+
+def hole_from(owner, points, clockwise=0):
+    """A hole that begins at its least point. For clockwise output it is walked the other way, and that point comes second."""
+    return ("hole", owner, points[1::-1] + points[:1:-1] if clockwise else points)
+
+
+def anchors():
+    """A hole passes its least point once more for each island that touches it. The lowest edge there is before the second visit; for clockwise
+    output, after the last one."""
+    outer, left, right = (0, 0, 20, 20), (-20, 0, -10, 10), (30, 0, 40, 10)
+    outline = [(4, 10), (10, 16), (16, 10), (10, 4)]
+
+    def touched(name, what, beside, islands, others=()):
+        """`others`: holes at the same point, in the order in which the scan finds them after the one touched."""
+        shape = 1 if beside < outer else 0
+        graph = edges(filled(*outer), filled(*beside), outline, *islands, *others)
+        holes = [sum([outline, *islands], []), *others]
+
+        def answer(cw):
+            owned = [hull(shape, outer, cw), *(hole_from(shape, points, cw) for points in holes)]
+            other = [hull(1 - shape, beside, cw)]
+            return says(*(other + owned if shape else owned + other))
+
+        both_ways(name, what, graph, answer)
+
+    touched("d2", "an island touches a hole's least point, and two hulls", right, [[(4, 10), (8, 9), (8, 11)]])
+    two = [[(4, 10), (8, 8), (8, 9)], [(4, 10), (8, 11), (8, 12)]]
+    touched("anchor-thrice", "two islands touch a hole's least point, which it passes three times, and two hulls", left, two)
+    three = [[(4, 10), (8, 7), (8, 8)], [(4, 10), (8, 9), (8, 11)], [(4, 10), (8, 12), (8, 13)]]
+    touched("anchor-four-times", "three islands touch a hole's least point, which it passes four times, and two hulls", left, three)
+    inside, below = [(4, 10), (10, 11), (10, 9)], [(4, 10), (8, 4), (6, 4)]
+    stacked = "holes at one point, below a hole and in an island that touches that: each is bound through the one below it"
+    touched("anchor-order", stacked, left, [[(4, 10), (12, 7), (12, 13)]], [inside, below])
 
 
 def forms_of_a_graph():
@@ -362,7 +394,7 @@ def file_faults():
     case("5-node-huge", "a node whose length passes 8,192 entries, cut", data[:127] + record(2, b"", 2**32 - 2), refused(5, 0))
 
 
-for part in [examples, contours, forms_of_a_graph, minima, link_faults, node_faults, walk_faults, file_faults]:
+for part in [examples, contours, anchors, forms_of_a_graph, minima, link_faults, node_faults, walk_faults, file_faults]:
     part()
 
 # ---- the cases that are not stored
