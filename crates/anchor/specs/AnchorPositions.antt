@@ -16,7 +16,7 @@ use Rattle.table.specs.Passing.{ranges-within, next-within, previous-within}
 use Rattle.anchor.specs.declared.Anchor.{Anchor}
 use Rattle.anchor.specs.Anchor.{anchorPositionIn, anchorPointIn, lowerEnd, lowestThere, lowestEnd, anchorEdgeIn, anchorEdge}
 use Rattle.anchor.specs.Anchored.{Paired}
-use Rattle.anchor.specs.LowestEdges.{one-of, lowest-is, NextVisit, lowest-skip}
+use Rattle.anchor.specs.LowestEdges.{one-of, lowest-is, Searched, NextVisit, lowest-skip}
 
 -- ---- the position of an anchor
 pub anchor-low : (from : ℕ) (cw : Bool) → from ≤ anchorPositionIn from cw
@@ -32,12 +32,7 @@ pub after-anchor : (from len : ℕ) (cw : Bool) → 3 ≤ len → nextIn from (f
 after-anchor from len cw h = next-inside from (from + len) (anchorPositionIn from cw) (omega (arith, anchor-high from cw))
 
 -- ---- what the code has, from its parts
--- the search for the next visit: none from position p up to q
-pub record Searched (points : List ℤ) (at : Point) (p to q : ℕ) : Type 0 where
-  pub low : p ≤ q
-  pub high : q ≤ to
-  pub none : (i : ℕ) → p ≤ i → i < q → differ (pointIn points i) at ≡ true
-
+-- the search for the next visit
 module _ (points : List ℤ) (at : Point) (p to : ℕ) where
   pub search-start : p ≤ to → Searched points at p to p
   search-start h = record { low = omega arith; high = h; none = λ i k l. absurd (nothing i k l) }
@@ -55,15 +50,10 @@ module _ (points : List ℤ) (at : Point) (p to : ℕ) where
 
   pub search-here : (q : ℕ) (here : Point) → Searched points at p to q → here ≡ pointIn points q → differ here at ≡ false
       → NextVisit points at p to q
-  search-here q here s e d = record {
-    low = s .low;
-    high = s .high;
-    none = s .none;
-    here = λ _. ap (λ (x : Point). differ x at) (sym e) ∙ d;
-  }
+  search-here q here s e d = record { searched = s; here = λ _. ap (λ (x : Point). differ x at) (sym e) ∙ d }
 
   pub search-end : (q : ℕ) → Searched points at p to q → to ≤ q → NextVisit points at p to q
-  search-end q s h = record { low = s .low; high = s .high; none = s .none; here = λ k. absurd (past k) }
+  search-end q s h = record { searched = s; here = λ k. absurd (past k) }
     where
       past : q < to → ⊥
       past k = omega arith
@@ -90,19 +80,19 @@ module _ (points : List ℤ) (from to : ℕ) (at b : Point) where
   pub first-visit : (p : ℕ) → NextVisit points at from to p → UpTo points from to at b b p
   unfolding lowestEnd
   first-visit p v = record {
-    low = v .low;
-    high = v .high;
-    is = lowest-skip points from to at b 0 (p - from) (omega arith) (λ k l m. v .none (from + k) (omega arith) (omega (arith, v .low)));
+    low = v .searched .low;
+    high = v .searched .high;
+    is = lowest-skip points from to at b 0 (p - from) (omega arith) (λ k l m. v .searched .none (from + k) (omega arith) (omega (arith, v .searched .low)));
     here = v .here;
   }
 
   pub further-visit : (best r : Point) (p q : ℕ) → UpTo points from to at b best p → p < to → r ≡ lowestThere points from to at p best
       → NextVisit points at (p + 1) to q → UpTo points from to at b r q
   further-visit best r p q u l e v = record {
-    low = omega (arith, u .low, v .low);
-    high = v .high;
-    is = e ∙ counted ∙ lowest-skip points from to at b (suc (p - from)) (q - from) (omega (arith, u .low, v .low))
-        (λ k m n. v .none (from + k) (omega (arith, u .low)) (omega (arith, u .low, v .low)));
+    low = omega (arith, u .low, v .searched .low);
+    high = v .searched .high;
+    is = e ∙ counted ∙ lowest-skip points from to at b (suc (p - from)) (q - from) (omega (arith, u .low, v .searched .low))
+        (λ k m n. v .searched .none (from + k) (omega (arith, u .low)) (omega (arith, u .low, v .searched .low)));
     here = v .here;
   }
     where

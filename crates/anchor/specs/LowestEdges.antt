@@ -1,5 +1,5 @@
 -- The lowest of all edges at a point of a contour: it is one of them, none of them is lower, and where the contour passes
--- the point once it is the lower of the two there.
+-- the point once it is the lower of the two there. What stands between one visit to the point and the next does not count.
 use Prim.Native.Nat.{ℕ, zero, suc, _+_, _≤_, _<_}
 use native.Mathlib.Omega.{arith}
 use native.Mathlib.Nat.{not-suc-le-zero}
@@ -59,11 +59,16 @@ still-lower at b q x hb hq hx e =
     pick-ind (clockwise at b q) q b (λ (p : Point). clockwise at p x ≡ false)
     (λ f. onward-trans (fromTo at q) (fromTo at b) (fromTo at x) (onward at q hq) (onward at b hb) (onward at x hx) (not-back at b q f) e) (λ f. e)
 
--- the first position from p on, and before `to`, at which the contour passes a point; `to` where there is none
+-- ---- visits to a point
+-- none from position p on, up to q, which is not past `to`
+pub record Searched (points : List ℤ) (at : Point) (p to q : ℕ) : Type 0 where
+  pub low : p ≤ q
+  pub high : q ≤ to
+  pub none : (i : ℕ) → p ≤ i → i < q → differ (pointIn points i) at ≡ true
+
+-- the first from position p on, and before `to`; `to` where there is none
 pub record NextVisit (points : List ℤ) (at : Point) (p to r : ℕ) : Type 0 where
-  pub low : p ≤ r
-  pub high : r ≤ to
-  pub none : (q : ℕ) → p ≤ q → q < r → differ (pointIn points q) at ≡ true
+  pub searched : Searched points at p to r
   pub here : r < to → differ (pointIn points r) at ≡ false
 
 -- ---- all edges at a point, of a contour that stands from a position up to another

@@ -113,7 +113,7 @@ module _ (t : Table) (cw : Bool) (s : Sound t) (a : Anchored t cw) where
   abbrev order : List ℕ
   order = bindingOrder t cw
 
-  order-length : length order ≡ length (holes t)
+  pub order-length : length order ≡ length (holes t)
   order-length = sorted-length (precedes t cw) (hole t) (length (holes t))
 
   pub order-holes : (i : ℕ) → i < length order → IsHole t cw s a (getD order i 0)

@@ -1,16 +1,18 @@
--- Binding answers 12 of any table whatever exactly where there are two hulls or more and no edge lies under some hole's anchor;
--- the place is the first such hole in binding's order.
+-- When binding answers 12, of any table whatever: exactly where checks 10 and 11 pass, there are two hulls or more, and no edge
+-- lies under some hole's anchor. The place is the first such hole in binding's order.
 use Prim.Native.Nat.{ℕ, _≤_, _<_}
 use native.Mathlib.Omega.{arith}
+use native.Mathlib.Decide.{decLe, ℕ-discrete}
 use mathlib.Core.Path.{_≡_, refl, sym, ap, _∙_, subst}
 use mathlib.Core.Bool.{Bool, true, false, _||_}
 use mathlib.Core.List.{List}
 use lib.ListN.{length, getD, replicate}
 use lib.Dec.{eqb}
-use borrow.Author.Tests.{eq-eqb, ne-eqb, eqb-true}
+use borrow.Author.Tests.{eq-eqb, ne-eqb, eqb-true, eqb-false}
 use Rattle.laws.specs.Test.{pick, true≢false}
 use Rattle.laws.specs.Lists.{Place}
-use Rattle.laws.specs.Lowest.{lowest, some, some-of, none-of}
+use Rattle.laws.specs.Lowest.{lowest, some, Found, some-of, none-of}
+use Rattle.laws.specs.Fails.{Iff}
 use Rattle.turn.specs.declared.Checked.{Checked}
 use Rattle.turn.specs.declared.Checked.the-variants.{Fine, Refused as AtFault}
 use Rattle.turn.specs.Refusals.{numberOf, refuseAt, followedBy, both-fine}
@@ -24,19 +26,33 @@ use Rattle.anchor.specs.Anchored.{Anchored}
 use Rattle.anchor.specs.Anchoring.{passes-anchored}
 use Rattle.candidates.specs.Candidates.{rightward, edge}
 use Rattle.nearest.specs.Least.{None, none-under}
-use Rattle.order.specs.HoleOrder.{bindingOrder}
+use Rattle.order.specs.HoleOrder.{precedes, bindingOrder}
+use Rattle.order.specs.OrderLaws.{strict, precedes-itself, in-order}
 use Rattle.owners.specs.declared.Given.{Given}
 use Rattle.owners.specs.declared.Given.the-variants.{All, Stuck}
 use Rattle.owners.specs.Owners.{withFillAbove, everyContour, contourBelow, givenNumber, givenPlace, owned, searchedOwners, ownersOf}
-use Rattle.bind.specs.Outcome.{handedBy, boundAfter, bound}
+use Rattle.bind.specs.declared.Binding.{Binding}
+use Rattle.bind.specs.declared.Binding.the-variants.{Refused}
+use Rattle.bind.specs.Outcome.{bindingNumber, bindingPlace, handedBy, boundAfter, bound}
 use Rattle.parents.specs.Waiting.{bare}
-use Rattle.parents.specs.Orphans.{nothing-under, order-holes, order-place, stops-at-orphans}
+use Rattle.parents.specs.Orphans.{nothing-under, order-length, order-holes, order-place, stops-at-orphans}
 
 -- a hole under whose anchor no candidate edge lies
 pub record Orphan (t : Table) (cw : Bool) (c : ℕ) : Type 0 where
   pub below : c < contourCount t
   pub hole : isHole t c ≡ true
   pub none : None (edge t (rightward withFillAbove cw)) everyContour (anchorEdge t cw c) (pointCount t)
+
+-- the first of them in binding's order
+pub record FirstOrphan (t : Table) (cw : Bool) (c : ℕ) : Type 0 where
+  pub is : Orphan t cw c
+  pub first : (d : ℕ) → Orphan t cw d → (d ≡ c → ⊥) → precedes t cw c d ≡ true
+
+-- what 12 at contour c says of a table, with room for so many owners
+pub record TwelveAt (t : Table) (cw : Bool) (owners c : ℕ) : Type 0 where
+  pub checked : bothChecked t owners cw ≡ Fine
+  pub several : 2 ≤ hullCount t
+  pub place : FirstOrphan t cw c
 
 -- ---- checks 10 and 11 answer no 12
 abbrev Not12 : Checked → Type 0
@@ -73,7 +89,7 @@ module _ (t : Table) (cw : Bool) (s : Sound t) (a : Anchored t cw) where
   abbrev test : ℕ → Bool
   test = bare (contourBelow t cw) order
 
-  -- a place of the order at which nothing lies under is an orphan's
+  -- the places of the order at which nothing lies under are the orphans'
   orphan-at : (i : ℕ) → i < length order → test i ≡ true → Orphan t cw (getD order i 0)
   orphan-at i l e = record {
     below = order-holes t cw s a i l .0;
@@ -81,37 +97,69 @@ module _ (t : Table) (cw : Bool) (s : Sound t) (a : Anchored t cw) where
     none = nothing-under (edge t (rightward withFillAbove cw)) everyContour (anchorEdge t cw (getD order i 0)) (pointCount t) (eqb-true _ _ e);
   }
 
-  -- where it stops there is one, and it stops where there is one
-  stuck-orphan : (c : ℕ) → searchedOwners t cw .answer ≡ Stuck c → Orphan t cw c
-  stuck-orphan c e = go (some test (length order)) refl (sym (stops-at-orphans t cw s a) ∙ e)
-    where
-      same : (b : ℕ) → Stuck b ≡ Stuck c → b ≡ c
-      same b q = ap givenPlace q
+  bare-at : (d : ℕ) → Orphan t cw d → (p : Place 0 d order) → test (p .place) ≡ true
+  bare-at d o p =
+      eq-eqb _ _ (ap (contourBelow t cw) (p .here)
+      ∙ none-under (edge t (rightward withFillAbove cw)) everyContour (anchorEdge t cw d) (pointCount t) (o .none))
 
+  -- the lowest such place is the first orphan's
+  first-at : (i : ℕ) → Found test (length order) i → FirstOrphan t cw (getD order i 0)
+  first-at i f = record {
+    is = orphan-at i (f .within) (f .passes);
+    first = λ d o n. let p = order-place t cw s a d (o .below, o .hole) in go d o n p (decLe (p .place) i) (ℕ-discrete (p .place) i);
+  }
+    where
+      go : (d : ℕ) → Orphan t cw d → (d ≡ getD order i 0 → ⊥) → (p : Place 0 d order) → Dec (p .place ≤ i) → Dec (p .place ≡ i)
+          → precedes t cw (getD order i 0) d ≡ true
+      go d o n p l (yes e) = absurd (n (sym (p .here) ∙ ap (λ (x : ℕ). getD order x 0) e))
+      go d o n p (yes l) (no e) = absurd (true≢false (bare-at d o p) (f .lowest-one (p .place) (omega arith)))
+      go d o n p (no l) (no e) =
+          subst (λ (x : ℕ). precedes t cw (getD order i 0) x ≡ true) (p .here)
+          (in-order t cw s a i (p .place) (omega arith) (rw (← order-length t cw s a) (p .within)))
+
+  -- there is one first orphan at the most
+  one-first : (c d : ℕ) → FirstOrphan t cw c → FirstOrphan t cw d → c ≡ d
+  one-first c d f g = go (ℕ-discrete c d)
+    where
+      hole-of : (c : ℕ) → Orphan t cw c → (c < contourCount t) × (isHole t c ≡ true)
+      hole-of c o = (o .below, o .hole)
+
+      apart : (c ≡ d → ⊥) → ⊥
+      apart n =
+          true≢false
+          (strict t cw s a .transitive c d c (hole-of c (f .is)) (hole-of d (g .is)) (hole-of c (f .is))
+          (f .first d (g .is) (λ e. n (sym e))) (g .first c (f .is) n))
+          (precedes-itself t cw c)
+
+      go : Dec (c ≡ d) → c ≡ d
+      go (yes e) = e
+      go (no n) = absurd (apart n)
+
+  -- binding stops at the first orphan
+  stuck-first : (c : ℕ) → Iff (searchedOwners t cw .answer ≡ Stuck c) (FirstOrphan t cw c)
+  stuck-first c = go (some test (length order)) refl (stops-at-orphans t cw s a)
+    where
       not-all : All ≡ Stuck c → ⊥
       not-all q = let z : _≡_ {A = ℕ} 0 12 = ap givenNumber q in omega arith
 
-      go : (b : Bool) → some test (length order) ≡ b → pick b (Stuck (getD order (lowest test (length order)) 0)) All ≡ Stuck c → Orphan t cw c
-      go true h q =
-          let f = some-of test (length order) h in
-          subst (Orphan t cw) (same _ q) (orphan-at (lowest test (length order)) (f .within) (f .passes))
-      go false h q = absurd (not-all q)
-
-  orphan-stuck : (c : ℕ) → Orphan t cw c → (b : ℕ) × (searchedOwners t cw .answer ≡ Stuck b)
-  orphan-stuck c o = go (some test (length order)) refl
-    where
-      p : Place 0 c order
-      p = order-place t cw s a c (o .below, o .hole)
-
-      nothing : contourBelow t cw c ≡ 0
-      nothing = none-under (edge t (rightward withFillAbove cw)) everyContour (anchorEdge t cw c) (pointCount t) (o .none)
-
-      bare-there : test (p .place) ≡ true
-      bare-there = eq-eqb _ _ (ap (contourBelow t cw) (p .here) ∙ nothing)
-
-      go : (b : Bool) → some test (length order) ≡ b → (b : ℕ) × (searchedOwners t cw .answer ≡ Stuck b)
-      go true h = (getD order (lowest test (length order)) 0, stops-at-orphans t cw s a ∙ rw h)
-      go false h = absurd (true≢false bare-there (none-of test (length order) h (p .place) (p .within)))
+      go : (b : Bool) → some test (length order) ≡ b
+          → searchedOwners t cw .answer ≡ pick (some test (length order)) (Stuck (getD order (lowest test (length order)) 0)) All
+          → Iff (searchedOwners t cw .answer ≡ Stuck c) (FirstOrphan t cw c)
+      go true h e =
+          let f = first-at (lowest test (length order)) (some-of test (length order) h) in
+          let z = rw h at e in
+          record {
+            to = λ q. subst (FirstOrphan t cw) (ap givenPlace (sym z ∙ q)) f;
+            from = λ g. z ∙ ap Stuck (one-first _ c f g);
+          }
+      go false h e =
+          let z = rw h at e in
+          record {
+            to = λ q. absurd (not-all (sym z ∙ q));
+            from = λ g.
+              let o = g .is in let p = order-place t cw s a c (o .below, o .hole) in
+              absurd (true≢false (bare-at c o p) (none-of test (length order) h (p .place) (p .within)));
+          }
 
 -- ---- the outcome
 module _ (t : Table) (cw : Bool) (buffer : List ℕ) where
@@ -121,43 +169,52 @@ module _ (t : Table) (cw : Bool) (buffer : List ℕ) where
       let f = both-fine (tableChecked t (length buffer)) (anchorsChecked t cw) .to e in
       (passes-sound t (length buffer) .to (f .0) .0, passes-anchored t cw .to (f .1))
 
-  -- where the owners are all given there is no 12, and else the place is the hole's
-  by-answer : (P : ℕ → Type 0) (g : Given) (l : List ℕ) → ((c : ℕ) → g ≡ Stuck c → P c) → handedBy t g l buffer .values .number ≡ 12
-      → P (handedBy t g l buffer .values .place)
-  by-answer P All l h e = absurd (fine-not e)
-  by-answer P (Stuck c) l h e = h c refl
-
-  by-hulls : Sound t → Anchored t cw → (c : ℕ) → ownersOf t cw .answer ≡ Stuck c → Orphan t cw c
+  -- with one hull or none every hole has its owner
+  searched : (c : ℕ) → ownersOf t cw .answer ≡ Stuck c → (2 ≤ hullCount t) × (searchedOwners t cw .answer ≡ Stuck c)
   unfolding ownersOf
-  by-hulls s a c = go (eqb (hullCount t) 0) (eqb (hullCount t) 1)
+  searched c = go (eqb (hullCount t) 0) refl (eqb (hullCount t) 1) refl
     where
       not-all : All ≡ Stuck c → ⊥
       not-all q = let z : _≡_ {A = ℕ} 0 12 = ap givenNumber q in omega arith
 
-      go : (x y : Bool) → pick x (owned All (replicate (contourCount t) droppedOwner)) (pick y (owned All (replicate (contourCount t) 0)) (searchedOwners t cw))
-          .answer ≡ Stuck c → Orphan t cw c
-      go true y q = absurd (not-all q)
-      go false true q = absurd (not-all q)
-      go false false q = stuck-orphan t cw s a c q
+      two : (n : ℕ) → (n ≡ 0 → ⊥) → (n ≡ 1 → ⊥) → 2 ≤ n
+      two n p q = omega arith
 
-  -- 12 is answered at an orphan
-  pub twelve-orphan : bound t cw buffer .values .number ≡ 12 → Orphan t cw (bound t cw buffer .values .place)
-  twelve-orphan = go (bothChecked t (length buffer) cw) refl
+      go : (x : Bool) → eqb (hullCount t) 0 ≡ x → (y : Bool) → eqb (hullCount t) 1 ≡ y
+          → pick x (owned All (replicate (contourCount t) droppedOwner)) (pick y (owned All (replicate (contourCount t) 0)) (searchedOwners t cw)) .answer ≡ Stuck c
+          → (2 ≤ hullCount t) × (searchedOwners t cw .answer ≡ Stuck c)
+      go true p y q e = absurd (not-all e)
+      go false p true q e = absurd (not-all e)
+      go false p false q e = (two (hullCount t) (eqb-false _ _ p) (eqb-false _ _ q), e)
+
+  -- binding answers 12 at contour c
+  abbrev pub Answers12 : ℕ → Type 0
+  Answers12 c = bound t cw buffer .answer ≡ Refused 12 c
+
+  answered : (c : ℕ) → Answers12 c → TwelveAt t cw (length buffer) c
+  answered c = go (bothChecked t (length buffer) cw) refl
     where
-      go : (k : Checked) → bothChecked t (length buffer) cw ≡ k → boundAfter k t cw buffer .values .number ≡ 12
-          → Orphan t cw (boundAfter k t cw buffer .values .place)
-      go (AtFault number place) q e = absurd (checks-not t (length buffer) cw (ap numberOf q ∙ e))
-      go Fine q e =
-          let h = sound-of q in
-          by-answer (Orphan t cw) (ownersOf t cw .answer) (ownersOf t cw .owners) (by-hulls (h .0) (h .1)) e
+      fine : bothChecked t (length buffer) cw ≡ Fine → (g : Given) → ownersOf t cw .answer ≡ g
+          → handedBy t g (ownersOf t cw .owners) buffer .answer ≡ Refused 12 c → TwelveAt t cw (length buffer) c
+      fine q All h e = absurd (fine-not (ap bindingNumber e))
+      fine q (Stuck b) h e =
+          let k = sound-of q in
+          let m = searched c (h ∙ ap Stuck (ap bindingPlace e)) in
+          record { checked = q; several = m .0; place = stuck-first t cw (k .0) (k .1) c .to (m .1) }
 
-  -- and wherever there is one, with two hulls or more in a table that passes checks 10 and 11
-  pub orphan-twelve : bothChecked t (length buffer) cw ≡ Fine → 2 ≤ hullCount t → (c : ℕ) → Orphan t cw c → bound t cw buffer .values .number ≡ 12
+      go : (k : Checked) → bothChecked t (length buffer) cw ≡ k → boundAfter k t cw buffer .answer ≡ Refused 12 c → TwelveAt t cw (length buffer) c
+      go (AtFault number place) q e = absurd (checks-not t (length buffer) cw (ap numberOf q ∙ ap bindingNumber e))
+      go Fine q e = fine q (ownersOf t cw .answer) refl e
+
+  answers : (c : ℕ) → TwelveAt t cw (length buffer) c → Answers12 c
   unfolding ownersOf
-  orphan-twelve q h c o =
-      let k = sound-of q in
-      let r = orphan-stuck t cw (k .0) (k .1) c o in
-      rw (q, ne-eqb (hullCount t) 0 (λ z. omega arith), ne-eqb (hullCount t) 1 (λ z. omega arith)) (stuck (searchedOwners t cw .answer) (r .0) (r .1))
+  answers c w =
+      let k = sound-of (w .checked) in
+      rw (w .checked, ne-eqb (hullCount t) 0 (λ z. omega (arith, w .several)), ne-eqb (hullCount t) 1 (λ z. omega (arith, w .several)))
+      (stuck (searchedOwners t cw .answer) (stuck-first t cw (k .0) (k .1) c .from (w .place)))
     where
-      stuck : (g : Given) (b : ℕ) → g ≡ Stuck b → handedBy t g (searchedOwners t cw .owners) buffer .values .number ≡ 12
-      stuck g b e = rw e
+      stuck : (g : Given) → g ≡ Stuck c → handedBy t g (searchedOwners t cw .owners) buffer .answer ≡ Refused 12 c
+      stuck g e = rw e
+
+  pub twelve : (c : ℕ) → Iff (Answers12 c) (TwelveAt t cw (length buffer) c)
+  twelve c = record { to = answered c; from = answers c }

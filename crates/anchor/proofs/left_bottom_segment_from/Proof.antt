@@ -64,7 +64,7 @@ next-visit-requires-2 : tie.Need-next-visit-requires-2 Inv-loop μ-loop
 next-visit-requires-2 c κs = (omega (arith, c .before .loop-test .taken), c .before .before .before .before .before .before .before .pre .1)
 
 loop-less : tie.Need-loop-less Inv-loop μ-loop
-loop-less c = omega (arith, c .before .before .loop-test .taken, c .next-visit2 .ensures .low)
+loop-less c = omega (arith, c .before .before .loop-test .taken, c .next-visit2 .ensures .searched .low)
 
 loop-again : tie.Need-loop-again Inv-loop μ-loop
 loop-again c =

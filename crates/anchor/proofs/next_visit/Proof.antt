@@ -3,7 +3,8 @@ use Prim.Native.Nat.{_-_}
 use native.Mathlib.Omega.{arith}
 use mathlib.Core.Path.{sym, _∙_}
 use denote.Ref.{now}
-use Rattle.anchor.specs.AnchorPositions.{Searched, search-start, search-more, search-here, search-end}
+use Rattle.anchor.specs.LowestEdges.{Searched}
+use Rattle.anchor.specs.AnchorPositions.{search-start, search-more, search-here, search-end}
 use Rattle.anchor.proofs.next_visit.Statement.{statement}
 use Rattle.anchor.proofs.next_visit.Tie as tie
 
