@@ -82,6 +82,9 @@ checks-not t owners cw =
     (refuse-not (some (badAnchor t cw) (contourCount t)) 11 (lowest (badAnchor t cw) (contourCount t)) Fine (omega arith) fine-not)
 
 -- ---- the search, with two hulls or more
+not-all : (c : ℕ) → All ≡ Stuck c → ⊥
+not-all c q = let z : _≡_ {A = ℕ} 0 12 = ap givenNumber q in omega arith
+
 module _ (t : Table) (cw : Bool) (s : Sound t) (a : Anchored t cw) where
   abbrev order : List ℕ
   order = bindingOrder t cw
@@ -139,9 +142,6 @@ module _ (t : Table) (cw : Bool) (s : Sound t) (a : Anchored t cw) where
   stuck-first : (c : ℕ) → Iff (searchedOwners t cw .answer ≡ Stuck c) (FirstOrphan t cw c)
   stuck-first c = go (some test (length order)) refl (stops-at-orphans t cw s a)
     where
-      not-all : All ≡ Stuck c → ⊥
-      not-all q = let z : _≡_ {A = ℕ} 0 12 = ap givenNumber q in omega arith
-
       go : (b : Bool) → some test (length order) ≡ b
           → searchedOwners t cw .answer ≡ pick (some test (length order)) (Stuck (getD order (lowest test (length order)) 0)) All
           → Iff (searchedOwners t cw .answer ≡ Stuck c) (FirstOrphan t cw c)
@@ -155,10 +155,10 @@ module _ (t : Table) (cw : Bool) (s : Sound t) (a : Anchored t cw) where
       go false h e =
           let z = rw h at e in
           record {
-            to = λ q. absurd (not-all (sym z ∙ q));
+            to = λ q. absurd (not-all c (sym z ∙ q));
             from = λ g.
-              let o = g .is in let p = order-place t cw s a c (o .below, o .hole) in
-              absurd (true≢false (bare-at c o p) (none-of test (length order) h (p .place) (p .within)));
+                let o = g .is in let p = order-place t cw s a c (o .below, o .hole) in
+                absurd (true≢false (bare-at c o p) (none-of test (length order) h (p .place) (p .within)));
           }
 
 -- ---- the outcome
@@ -174,17 +174,14 @@ module _ (t : Table) (cw : Bool) (buffer : List ℕ) where
   unfolding ownersOf
   searched c = go (eqb (hullCount t) 0) refl (eqb (hullCount t) 1) refl
     where
-      not-all : All ≡ Stuck c → ⊥
-      not-all q = let z : _≡_ {A = ℕ} 0 12 = ap givenNumber q in omega arith
-
       two : (n : ℕ) → (n ≡ 0 → ⊥) → (n ≡ 1 → ⊥) → 2 ≤ n
       two n p q = omega arith
 
       go : (x : Bool) → eqb (hullCount t) 0 ≡ x → (y : Bool) → eqb (hullCount t) 1 ≡ y
           → pick x (owned All (replicate (contourCount t) droppedOwner)) (pick y (owned All (replicate (contourCount t) 0)) (searchedOwners t cw)) .answer ≡ Stuck c
           → (2 ≤ hullCount t) × (searchedOwners t cw .answer ≡ Stuck c)
-      go true p y q e = absurd (not-all e)
-      go false p true q e = absurd (not-all e)
+      go true p y q e = absurd (not-all c e)
+      go false p true q e = absurd (not-all c e)
       go false p false q e = (two (hullCount t) (eqb-false _ _ p) (eqb-false _ _ q), e)
 
   -- binding answers 12 at contour c
