@@ -172,17 +172,17 @@ module _ (t : Table) (cw : Bool) (buffer : List ℕ) where
   -- with one hull or none every hole has its owner
   searched : (c : ℕ) → ownersOf t cw .answer ≡ Stuck c → (2 ≤ hullCount t) × (searchedOwners t cw .answer ≡ Stuck c)
   unfolding ownersOf
-  searched c = go (eqb (hullCount t) 0) refl (eqb (hullCount t) 1) refl
+  searched c = go (replicate (contourCount t) droppedOwner) (replicate (contourCount t) 0) (eqb (hullCount t) 0) refl (eqb (hullCount t) 1) refl
     where
       two : (n : ℕ) → (n ≡ 0 → ⊥) → (n ≡ 1 → ⊥) → 2 ≤ n
       two n p q = omega arith
 
-      go : (x : Bool) → eqb (hullCount t) 0 ≡ x → (y : Bool) → eqb (hullCount t) 1 ≡ y
-          → pick x (owned All (replicate (contourCount t) droppedOwner)) (pick y (owned All (replicate (contourCount t) 0)) (searchedOwners t cw)) .answer ≡ Stuck c
+      go : (l m : List ℕ) (x : Bool) → eqb (hullCount t) 0 ≡ x → (y : Bool) → eqb (hullCount t) 1 ≡ y
+          → pick x (owned All l) (pick y (owned All m) (searchedOwners t cw)) .answer ≡ Stuck c
           → (2 ≤ hullCount t) × (searchedOwners t cw .answer ≡ Stuck c)
-      go true p y q e = absurd (not-all c e)
-      go false p true q e = absurd (not-all c e)
-      go false p false q e = (two (hullCount t) (eqb-false _ _ p) (eqb-false _ _ q), e)
+      go l m true p y q e = absurd (not-all c e)
+      go l m false p true q e = absurd (not-all c e)
+      go l m false p false q e = (two (hullCount t) (eqb-false _ _ p) (eqb-false _ _ q), e)
 
   -- binding answers 12 at contour c
   abbrev pub Answers12 : ℕ → Type 0
