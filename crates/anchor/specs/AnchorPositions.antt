@@ -1,4 +1,5 @@
--- Where an anchor and the point after it stand, and that an anchor edge lies within the bounds.
+-- Where an anchor and the point after it stand, what the code has of an anchor edge from visit to visit, and that an anchor edge
+-- lies within the bounds.
 use Prim.Native.Nat.{ℕ, suc, _+_, _*_, _-_, _≤_, _<_}
 use mathlib.Core.Path.{_≡_, refl, sym, ap, ap₂, _∙_, subst}
 use mathlib.Core.Bool.{Bool, true, false}
