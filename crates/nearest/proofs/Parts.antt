@@ -1,5 +1,5 @@
 -- The binary search: its ends bracket the answer.
-use Prim.Native.Nat.{ℕ, _+_, _^_, _≤_, _<_}
+use Prim.Native.Nat.{ℕ, _+_, _-_, _^_, _≤_, _<_}
 use mathlib.Core.Path.{_≡_}
 use mathlib.Core.Bool.{true, false}
 use mathlib.Core.List.{List}
@@ -50,6 +50,17 @@ module _ (l : List ℤ) (m : ℕ) (x : ℤ) (low high middle : ℕ) (s : Sorted 
 
 pub bracket-end : (l : List ℤ) (m : ℕ) (x : ℤ) (low high : ℕ) → Bracket l m x low high → high ≤ low → Parted l m x low
 bracket-end l m x low high b h = record { within = omega (arith, b .low-le, b .high-le); below = b .below; above = λ k j. b .above k (omega arith) }
+
+-- where the last is below x, all are
+pub last-below : (l : List ℤ) (m : ℕ) (x : ℤ) → Sorted l m → (m ≡ 0 → ⊥) → getD l (m - 1) (pos 0) <ℤ x → Parted l m x m
+last-below l m x s n t = record {
+  within = omega arith;
+  below = λ k h. let o = s k (m - 1) (omega arith) (omega arith) in omega lin;
+  above = λ k h j. absurd (past k h j);
+}
+  where
+    past : (k : ℕ) → m ≤ k → k < m → ⊥
+    past k h j = omega arith
 
 -- an element as the code reads it, and its tests against y
 pub num : (z : ℤ) → mag z < 2 ^ 31 → toZ w32 (ofZ w32 z) ≡ z

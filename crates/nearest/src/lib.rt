@@ -14,11 +14,18 @@ ghost use Rattle.nearest.specs.Search.{kept as kept-of};
 ghost use Rattle.nearest.specs.SearchLists.{Flags, SortedAnchors, Sorted, Parted, Numbers, Offered, Nearests, named, NamedInto};
 ghost use Rattle.nearest.specs.Promises.{contours-under-says};
 
-// The first of m numbers in order that is not below x.
+// The first of m numbers in order that is not below x. The last is looked at first: most edges of long contours begin to the right of
+// every anchor, and are done with by that.
 fn first_from(l: &[i32], m: usize, x: i32) -> usize
     requires { ⌜ (m ≤ length (now l)) × (Sorted (now l) m) ⌝ }
     ensures { λ r. ⌜ Parted (now (l .entry)) m x r ⌝ }
 {
+    if m == 0 {
+        return 0;
+    }
+    if l[m - 1] < x {
+        return m;
+    }
     let mut low = 0;
     let mut high = m;
     while low < high {
