@@ -9,14 +9,15 @@ fn say(n: u64) {
     io::print_decimal(1, n);
 }
 
-// The absolute value and its half; whether it is kept at minimum 0, 1, the one given, 2^63 and 2^64 - 1, and with 2 points.
+// The absolute value and the minimum given; whether three points are kept at 0, 1, this one, 2^63 - 1, 2^63 and 2^64 - 1, and two points at 0.
 fn size(area: i64, minimum: u64) {
     io::write_all(1, b"\nsize");
     say(turn::absolute(area));
-    say(size::half(area));
+    say(minimum);
     say(size::is_kept(18446744073709551615, area, 0) as u64);
     say(size::is_kept(3, area, 1) as u64);
     say(size::is_kept(3, area, minimum) as u64);
+    say(size::is_kept(3, area, 9223372036854775807) as u64);
     say(size::is_kept(3, area, 9223372036854775808) as u64);
     say(size::is_kept(3, area, 18446744073709551615) as u64);
     say(size::is_kept(2, area, 0) as u64);
@@ -75,7 +76,7 @@ fn product(u: Vector, v: Vector)
     say(turn::same_direction(u, v) as u64);
 }
 
-// Areas at 0, about a minimum, and at both ends of 64 bits.
+// Areas at 0, odd, about a minimum, and at both ends of 64 bits; and a minimum whose doubling would wrap to the area.
 fn sizes() {
     size(0, 0);
     size(1, 1);
@@ -89,6 +90,7 @@ fn sizes() {
     size(-9223372036854775807, 4611686018427387904);
     size(-9223372036854775808, 4611686018427387904);
     size(-9223372036854775808, 4611686018427387905);
+    size(32, 9223372036854775824);
 }
 
 // Points and coordinates about 0, at the bounds of the grid, and at both ends of 32 bits.

@@ -1,2 +1,4 @@
--- What the contracts cite.
+-- What the contracts cite, then the law of doubled numbers, with examples.
 pub mod Promises
+pub mod Doubled
+pub mod Examples

@@ -4,13 +4,7 @@ use mathlib.Core.Path.{_≡_}
 use mathlib.Core.Bool.{Bool}
 use lib.IntN.{ℤ}
 use Rattle.laws.specs.Unique.{Determines, by-equation}
-use Rattle.turn.specs.Size.{half, isKept}
-
-abbrev pub half-says : ℤ → ℕ → Type 0
-half-says x r = r ≡ half x
-
-pub half-once : (x : ℤ) → Determines (half-says x)
-half-once x = by-equation (half x)
+use Rattle.turn.specs.Size.{isKept}
 
 abbrev pub is-kept-says : ℕ → ℤ → ℕ → Bool → Type 0
 is-kept-says points area minimum r = r ≡ isKept points area minimum

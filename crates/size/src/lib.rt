@@ -1,17 +1,16 @@
-// Rule 6's size test: half the absolute doubled area, and whether a walk is kept.
+// Rule 6's size test, by doubled numbers: whether a walk is kept.
 use turn::absolute;
-ghost use Rattle.size.specs.Promises.{half-says, is-kept-says};
+ghost use Rattle.size.specs.Promises.{is-kept-says};
 
-// Half the absolute value, rounded down.
-pub fn half(x: i64) -> u64
-    ensures { λ r. ⌜ half-says x r ⌝ }
-{
-    absolute(x) / 2
-}
+// Twice a minimum from here on does not fit 64 bits; no area reaches it.
+const HUGE: u64 = 9223372036854775808;
 
-// Rule 6: whether a walk of so many points and such a signed doubled area is kept.
+// Rule 6: whether a walk of so many points and such a signed doubled area is kept. The minimum is doubled, and the area not halved.
 pub fn is_kept(points: usize, area: i64, minimum: u64) -> bool
     ensures { λ r. ⌜ is-kept-says points area minimum r ⌝ }
 {
-    (3 <= points) & ((minimum == 0) | (minimum <= half(area)))
+    if HUGE <= minimum {
+        return false;
+    }
+    (3 <= points) & ((minimum == 0) | (2 * minimum <= absolute(area)))
 }

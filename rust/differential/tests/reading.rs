@@ -1,4 +1,4 @@
-//! What document 01 and requests a and b of document 02 promise of every run, seen on the reading, generated graphs and tables.
+//! What document 01 and requests a to c of document 02 promise of every run, seen on the reading, generated graphs and tables.
 
 use differential::tally::ALL;
 use generators::planar::{FAMILIES, sample};
@@ -8,7 +8,7 @@ use reading::bind::{Table, anchor_visits, bind, contours_under, lookup};
 use reading::fill::{area_of_links, sides_alternate};
 use reading::graph::{Buffers, check};
 use reading::straight::is_straight;
-use reading::walk::{Counts, extract};
+use reading::walk::{Counts, Scan, extract, walks};
 use reading::{Refusal, Settings};
 
 /// Extraction into least room, then binding; the links walked are those that were unvisited, what was extracted passes checks
@@ -138,6 +138,36 @@ fn points_on_a_line_go_and_contours_stay() {
     assert!(gone.as_flattened().iter().all(|[later, _]| *later > 1000) && refused > 100);
     // the least point of a contour is a corner: a walk that begins there begins at no joint
     assert!(gone[0][0][1] > 100 && gone[1][1][1] > 100);
+}
+
+/// Minima about an area, and huge ones: in 64 bits, twice the last but one would wrap to twice the area.
+fn minima(area: u64) -> [u64; 8] {
+    [0, 1, area, area + 1, (1 << 63) - 1, 1 << 63, (1 << 63) + area, u64::MAX]
+}
+
+/// Request c: "compare the absolute doubled area with twice the minimum". It is document 01's rule, which the reading has.
+#[test]
+fn doubled_areas_against_twice_the_minimum() {
+    let mut seen = [[0; 2]; 2];
+    for seed in 0..3000 {
+        let mut rng = Rng::new(seed ^ 15 << 40);
+        let sample = sample(FAMILIES[seed as usize % FAMILIES.len()], 5, &mut rng);
+        let clockwise = rng.chance(50);
+        let walked = |minimum| {
+            let settings = Settings { clockwise, minimum, ..ALL };
+            walks(&sample.graph, &sample.state, settings, Scan::Stays).unwrap()
+        };
+        let first = walked(0).first().map_or(0, |walk| walk.doubled_area().unsigned_abs() as u64 / 2);
+        for minimum in minima(first) {
+            for walk in walked(minimum) {
+                let doubled = walk.doubled_area().unsigned_abs();
+                assert_eq!(walk.kept, doubled >= 2 * u128::from(minimum), "{doubled} {minimum}");
+                seen[(doubled % 2) as usize][walk.kept as usize] += 1;
+            }
+        }
+    }
+    println!("walks of even and of odd doubled areas, rejected and kept: {seen:?}");
+    assert!(seen.as_flattened().iter().all(|&count| count > 1000));
 }
 
 /// A table that passes checks 10 and 11, with two hulls or more; none where the generators give another.

@@ -44,7 +44,8 @@ impl ContourDirection {
 pub struct Options {
     /// Direction of the hulls (holes run the other way).
     pub output_direction: ContourDirection,
-    /// Contours of a smaller area are rejected; 0 keeps all. In square units, so half the doubled area.
+    /// Contours of a smaller area are rejected; 0 keeps all. In square units: a contour is kept if its absolute doubled
+    /// area is at least twice this.
     pub min_output_area: u64,
     /// Whether contours keep the points that lie on one line with their two neighbours; they do by default.
     ///

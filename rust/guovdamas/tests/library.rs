@@ -95,13 +95,15 @@ fn compare_lookups(lent: &Table, owner: &[u16]) {
     }
 }
 
-/// A direction, straight points kept or dropped, and a minimum that some of the graph's walks just meet or just miss.
+/// A direction, straight points kept or dropped, and a minimum that some of the graph's walks just meet or just miss, or one
+/// that no walk meets; doubled in 64 bits, some of these would wrap to what a walk meets.
 fn settings(sample: &Sample, rng: &mut Rng) -> Settings {
     let all = Settings { clockwise: rng.chance(50), minimum: 0, drop_straight: rng.chance(30) };
     let walks = walk::walks(&sample.graph, &sample.state, all, walk::Scan::Stays).unwrap_or_default();
-    let mut minima = vec![0, 0, 1, u64::MAX, 1 << 63];
-    minima.extend(walks.iter().map(|walk| walk.doubled_area().unsigned_abs() as u64 / 2));
-    minima.extend(walks.iter().map(|walk| walk.doubled_area().unsigned_abs() as u64 / 2 + 1));
+    let sizes = walks.iter().map(|walk| walk.doubled_area().unsigned_abs() as u64 / 2);
+    let mut minima = vec![0, 0, 1, (1 << 63) - 1, 1 << 63, u64::MAX];
+    minima.extend(sizes.clone().flat_map(|size| [size, size + 1]));
+    minima.extend(sizes.take(1).map(|size| (1 << 63) + size));
     Settings { minimum: rng.choose(&minima), ..all }
 }
 

@@ -224,7 +224,7 @@ fn next_link(graph: &Graph, state: &[u8], link: usize, node: usize, sense: bool)
 }
 
 /// Rule 6: "A walk is kept if it has at least 3 points and either the minimum is 0 or half the absolute doubled area,
-/// rounded down, is at least the minimum."
+/// rounded down, is at least the minimum." Request c compares doubled numbers, and "no answer .. changes".
 fn is_kept(walk: &Walk, minimum: u64) -> bool {
     walk.points.len() >= 3 && (minimum == 0 || walk.doubled_area().unsigned_abs() / 2 >= minimum as u128)
 }
