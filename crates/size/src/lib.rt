@@ -2,7 +2,7 @@
 use turn::absolute;
 ghost use Rattle.size.specs.Promises.{is-kept-says};
 
-// Twice a minimum from here on does not fit 64 bits; no area reaches it.
+// Twice a minimum of this or more does not fit 64 bits, and no area reaches it.
 const HUGE: u64 = 9223372036854775808;
 
 // Rule 6: whether a walk of so many points and such a signed doubled area is kept. The minimum is doubled, and the area not halved.
