@@ -103,7 +103,7 @@ extern "C" {
 
 /* How outlines are asked for. */
 typedef struct {
-    uint64_t minimum;   /* least area kept, in whole square units: the doubled area is at least twice this; 0 keeps all */
+    uint64_t minimum;   /* least area kept, in whole square units (0 keeps all): absolute doubled area >= 2 * minimum */
     bool clockwise;     /* the output's direction */
     bool drop_straight; /* straight points are not written: see guovdamas_extract */
 } GuovdamasSettings;

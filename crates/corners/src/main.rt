@@ -9,7 +9,7 @@ fn say(n: u64) {
     io::print_decimal(1, n);
 }
 
-// The absolute value and the minimum given; whether three points are kept at 0, 1, this one, 2^63 - 1, 2^63 and 2^64 - 1, and two points at 0.
+// The absolute value and the minimum given; whether it is kept at minimum 0, 1, this one, 2^63 - 1, 2^63 and 2^64 - 1, and with 2 points.
 fn size(area: i64, minimum: u64) {
     io::write_all(1, b"\nsize");
     say(turn::absolute(area));
