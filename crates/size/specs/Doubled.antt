@@ -2,10 +2,11 @@
 use Prim.Native.Nat.{ℕ, _*_, _/_, _≤_}
 use native.Mathlib.Omega.{arith}
 use mathlib.Core.Path.{_≡_, refl, ap, _∙_}
-use mathlib.Core.Bool.{Bool, true, false, _&&_, _||_}
+use mathlib.Core.Bool.{Bool, true, false, _&&_, _||_, and-false}
 use borrow.Author.Tests.{leb-true, leb-false, le-leb, lt-leb, ne-eqb}
 use lib.Dec.{leb, eqb}
-use lib.IntN.{ℤ, pos, negsuc, natAbs}
+use lib.IntN.{ℤ, natAbs}
+use lib.Signed.{natAbs-le}
 use mir.Syntax.{w64}
 use mir.Val.{SFits}
 use Rattle.turn.specs.Size.{isKept}
@@ -30,15 +31,8 @@ by-doubled points area minimum = ap (λ b. leb 3 points && (eqb minimum 0 || b))
 abbrev pub huge : ℕ
 huge = 9223372036854775808
 
-area-within : (area : ℤ) → SFits w64 area → natAbs area ≤ huge
-area-within (pos n) h = omega (arith, h .sfits)
-area-within (negsuc n) h = omega (arith, h .sfits)
-
 pub huge-rejects : (points : ℕ) (area : ℤ) (minimum : ℕ) → SFits w64 area → huge ≤ minimum → isKept points area minimum ≡ false
 huge-rejects points area minimum a h =
-    by-doubled points area minimum
-    ∙ none (leb 3 points) (ne-eqb minimum 0 (λ e. omega (arith, e))) (lt-leb (2 * minimum) (natAbs area) (omega (arith, area-within area a)))
-  where
-    none : (p : Bool) {z r : Bool} → z ≡ false → r ≡ false → p && (z || r) ≡ false
-    none true e f = rw (e, f)
-    none false e f = refl
+    let large : eqb minimum 0 ≡ false = ne-eqb minimum 0 (λ e. omega (arith, e)) in
+    let missed : leb (2 * minimum) (natAbs area) ≡ false = lt-leb (2 * minimum) (natAbs area) (omega (arith, natAbs-le area (a .sfits))) in
+    by-doubled points area minimum ∙ rw (large, missed) (and-false (leb 3 points))
