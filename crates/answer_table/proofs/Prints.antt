@@ -6,6 +6,7 @@ use mathlib.Core.Bool.{Bool}
 use mathlib.Core.List.{List}
 use lib.Dec.{eqb}
 use lib.ListN.{length, drop, replicate, length-append, length-drop}
+use Rattle.laws.specs.Lists.{overFront}
 use Rattle.laws.specs.Test.{pick-ind}
 use Rattle.turn.specs.declared.Checked.{Checked}
 use Rattle.turn.specs.declared.Checked.the-variants.{Fine, Refused as AtFault}
@@ -24,7 +25,6 @@ use Rattle.print.specs.Answer as print
 use Rattle.answer_table.specs.BoundText.{totalsOf, bindingText, outcomeText, boundText}
 use Rattle.anchor.specs.AnchorChecks.{anchorsChecked, bothChecked}
 use Rattle.owners.specs.Owners.{ownersOf}
-use Rattle.deliver.specs.Delivery.{overFront}
 use Rattle.bind.specs.Outcome.{Outcome, outcome, droppedOf, handedBy, boundAfter, bound}
 
 abbrev printTable : Table → List ℕ → print.OwnedTable

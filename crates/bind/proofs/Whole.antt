@@ -7,6 +7,7 @@ use native.Mathlib.Omega.{arith}
 use lib.ListN.{length, take, replicate}
 use lib.Seq.{take-all}
 use borrow.Author.Tests.{ne-eqb}
+use Rattle.laws.specs.Lists.{overFront}
 use Rattle.turn.specs.declared.Checked.{Checked}
 use Rattle.turn.specs.declared.Checked.the-variants.{Fine, Refused as AtFault}
 use Rattle.turn.specs.Refusals.{followedBy}
@@ -20,7 +21,7 @@ use Rattle.anchor.specs.Anchoring.{passes-anchored}
 use Rattle.owners.specs.declared.Given.{Given}
 use Rattle.owners.specs.declared.Given.the-variants.{All, Stuck}
 use Rattle.owners.specs.Owners.{Owned, owned, searchedOwners, ownersOf}
-use Rattle.deliver.specs.Delivery.{overFront, delivered}
+use Rattle.deliver.specs.Delivery.{delivered}
 use Rattle.bind.specs.declared.Binding.the-variants.{Bound, Refused}
 use Rattle.bind.specs.Outcome.{droppedOf, Outcome, outcome, handed, boundAfter, bound}
 

@@ -3,6 +3,7 @@ use mathlib.Core.Path.{_≡_, refl}
 use mathlib.Core.Bool.{true, false}
 use mathlib.Core.List.{List, [], _∷_, _++_}
 use lib.IntN.{ℤ, pos}
+use Rattle.laws.specs.Lists.{tabulate}
 use Rattle.laws.specs.Lowest.{lowest}
 use Rattle.laws.specs.Count.{count}
 use Rattle.table.specs.Table.{Table, table, droppedOwner}
@@ -14,7 +15,7 @@ use Rattle.edges.specs.Edges.{liesUnder, winsTie, nearer}
 use Rattle.candidates.specs.Candidates.{edge}
 use Rattle.nearest.specs.Search.{kept, offered, keep, nearest, contourUnder}
 use Rattle.order.specs.HoleOrder.{slot, inserted, sorted, holesBelow}
-use Rattle.owners.specs.Owners.{tabulate, giveEach, ownersOf}
+use Rattle.owners.specs.Owners.{giveEach, ownersOf}
 use Rattle.bind.specs.declared.Binding.the-variants.{Bound, Refused}
 use Rattle.bind.specs.Outcome.{outcome, bound}
 

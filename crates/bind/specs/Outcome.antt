@@ -4,6 +4,7 @@ use mathlib.Core.Bool.{Bool}
 use mathlib.Core.List.{List}
 use lib.ListN.{length}
 use lib.Dec.{eqb}
+use Rattle.laws.specs.Lists.{overFront}
 use Rattle.laws.specs.Test.{pick}
 use Rattle.turn.specs.declared.Checked.{Checked}
 use Rattle.turn.specs.declared.Checked.the-variants.{Fine, Refused as AtFault}
@@ -12,7 +13,6 @@ use Rattle.anchor.specs.AnchorChecks.{bothChecked}
 use Rattle.owners.specs.declared.Given.{Given}
 use Rattle.owners.specs.declared.Given.the-variants.{All, Stuck}
 use Rattle.owners.specs.Owners.{Owned, ownersOf}
-use Rattle.deliver.specs.Delivery.{overFront}
 use Rattle.bind.specs.declared.Binding.{Binding}
 use Rattle.bind.specs.declared.Binding.the-variants.{Bound, Refused}
 

@@ -4,14 +4,15 @@ use mathlib.Core.Path.{_≡_, refl, sym, ap, _∙_}
 use mathlib.Core.Bool.{Bool, true, false}
 use mathlib.Core.List.{List}
 use lib.ListN.{length}
+use Rattle.laws.specs.Lists.{tabulate, overFront}
 use Rattle.laws.specs.Test.{true≢false}
 use Rattle.table.specs.Table.{Table}
 use Rattle.table.specs.Sound.{Sound}
 use Rattle.order.specs.HoleOrder.{bindingOrder}
 use Rattle.owners.specs.declared.Given.{Given}
 use Rattle.owners.specs.declared.Given.the-variants.{All, Stuck}
-use Rattle.owners.specs.Owners.{contourBelow, firstOwner, tabulate, Owned, owned, giveEach, searchedOwners}
-use Rattle.deliver.specs.Delivery.{overFront, isStuck, delivered}
+use Rattle.owners.specs.Owners.{contourBelow, firstOwner, Owned, owned, giveEach, searchedOwners}
+use Rattle.deliver.specs.Delivery.{isStuck, delivered}
 
 module _ (t : Table) (s : Sound t) (cw : Bool) (numbers own owner : List ℕ) (r : Given) (n : numbers ≡ tabulate (firstOwner (t .kind)) (length (t .kind)))
     (e : owned r own ≡ giveEach (contourBelow t cw) (bindingOrder t cw) numbers) where

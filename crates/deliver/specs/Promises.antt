@@ -4,11 +4,12 @@ use mathlib.Core.Path.{_≡_}
 use mathlib.Core.Bool.{Bool}
 use mathlib.Core.List.{List}
 use lib.ListN.{replicate}
+use Rattle.laws.specs.Lists.{overFront}
 use Rattle.laws.specs.Unique.{Determines, by-equation, same-part}
 use Rattle.table.specs.Table.{Table}
 use Rattle.owners.specs.declared.Given.{Given}
 use Rattle.owners.specs.Owners.{owned, searchedOwners}
-use Rattle.deliver.specs.Delivery.{overFront, delivered}
+use Rattle.deliver.specs.Delivery.{delivered}
 
 abbrev pub fill-says : (n number : ℕ) → List ℕ → List ℕ → Type 0
 fill-says n number owner owner′ = owner′ ≡ overFront (replicate n number) owner

@@ -3,11 +3,12 @@ use owners::Given;
 ghost use mathlib.Core.Path.{_≡_};
 ghost use Prim.Native.Nat.{ℕ, _<_, _≤_};
 ghost use lib.ListN.{length};
+ghost use Rattle.laws.specs.Lists.{overFront};
 ghost use Rattle.table.specs.Table.{Table, table};
 ghost use Rattle.table.specs.Sound.{Sound};
 ghost use Rattle.anchor.specs.Anchored.{Anchored};
 ghost use Rattle.owners.specs.Owners.{owned, searchedOwners};
-ghost use Rattle.deliver.specs.Delivery.{overFront, isStuck, delivered};
+ghost use Rattle.deliver.specs.Delivery.{isStuck, delivered};
 ghost use Rattle.deliver.specs.Promises.{fill-says, bind-holes-says};
 
 // The numbers of `from`, in front of the old tail.

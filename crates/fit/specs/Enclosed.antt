@@ -30,7 +30,7 @@ sumTo f (suc n) = f zero +ℤ sumTo (λ c. f (suc c)) n
 abbrev pub enclosed : Table → ℤ
 enclosed t = sumTo (λ c. area (contour t c)) (contourCount t)
 
-sum-same : (f h : ℕ → ℤ) (n : ℕ) → ((c : ℕ) → c < n → f c ≡ h c) → sumTo f n ≡ sumTo h n
+pub sum-same : (f h : ℕ → ℤ) (n : ℕ) → ((c : ℕ) → c < n → f c ≡ h c) → sumTo f n ≡ sumTo h n
 sum-same f h zero a = refl
 sum-same f h (suc n) a = ap₂ _+ℤ_ (a 0 (omega arith)) (sum-same (λ c. f (suc c)) (λ c. h (suc c)) n (λ c l. a (suc c) (omega arith)))
 

@@ -9,6 +9,7 @@ use lib.Seq.{getD-set-other}
 use lib.Dec.{eqb, ltb}
 use borrow.Author.Tests.{eq-eqb, eqb-true, eqb-false, lt-ltb}
 use Rattle.laws.specs.Test.{pick}
+use Rattle.laws.specs.Lists.{tabulate, tabulate-length, tabulate-at, overFront}
 use Rattle.table.specs.Table.{Table, contourCount, kindOf, hullCount, shapeOf, hulls, droppedOwner}
 use Rattle.table.specs.TableChecks.{tableChecked}
 use Rattle.anchor.specs.AnchorChecks.{anchorsChecked, bothChecked}
@@ -23,12 +24,11 @@ use Rattle.lookup.specs.declared.records.Lookup.the-variants.{Found}
 use Rattle.bind.specs.declared.Binding.the-variants as binding
 use Rattle.owners.specs.declared.Given.{Given}
 use Rattle.owners.specs.declared.Given.the-variants.{All, Stuck}
-use Rattle.owners.specs.Owners.{Owned, owned, given, giveEach, firstOwner, tabulate, searchedOwners, ownersOf, contourBelow}
-use Rattle.deliver.specs.Delivery.{overFront}
+use Rattle.owners.specs.Owners.{Owned, owned, given, giveEach, firstOwner, searchedOwners, ownersOf, contourBelow}
 use Rattle.bind.specs.Outcome.{Outcome, outcome, handed, handedBy, boundAfter, bound}
 use Rattle.order.specs.HoleOrder.{bindingOrder}
 use Rattle.order.specs.OrderLaws.{each-once}
-use Rattle.owners.specs.OwnerLaws.{tabulate-length, tabulate-at, owners-below}
+use Rattle.owners.specs.OwnerLaws.{owners-below}
 use Rattle.laws.specs.Count.{count, count-more, count-most}
 
 -- ---- giving leaves the owners of contours that are not gone through
@@ -99,7 +99,7 @@ module _ (t : Table) (s : Sound t) (cw : Bool) (l : List ℕ) where
       off false = refl
 
   hull-own : searchedOwners t cw ≡ owned All l → (c : ℕ) → c < contourCount t → kindOf t c ≡ 0 → getD l c 0 ≡ shapeOf t c
-  hull-own e c h k = searched e .same c (not-hole c k) ∙ tabulate-at (firstOwner (t .kind)) (contourCount t) c h ∙ rw (eq-eqb (kindOf t c) 0 k)
+  hull-own e c h k = searched e .same c (not-hole c k) ∙ tabulate-at 0 (firstOwner (t .kind)) (contourCount t) c h ∙ rw (eq-eqb (kindOf t c) 0 k)
 
   pub owners-right : ownersOf t cw ≡ owned All l → Right t l
   unfolding ownersOf

@@ -1,5 +1,5 @@
--- The structs that cross the boundary hold document 01's numbers and values for each case of each answer, as extraction, binding and lookup
--- set them out.
+-- The structs that cross the boundary hold document 01's numbers and values for each case of each answer, as extraction, binding, lookup and
+-- reports set them out.
 use Prim.Native.Nat.{ℕ}
 use mathlib.Core.List.{List}
 use Rattle.contour.specs.declared.Settings.{Settings}
@@ -13,10 +13,15 @@ use Rattle.lookup.specs.declared.records.Lookup.the-variants.{Found}
 use Rattle.lookup.specs.Lookups.{LookupValues, valuesOfLookup}
 use Rattle.bind.specs.declared.Binding.{Binding}
 use Rattle.bind.specs.Outcome.{Outcome, BindingValues, valuesOfBinding}
+use Rattle.report.specs.declared.records.ReportValues.{ReportValues}
+use Rattle.report_all.specs.declared.records.Reports.{Reports}
+use Rattle.report_all.specs.Columns.{Columns, ReportsValues, valuesOfReports, Reporting}
 use Rattle.guovdamas.specs.declared.GuovdamasSettings.{GuovdamasSettings}
 use Rattle.guovdamas.specs.declared.GuovdamasExtraction.{GuovdamasExtraction}
 use Rattle.guovdamas.specs.declared.GuovdamasBinding.{GuovdamasBinding}
 use Rattle.guovdamas.specs.declared.GuovdamasRecord.{GuovdamasRecord}
+use Rattle.guovdamas.specs.declared.GuovdamasReport.{GuovdamasReport}
+use Rattle.guovdamas.specs.declared.GuovdamasReports.{GuovdamasReports}
 
 -- ---- extraction
 abbrev pub settingsOf : GuovdamasSettings → Settings
@@ -75,3 +80,23 @@ recordNumbers l = recordWith (valuesOfLookup l)
 
 abbrev pub foundRecord : ContourRecord → GuovdamasRecord
 foundRecord r = recordNumbers (Found r)
+
+-- ---- reports
+abbrev pub reportWith : ReportValues → GuovdamasReport
+reportWith v = record { found = v .found; area = v .area; left = v .left; bottom = v .bottom; right = v .right; top = v .top }
+
+abbrev pub reportsWith : ReportsValues → GuovdamasReports
+reportsWith v = record { number = v .number; place = v .place; contours = v .contours; missing = v .missing }
+
+abbrev pub reportsOf : Reports → GuovdamasReports
+reportsOf a = reportsWith (valuesOfReports a)
+
+pub record FilledLists : Type 0 where
+  pub answer : GuovdamasReports
+  pub lists : Columns
+
+abbrev pub fills : GuovdamasReports → Columns → FilledLists
+fills answer lists = record { answer = answer; lists = lists }
+
+abbrev pub numberedReports : Reporting → FilledLists
+numberedReports o = fills (reportsWith (o .values)) (o .lists)

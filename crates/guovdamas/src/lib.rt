@@ -1,17 +1,21 @@
-// The static library: extraction, binding and lookup, with numbers and slices only, for Rust and C. include/guovdamas.h is its header.
+// The static library: extraction, binding, lookup and reports, with numbers and slices only, for Rust and C. include/guovdamas.h is its header.
 use bind::Binding;
 use contour::Settings;
 use lookup::records::ContourRecord;
 use lookup::records::Lookup;
 use lookup::records::Role;
+use report::records::ReportValues;
+use report_all::records::Reports;
 use scan::Extraction;
 ghost use mathlib.Core.Path.{_≡_};
 ghost use Rattle.graph.specs.Graph.{Lent, lent};
 ghost use Rattle.finish.specs.Finish.{Buffers, buffers};
 ghost use Rattle.table.specs.Table.{Table, table};
 ghost use Rattle.lookup.specs.Lookups.{roleNumber, roleOwner};
-ghost use Rattle.guovdamas.specs.Numbers.{settingsOf, extractionOf, bindingOf, foundRecord, recordNumbers};
-ghost use Rattle.guovdamas.specs.Promises.{guovdamas-extract-says, guovdamas-bind-says, guovdamas-lookup-says};
+ghost use Rattle.report_all.specs.Columns.{Columns, columns};
+ghost use Rattle.guovdamas.specs.Numbers.{settingsOf, extractionOf, bindingOf, foundRecord, recordNumbers, reportWith, reportsOf};
+ghost use Rattle.guovdamas.specs.Promises.{guovdamas-extract-says, guovdamas-bind-says, guovdamas-lookup-says, guovdamas-report-says};
+ghost use Rattle.guovdamas.specs.Promises.{guovdamas-report-all-says};
 
 // How outlines are asked for: the area below which a walk is rejected, the output direction, and whether points on a straight line are dropped.
 #[repr(C)]
@@ -53,6 +57,28 @@ pub struct GuovdamasRecord {
     pub owner: u32,
     pub first: u32,
     pub len: u32,
+}
+
+// What a report answers: found 1; the signed area in square millimetres, and the frame's edges in millimetres. Where there is no such
+// contour found is 0, and no other field is a number.
+#[repr(C)]
+pub struct GuovdamasReport {
+    pub found: u32,
+    pub area: f64,
+    pub left: f64,
+    pub bottom: f64,
+    pub right: f64,
+    pub top: f64,
+}
+
+// What the reports of a table answer: document 01's number and place, 0 and 0 when done; how many contours there are, and of how many of
+// them there is no report, 0 after a refusal.
+#[repr(C)]
+pub struct GuovdamasReports {
+    pub number: u32,
+    pub place: usize,
+    pub contours: usize,
+    pub missing: usize,
 }
 
 fn settings_of(settings: GuovdamasSettings) -> Settings
@@ -167,6 +193,38 @@ fn record_of(answer: Lookup) -> GuovdamasRecord
     }
 }
 
+fn report_of(values: ReportValues) -> GuovdamasReport
+    ensures { λ r. ⌜ r ≡ reportWith values ⌝ }
+{
+    GuovdamasReport {
+        found: values.found,
+        area: values.area,
+        left: values.left,
+        bottom: values.bottom,
+        right: values.right,
+        top: values.top,
+    }
+}
+
+fn reports_of(answer: Reports) -> GuovdamasReports
+    ensures { λ r. ⌜ r ≡ reportsOf answer ⌝ }
+{
+    match answer {
+        Reports::Filled { contours, missing } => GuovdamasReports {
+            number: 0,
+            place: 0,
+            contours: contours,
+            missing: missing,
+        },
+        Reports::Refused { number, place } => GuovdamasReports {
+            number: number,
+            place: place,
+            contours: 0,
+            missing: 0,
+        },
+    }
+}
+
 // Checks 1 to 7 and the walks of a graph, into the lent states, points and contour table.
 #[no_mangle]
 pub extern "C" fn guovdamas_extract(
@@ -244,4 +302,54 @@ pub extern "C" fn guovdamas_lookup(
         guovdamas-lookup-says t (now (owner .entry)) contour r) ⌝ }
 {
     record_of(lookup::lookup(points, first, len, kind, owner, contour))
+}
+
+// One contour's area and frame in millimetres.
+#[no_mangle]
+pub extern "C" fn guovdamas_report(
+    points: &[i32],
+    first: &[u32],
+    len: &[u32],
+    kind: &[u8],
+    owner: &[u16],
+    contour: usize,
+) -> GuovdamasReport
+    ensures { λ r. ⌜ (let t : Table = table (now (points .entry)) (now (first .entry)) (now (len .entry)) (now (kind .entry)) in
+        guovdamas-report-says t (now (owner .entry)) contour r) ⌝ }
+{
+    report_of(report::values_of(report::report(points, first, len, kind, owner, contour)))
+}
+
+// Every contour's area and frame in millimetres, into the lent lists.
+#[no_mangle]
+pub extern "C" fn guovdamas_report_all(
+    points: &[i32],
+    first: &[u32],
+    len: &[u32],
+    kind: &[u8],
+    owner: &[u16],
+    area: &mut [f64],
+    left: &mut [f64],
+    bottom: &mut [f64],
+    right: &mut [f64],
+    top: &mut [f64],
+) -> GuovdamasReports
+    ensures { λ r. ⌜ (let t : Table = table (now (points .entry)) (now (first .entry)) (now (len .entry)) (now (kind .entry)) in
+        let before : Columns = columns (now (area .entry)) (now (left .entry)) (now (bottom .entry)) (now (right .entry)) (now (top .entry)) in
+        let after : Columns = columns (now (area .exit)) (now (left .exit)) (now (bottom .exit)) (now (right .exit)) (now (top .exit)) in
+        guovdamas-report-all-says t (now (owner .entry)) before r after) ⌝ }
+{
+    let answer = report_all::report_all(
+        points,
+        first,
+        len,
+        kind,
+        owner,
+        area,
+        left,
+        bottom,
+        right,
+        top,
+    );
+    reports_of(answer)
 }

@@ -9,5 +9,6 @@ pub mod Order
 pub mod Bounds
 pub mod Unique
 pub mod Lists
+pub mod Copies
 pub mod Count
 pub mod Compare

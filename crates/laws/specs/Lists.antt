@@ -7,8 +7,8 @@ use native.Mathlib.Decide.{ℕ-discrete}
 use mathlib.Core.Path.{_≡_, refl, sym, ap, _∙_}
 use mathlib.Core.Logic.{⊎-elim}
 use mathlib.Core.List.{List, [], _∷_, _++_, map, append-nil, List·Memᴰ, List·Memᴰ·head, List·Memᴰ·tail, List·Memᴰ·not-nil, List·Memᴰ·cases-cons}
-use lib.ListN.{length, getD, set, take, drop, replicate, drop-of-length-le}
-use lib.Seq.{getD-set-same, getD-set-other, take-all}
+use lib.ListN.{length, getD, set, take, drop, replicate, drop-of-length-le, List·getD-append}
+use lib.Seq.{getD-set-same, getD-set-other, getD-append-add, getD-drop, take-all}
 
 -- ---- a list that a loop fills by rising index, read by place
 module _ {A : Type 0} (d : A) where
@@ -53,6 +53,45 @@ module _ {A : Type 0} (f : A → A) where
 pub map-const : {A B : Type 0} (z : B) (l : List A) → map (λ _. z) l ≡ replicate (length l) z
 map-const z [] = refl
 map-const {B = B} z (x ∷ xs) = ap (λ (r : List B). z ∷ r) (map-const z xs)
+
+-- ---- a list of a rule's values
+unfoldable pub tabulate : {A : Type 0} → (ℕ → A) → ℕ → List A
+tabulate f zero = []
+tabulate f (suc n) = f zero ∷ tabulate (λ k. f (suc k)) n
+
+module _ {A : Type 0} where
+  pub tabulate-length : (f : ℕ → A) (n : ℕ) → length (tabulate f n) ≡ n
+  unfolding tabulate
+  tabulate-length f zero = refl
+  tabulate-length f (suc n) = ap suc (tabulate-length (λ k. f (suc k)) n)
+
+  pub tabulate-at : (d : A) (f : ℕ → A) (n i : ℕ) → i < n → getD (tabulate f n) i d ≡ f i
+  unfolding tabulate
+  tabulate-at d f zero i h = absurd (not-suc-le-zero h)
+  tabulate-at d f (suc n) zero h = refl
+  tabulate-at d f (suc n) (suc i) h = tabulate-at d (λ k. f (suc k)) n i (omega arith)
+
+  pub tabulate-past : (d : A) (f : ℕ → A) (n i : ℕ) → n ≤ i → getD (tabulate f n) i d ≡ d
+  unfolding tabulate
+  tabulate-past d f zero i h = refl
+  tabulate-past d f (suc n) zero h = absurd (not-suc-le-zero h)
+  tabulate-past d f (suc n) (suc i) h = tabulate-past d (λ k. f (suc k)) n i (omega arith)
+
+-- ---- a list written over the front of a buffer, which keeps its tail
+abbrev pub overFront : {A : Type 0} → List A → List A → List A
+overFront front buffer = front ++ drop (length front) buffer
+
+-- a rule's values there: they stand in front, and the rest is as it was
+module _ {A : Type 0} (d : A) (f : ℕ → A) (n : ℕ) (buffer : List A) where
+  pub front-at : (i : ℕ) → i < n → getD (overFront (tabulate f n) buffer) i d ≡ f i
+  front-at i h = List·getD-append (tabulate f n) _ d i (rw (tabulate-length f n) h) ∙ tabulate-at d f n i h
+
+  pub front-rest : (i : ℕ) → n ≤ i → getD (overFront (tabulate f n) buffer) i d ≡ getD buffer i d
+  front-rest i h =
+      let m = tabulate-length f n in
+      let e : length (tabulate f n) + (i - n) ≡ i = omega (arith, m) in
+      ap (λ j. getD (overFront (tabulate f n) buffer) j d) (sym e) ∙ getD-append-add (tabulate f n) (drop (length (tabulate f n)) buffer) (i - n) d
+      ∙ getD-drop (length (tabulate f n)) buffer (i - n) d ∙ ap (λ j. getD buffer j d) e
 
 -- ---- a list, and as many of one element after it as make a length
 abbrev pub padded : {A : Type 0} → A → List A → ℕ → List A

@@ -1,12 +1,19 @@
 -- What each public function promises, written once: its contract names it, and any two outcomes that it allows are equal.
 use Prim.Native.Nat.{ℕ}
 use mathlib.Core.Path.{_≡_, ap, _∙_}
+use mathlib.Core.Bool.{Bool}
 use mathlib.Core.List.{List}
-use Rattle.laws.specs.Unique.{Determines, by-equation-with}
+use Rattle.laws.specs.Unique.{Determines, by-equation, by-equation-with}
 use Rattle.table.specs.Table.{Table}
 use Rattle.lookup.specs.declared.records.Lookup.{Lookup}
-use Rattle.lookup.specs.Lookups.{lookedUp, valuesOfLookup, lookedUpValues}
+use Rattle.lookup.specs.Lookups.{ownerRight, lookedUp, valuesOfLookup, lookedUpValues}
 use Rattle.lookup.specs.LookupLaws.{looked-up-values}
+
+abbrev pub owner-right-says : (kind owner shape hulls : ℕ) → Bool → Type 0
+owner-right-says kind owner shape hulls r = r ≡ ownerRight kind owner shape hulls
+
+pub owner-right-once : (kind owner shape hulls : ℕ) → Determines (owner-right-says kind owner shape hulls)
+owner-right-once kind owner shape hulls = by-equation (ownerRight kind owner shape hulls)
 
 -- the answer, and the number and values that document 01 has for its case
 abbrev pub lookup-says : Table → List ℕ → ℕ → Lookup → Type 0

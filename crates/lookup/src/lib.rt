@@ -8,14 +8,14 @@ ghost use mathlib.Core.List.{[]};
 ghost use Prim.Native.Nat.{ℕ, _<_};
 ghost use lib.ListN.{length};
 ghost use Rattle.table.specs.Table.{Table, table};
-ghost use Rattle.lookup.specs.Lookups.{ownerRight, roleOf, recordIfRight};
-ghost use Rattle.lookup.specs.Promises.{lookup-says};
+ghost use Rattle.lookup.specs.Lookups.{roleOf, recordIfRight};
+ghost use Rattle.lookup.specs.Promises.{owner-right-says, lookup-says};
 
 pub mod records;
 
 // Whether a contour's owner is right, for its own shape number and the number of hulls.
-fn owner_right(kind: u8, owner: u16, shape: usize, hulls: usize) -> bool
-    ensures { λ r. ⌜ r ≡ ownerRight kind owner shape hulls ⌝ }
+pub fn owner_right(kind: u8, owner: u16, shape: usize, hulls: usize) -> bool
+    ensures { λ r. ⌜ owner-right-says kind owner shape hulls r ⌝ }
 {
     if kind == 0 {
         return owner as usize == shape;

@@ -7,11 +7,10 @@ use native.Mathlib.Nat.{add-zero, not-suc-le-zero}
 use lib.ListN.{length, getD, set, take, length-set}
 use lib.Seq.{ext-getD}
 use borrow.Author.Tests.{eq-eqb, ne-eqb}
-use Rattle.laws.specs.Lists.{put-below}
+use Rattle.laws.specs.Lists.{tabulate, tabulate-length, tabulate-at, put-below}
 use Rattle.laws.specs.Count.{count-none, count-more}
 use Rattle.table.specs.Table.{hulls, droppedOwner}
-use Rattle.owners.specs.Owners.{firstOwner, tabulate}
-use Rattle.owners.specs.OwnerLaws.{tabulate-length, tabulate-at}
+use Rattle.owners.specs.Owners.{firstOwner}
 
 -- ---- `number_hulls`
 pub record Numbering (kind old new : List ℕ) (shape c : ℕ) : Type 0 where
@@ -52,4 +51,4 @@ numbering-end kind old new shape c n h r =
     each : (i : ℕ) → i < length new → getD new i 0 ≡ getD (tabulate (firstOwner kind) (length kind)) i 0
     each i l =
         let m : i < length kind = omega (arith, n .len) in
-        n .done i (omega arith) ∙ sym (tabulate-at (firstOwner kind) (length kind) i m)
+        n .done i (omega arith) ∙ sym (tabulate-at 0 (firstOwner kind) (length kind) i m)

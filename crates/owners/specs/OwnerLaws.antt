@@ -13,32 +13,14 @@ use lib.ListN.{length, getD, set, take, replicate, getD-replicate, List·getD-eq
 use lib.Seq.{getD-set-same, getD-set-other, set-out}
 use Rattle.laws.specs.Test.{pick, true≢false}
 use Rattle.laws.specs.Count.{count, count-more, count-most, counted-in}
-use Rattle.laws.specs.Lists.{Place, place-of}
+use Rattle.laws.specs.Lists.{tabulate, tabulate-at, tabulate-past, Place, place-of}
 use Rattle.table.specs.Table.{Table, contourCount, kindOf, hulls, hullCount, droppedOwner}
 use Rattle.table.specs.Sound.{Sound}
 use Rattle.order.specs.HoleOrder.{bindingOrder}
 use Rattle.order.specs.OrderLaws.{each-once}
 use Rattle.owners.specs.declared.Given.{Given}
 use Rattle.owners.specs.declared.Given.the-variants.{All, Stuck}
-use Rattle.owners.specs.Owners.{Owned, owned, given, firstOwner, tabulate, giveEach, contourBelow, searchedOwners, ownersOf}
-
--- ---- a list of a rule's values
-pub tabulate-length : (f : ℕ → ℕ) (n : ℕ) → length (tabulate f n) ≡ n
-unfolding tabulate
-tabulate-length f zero = refl
-tabulate-length f (suc n) = ap suc (tabulate-length (λ k. f (suc k)) n)
-
-tabulate-past : (f : ℕ → ℕ) (n i : ℕ) → n ≤ i → getD (tabulate f n) i 0 ≡ 0
-unfolding tabulate
-tabulate-past f zero i h = refl
-tabulate-past f (suc n) zero h = absurd (not-suc-le-zero h)
-tabulate-past f (suc n) (suc i) h = tabulate-past (λ k. f (suc k)) n i (omega arith)
-
-pub tabulate-at : (f : ℕ → ℕ) (n i : ℕ) → i < n → getD (tabulate f n) i 0 ≡ f i
-unfolding tabulate
-tabulate-at f zero i h = absurd (not-suc-le-zero h)
-tabulate-at f (suc n) zero h = refl
-tabulate-at f (suc n) (suc i) h = tabulate-at (λ k. f (suc k)) n i (omega arith)
+use Rattle.owners.specs.Owners.{Owned, owned, given, firstOwner, giveEach, contourBelow, searchedOwners, ownersOf}
 
 -- ---- giving keeps owners below a bound
 module _ (under : ℕ → ℕ) (n : ℕ) (some : 0 < n) where
@@ -129,9 +111,9 @@ module _ (t : Table) (s : Sound t) (some : 0 < hullCount t) where
     where
       go : Dec (c < contourCount t) → Dec (kindOf t c ≡ 0) → (getD (tabulate (firstOwner (t .kind)) (contourCount t)) c 0 < hullCount t) ⊎
           (getD (tabulate (firstOwner (t .kind)) (contourCount t)) c 0 ≡ droppedOwner)
-      go (yes h) (yes k) = inl (rw (tabulate-at (firstOwner (t .kind)) (contourCount t) c h) (hull-below (t .kind) c (omega (arith, s .kind-long)) k))
-      go (yes h) (no k) = inr (tabulate-at (firstOwner (t .kind)) (contourCount t) c h ∙ hole-none (t .kind) c k)
-      go (no h) k = inl (rw (tabulate-past (firstOwner (t .kind)) (contourCount t) c (omega arith)) some)
+      go (yes h) (yes k) = inl (rw (tabulate-at 0 (firstOwner (t .kind)) (contourCount t) c h) (hull-below (t .kind) c (omega (arith, s .kind-long)) k))
+      go (yes h) (no k) = inr (tabulate-at 0 (firstOwner (t .kind)) (contourCount t) c h ∙ hole-none (t .kind) c k)
+      go (no h) k = inl (rw (tabulate-past 0 (firstOwner (t .kind)) (contourCount t) c (omega arith)) some)
 
   searched-below : (cw : Bool) (l : List ℕ) → searchedOwners t cw ≡ owned All l → (c : ℕ) → c < contourCount t → getD l c 0 < hullCount t
   searched-below cw l e c h = go (ℕ-discrete (kindOf t c) 0)
@@ -143,7 +125,7 @@ module _ (t : Table) (s : Sound t) (some : 0 < hullCount t) where
       hole-at m = subst (λ (d : ℕ). getD l d 0 < hullCount t) (m .here) (r .gone (m .place) (m .within))
 
       go : Dec (kindOf t c ≡ 0) → getD l c 0 < hullCount t
-      go (yes k) = r .kept c (rw (tabulate-at (firstOwner (t .kind)) (contourCount t) c h) (hull-below (t .kind) c (omega (arith, s .kind-long)) k))
+      go (yes k) = r .kept c (rw (tabulate-at 0 (firstOwner (t .kind)) (contourCount t) c h) (hull-below (t .kind) c (omega (arith, s .kind-long)) k))
       go (no k) =
           let i : kindOf t c ≡ 1 = omega (arith, s .kinds c h) in
           let o : count c (bindingOrder t cw) ≡ 1 = each-once t cw c ∙ rw (lt-ltb c (contourCount t) h, eq-eqb _ _ i) in

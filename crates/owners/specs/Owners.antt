@@ -1,10 +1,11 @@
 -- The owner of every contour.
-use Prim.Native.Nat.{ℕ, zero, suc, _-_}
+use Prim.Native.Nat.{ℕ, _-_}
 use mathlib.Core.Bool.{Bool, true}
 use mathlib.Core.List.{List, [], _∷_}
 use lib.ListN.{getD, set, take, replicate}
 use lib.Dec.{eqb}
 use Rattle.laws.specs.Test.{pick}
+use Rattle.laws.specs.Lists.{tabulate}
 use Rattle.table.specs.Table.{Table, contourCount, hulls, hullCount, droppedOwner}
 use Rattle.anchor.specs.Anchor.{anchorEdge}
 use Rattle.nearest.specs.Search.{searchUnder}
@@ -27,10 +28,6 @@ contourBelow t cw c = searchUnder t withFillAbove cw everyContour (anchorEdge t 
 -- "A hull's owner is its own number", and a hole has no parent yet: 65,535, which is no shape's number
 abbrev pub firstOwner : List ℕ → ℕ → ℕ
 firstOwner kinds c = pick (eqb (getD kinds c 0) 0) (hulls (take c kinds)) droppedOwner
-
-unfoldable pub tabulate : (ℕ → ℕ) → ℕ → List ℕ
-tabulate f zero = []
-tabulate f (suc n) = f zero ∷ tabulate (λ k. f (suc k)) n
 
 -- document 01's number and place for each answer: 0 where every hole has its owner, 12 at the hole that finds none
 abbrev pub givenNumber : Given → ℕ

@@ -4,11 +4,12 @@ use mathlib.Core.Path.{_≡_}
 use mathlib.Core.Bool.{Bool}
 use mathlib.Core.List.{List}
 use lib.ListN.{length}
+use Rattle.laws.specs.Lists.{tabulate}
 use Rattle.laws.specs.Unique.{Determines, by-equation, same-part}
 use Rattle.table.specs.Table.{Table}
 use Rattle.order.specs.HoleOrder.{bindingOrder}
 use Rattle.owners.specs.declared.Given.{Given}
-use Rattle.owners.specs.Owners.{owned, firstOwner, tabulate, giveEach, contourBelow}
+use Rattle.owners.specs.Owners.{owned, firstOwner, giveEach, contourBelow}
 
 -- over the owners at exit
 abbrev pub number-hulls-says : (kind own′ : List ℕ) → Type 0

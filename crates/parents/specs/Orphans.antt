@@ -12,7 +12,7 @@ use lib.ListN.{length, getD}
 use lib.Dec.{eqb}
 use borrow.Author.Tests.{eq-eqb, ne-eqb, eqb-true, lt-ltb}
 use Rattle.laws.specs.Test.{pick, true≢false}
-use Rattle.laws.specs.Lists.{Place, place-of}
+use Rattle.laws.specs.Lists.{tabulate, tabulate-length, tabulate-at, Place, place-of}
 use Rattle.laws.specs.Lowest.{lowest}
 use Rattle.laws.specs.Count.{count, counted-in}
 use Rattle.table.specs.Table.{Table, pointCount, contourCount, kindOf, isHole, hulls, droppedOwner}
@@ -30,8 +30,8 @@ use Rattle.order.specs.HoleOrder.{precedes, holes, hole, bindingOrder}
 use Rattle.order.specs.HoleLaws.{holes-rising, holes-are}
 use Rattle.order.specs.Insertion.{entries, sorted-length}
 use Rattle.order.specs.OrderLaws.{IsHole, strict, precedes-itself, in-order, each-once}
-use Rattle.owners.specs.Owners.{withFillAbove, everyContour, contourBelow, firstOwner, tabulate, searchedOwners}
-use Rattle.owners.specs.OwnerLaws.{tabulate-length, tabulate-at, hull-below}
+use Rattle.owners.specs.Owners.{withFillAbove, everyContour, contourBelow, firstOwner, searchedOwners}
+use Rattle.owners.specs.OwnerLaws.{hull-below}
 use Rattle.parents.specs.Under.{under-before}
 use Rattle.parents.specs.Waiting.{Known, Ready, stopsAt, bare, stops}
 
@@ -154,7 +154,7 @@ module _ (t : Table) (cw : Bool) (s : Sound t) (a : Anchored t cw) where
 
   hull-owns : (d : ℕ) → d < contourCount t → kindOf t d ≡ 0 → getD owners d 0 ≡ droppedOwner → ⊥
   hull-owns d l k e =
-      let f = tabulate-at (firstOwner (t .kind)) (contourCount t) d l in
+      let f = tabulate-at 0 (firstOwner (t .kind)) (contourCount t) d l in
       let m = hull-below (t .kind) d (rw (s .kind-long) l) k in
       omega (arith, f, e, m, hulls-few (t .kind), contours-few t s, s .kind-long)
 

@@ -1,11 +1,8 @@
 // The contour table: its points, the way round a contour, and its hulls counted.
 use turn::Point;
-ghost use mathlib.Core.Path.{_≡_};
 ghost use Prim.Native.Nat.{_+_, _*_, _^_, _<_, _≤_};
-ghost use lib.Dec.{eqb};
 ghost use lib.ListN.{length};
-ghost use Rattle.laws.specs.Test.{pick};
-ghost use Rattle.table.specs.Promises.{point-in-says, next-position-says, previous-position-says, hulls-before-says};
+ghost use Rattle.table.specs.Promises.{point-in-says, next-position-says, previous-position-says, one-more-if-hull-says, hulls-before-says};
 
 // The most contours of a table: each has at least 3 points.
 pub const MAX_CONTOURS: usize = turn::MAX_LINKS / 3;
@@ -61,9 +58,10 @@ pub fn hulls_before(kind: &[u8], n: usize) -> usize
     count
 }
 
-fn one_more_if_hull(kind: u8, count: usize) -> usize
+// The hulls counted, with a contour more.
+pub fn one_more_if_hull(kind: u8, count: usize) -> usize
     requires { ⌜ count + 1 < 2 ^ 64 ⌝ }
-    ensures { λ r. ⌜ r ≡ count + pick (eqb kind 0) 1 0 ⌝ }
+    ensures { λ r. ⌜ one-more-if-hull-says kind count r ⌝ }
 {
     if kind == 0 {
         return count + 1;

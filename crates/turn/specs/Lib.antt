@@ -11,4 +11,5 @@ pub mod First
 pub mod PointOrder
 pub mod Refusals
 pub mod Areas
+pub mod Grids
 pub mod Promises

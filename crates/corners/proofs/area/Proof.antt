@@ -10,6 +10,7 @@ use mir.Syntax.{w32}
 use mir.Val.{toZ, ofZ}
 use Rattle.laws.specs.Bounds.{same32}
 use Rattle.turn.specs.Points.{Coord, Grid}
+use Rattle.turn.specs.Grids.{grid-part}
 use borrow.Author.Needs.{needs}
 use Rattle.corners.proofs.area.Statement.{statement}
 use Rattle.corners.proofs.area.Tie as tie
@@ -34,12 +35,6 @@ on-grid w s e n a b c d =
     point w s (held e ∷ held s ∷ held e ∷ held n ∷ last) a b
     (point e s (held e ∷ held n ∷ last) c b (point e n last c d (point w n [] a d (λ i h. absurd (not-suc-le-zero h)))))
 
-taken : (k : ℕ) (l : List ℤ) → Grid l → Grid (take k l)
-taken zero l g i h = absurd (not-suc-le-zero h)
-taken (suc k) [] g i h = absurd (not-suc-le-zero h)
-taken (suc k) (z ∷ l) g zero h = g zero (omega arith)
-taken (suc k) (z ∷ l) g (suc i) h = taken k l (λ j q. g (suc j) (omega (arith, q))) i (le-of-suc-le-suc h)
-
 as-many : (k : ℕ) (l : List ℤ) → k ≤ length l → k ≡ length (take k l)
 as-many zero l h = refl
 as-many (suc k) [] h = absurd (not-suc-le-zero h)
@@ -56,7 +51,7 @@ doubled-area-requires c κs =
     let a = c .before .args in
     let l : List ℤ = box (a .west) (a .south) (a .east) (a .north) in
     let p = c .before .pre in
-    (omega (arith, as-many (a .count) l (p .4), p .4), taken (a .count) l (on-grid (a .west) (a .south) (a .east) (a .north) (p .0) (p .1) (p .2) (p .3)))
+    (omega (arith, as-many (a .count) l (p .4), p .4), grid-part l 0 (a .count) (on-grid (a .west) (a .south) (a .east) (a .north) (p .0) (p .1) (p .2) (p .3)))
 
 slice-aggregate-write-all : tie.Need-slice-aggregate-write-all
 slice-aggregate-write-all c = search needs

@@ -1,8 +1,9 @@
 -- `copy`: number by number, as `Copying` says.
 use native.Mathlib.Omega.{arith}
 use Prim.Native.Nat.{_-_}
+use mathlib.Core.Path.{refl}
 use lib.ListN.{length}
-use Rattle.deliver.proofs.Copies.{Copying, copy-start, copy-more, copy-end}
+use Rattle.laws.specs.Copies.{Copying, copy-start, copy-more, copy-end}
 use Rattle.deliver.proofs.copy.Statement.{statement}
 use Rattle.deliver.proofs.copy.Tie as tie
 
@@ -36,13 +37,13 @@ loop-less c = omega arith
 loop-again : tie.Need-loop-again Inv-loop μ-loop
 loop-again c =
     let s = c .before .before .before in let l = c .before .before .loop in
-    copy-more _ (l .to) _ (l .i) (l .inv) (omega (arith, s .pre)) (c .before .loop-test .taken)
+    copy-more 0 _ (l .to) _ (l .i) (l .inv) _ refl (omega (arith, s .pre)) (c .before .loop-test .taken)
 
 same-length : tie.Need-same-length Inv-loop μ-loop
 same-length c = c .before .loop .inv .len
 
 returns : tie.Need-returns Inv-loop μ-loop
-returns c = let l = c .before .loop in copy-end _ (l .to) _ (l .i) (l .inv) (c .loop-test .left)
+returns c = let l = c .before .loop in copy-end 0 _ (l .to) _ (l .i) (l .inv) (c .loop-test .left)
 
 pub copy-spec : {M : Type 1} → statement M
 copy-spec = tie.close (tie.spec Inv-loop μ-loop loop-holds mul-to shared-slice-read-to mul-to-2 slice-write-to add-i

@@ -2,7 +2,7 @@
 use native.Mathlib.Omega.{arith}
 use Prim.Native.Nat.{_-_}
 use lib.ListN.{length, replicate, length-replicate}
-use Rattle.deliver.proofs.Copies.{Copying, copy-start, fill-more, copy-end}
+use Rattle.laws.specs.Copies.{Copying, copy-start, fill-more, copy-end}
 use Rattle.deliver.proofs.fill.Statement.{statement}
 use Rattle.deliver.proofs.fill.Tie as tie
 
@@ -28,7 +28,7 @@ loop-less : tie.Need-loop-less Inv-loop μ-loop
 loop-less c = let s = c .before .before in omega (arith, s .pre, c .before .loop .inv .len)
 
 loop-again : tie.Need-loop-again Inv-loop μ-loop
-loop-again c = let s = c .before .before in let l = c .before .loop in fill-more _ (l .owner) _ _ (l .i) (l .inv) (omega (arith, s .pre)) (c .loop-test .taken)
+loop-again c = let s = c .before .before in let l = c .before .loop in fill-more 0 _ (l .owner) _ _ (l .i) (l .inv) (omega (arith, s .pre)) (c .loop-test .taken)
 
 same-length : tie.Need-same-length Inv-loop μ-loop
 same-length c = c .before .loop .inv .len
@@ -36,7 +36,7 @@ same-length c = c .before .loop .inv .len
 returns : tie.Need-returns Inv-loop μ-loop
 returns c =
     let s = c .before .before in let l = c .before .loop in
-    copy-end _ (l .owner) _ (l .i) (l .inv) (rw (length-replicate (s .args .n) (s .args .number)) (c .loop-test .left))
+    copy-end 0 _ (l .owner) _ (l .i) (l .inv) (rw (length-replicate (s .args .n) (s .args .number)) (c .loop-test .left))
 
 pub fill-spec : {M : Type 1} → statement M
 fill-spec = tie.close (tie.spec Inv-loop μ-loop loop-holds mul-owner slice-write-owner add-i loop-less loop-again
