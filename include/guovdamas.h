@@ -1,15 +1,24 @@
 /*
- * guovdamas.h: contour extraction and hole binding, as proved in crates/guovdamas. docs/RULES.md has the rules in full.
+ * guovdamas.h: contour extraction, hole binding, and areas and frames in millimetres, as proved in crates/guovdamas.
+ * docs/RULES.md has the rules in full.
  *
  * Link with libguovdamas.a (`rt staticlib guovdamas`; x86-64 Linux). examples/c/square.c is a whole program.
  *
- * What the functions do. They need no memory but what is lent and some stack: extraction 102 KiB, binding 79 KiB. They
- * keep no pointer, have no global state and always return, so any thread may call them. They call nothing but memcpy
- * and memset of the C library.
+ * The functions.
+ *   guovdamas_extract     walks a graph, and writes its contours: a contour table with its points
+ *   guovdamas_bind        writes the owner of each contour of a table: the shape that it belongs to
+ *   guovdamas_lookup      answers one contour's record
+ *   guovdamas_report      answers one contour's area and frame, in millimetres
+ *   guovdamas_report_all  writes the areas and frames of all contours of a table
+ *
+ * What they do. They need no memory but what is lent and some stack: extraction 102 KiB, binding 79 KiB. They keep no
+ * pointer, have no global state and always return, so any thread may call them. They call nothing but memcpy and memset
+ * of the C library.
  *
  * What may be passed. Anything may stand in the lists: what one of the checks below finds wrong is refused with a
  * number and a place. What is left to the caller is C's own rule: each pointer is valid for its length (and not null,
- * even at length 0), a list that is written overlaps no other, and `clockwise` and `drop_straight` are true or false.
+ * even at length 0), a list that is written overlaps no other, and `clockwise` and `drop_straight` are true or false;
+ * and, for reports, that the thread rounds to the nearest, as it does unless it was told otherwise (fesetround).
  *
  * What is not seen. Two things would be wrong in a study and are not looked for: links that cross or overlap away from
  * nodes, and tops that contradict one another. Such a graph is walked by the rules all the same. It may be refused with
@@ -18,7 +27,12 @@
  * up; that is proved.
  *
  * Units. Coordinates are whole numbers in units of 0.01 mm, from -524,288 to 524,288, and y points upward. Areas are
- * doubled and signed: positive when counterclockwise. "Before", of points: by x, then by y, strictly.
+ * doubled and signed, positive when counterclockwise, but in reports. "Before", of points: by x, then by y, strictly.
+ *
+ * Millimetres. A report is in mm and square mm, as double: an IEEE 754 binary64, answered by value or written to a lent
+ * list. Each is a whole number made a double with nothing lost and divided once, rounded to the nearest, a tie to even:
+ * a doubled area by 20000, a coordinate by 100. Zero is +0.0. Where there is no contour to report the doubles are NaN
+ * (it is not said which), since a 0 would go unseen in a sum.
  *
  * Words. A link is skipped (lent with state 1), a walk rejected (too small), a point straight (on one line with its two
  * neighbours round the contour), a hole dropped (there is no hull), a call refused (answered by a number other than 0).
@@ -48,8 +62,9 @@
  *    9   a walk has reached its last link and is not back at its beginning        the link that the
  *                                                                                 scan stands at
  *
- *        guovdamas_bind:
- *   10   first, len and kind differ in length; owner is shorter; there are more   0
+ *        guovdamas_bind, and of its numbers 10 alone guovdamas_report_all:
+ *   10   first, len and kind differ in length; owner is shorter; of               0
+ *        guovdamas_report_all, a list to be filled is shorter; there are more
  *        than 4,096 points; points has an odd length; the last contour does not
  *        end at the last point
  *   10   a contour does not begin where the one before it ends, or at 0; is past  lowest such contour
@@ -66,7 +81,7 @@
  *   8 and 9   state is as before the call; all of points, first, len and kind is zero.
  *   10 to 12  all is as before the call.
  *
- * guovdamas_lookup gives no number: it finds a record, or it does not.
+ * guovdamas_lookup and guovdamas_report give no number: they find the contour or they do not, both alike.
  */
 #ifndef GUOVDAMAS_H
 #define GUOVDAMAS_H
@@ -141,6 +156,24 @@ typedef struct {
     uint32_t len;   /* how many points it has */
 } GuovdamasRecord;
 
+/* What guovdamas_report answers. Where there is no such contour found is 0, and all five doubles are NaN. */
+typedef struct {
+    uint32_t found; /* 1, or 0 */
+    double area;    /* signed, in square millimetres: positive when counterclockwise */
+    double left;    /* the frame, in millimetres: the least x, */
+    double bottom;  /* the least y, */
+    double right;   /* the greatest x */
+    double top;     /* and the greatest y of its points */
+} GuovdamasReport;
+
+/* What guovdamas_report_all answers. After a refusal both counts are 0. */
+typedef struct {
+    uint32_t number; /* 0 done, or 10 */
+    size_t place;    /* 0, or the contour that is at fault */
+    size_t contours; /* entries written in front of each list */
+    size_t missing;  /* of these, contours of which there is no report: NaN in every list */
+} GuovdamasReports;
+
 /*
  * Checks 1 to 7, then the walks.
  *
@@ -204,6 +237,35 @@ GuovdamasRecord guovdamas_lookup(
     const uint32_t *first, size_t first_len, const uint32_t *len, size_t len_len, const uint8_t *kind, size_t kind_len,
     const uint16_t *owner, size_t owner_len,
     size_t contour);
+
+/*
+ * One contour's area and frame. There is none exactly when guovdamas_lookup finds no record for the same arguments.
+ * Checks 11 and 12 are not asked: any table that passes check 10 is reported, whether its holes can be bound or not,
+ * and with straight points or without. Nothing is written.
+ */
+GuovdamasReport guovdamas_report(
+    const int32_t *points, size_t points_len,
+    const uint32_t *first, size_t first_len, const uint32_t *len, size_t len_len, const uint8_t *kind, size_t kind_len,
+    const uint16_t *owner, size_t owner_len,
+    size_t contour);
+
+/*
+ * Check 10, asked once, and the area and frame of every contour.
+ *
+ * Read: the points, the contour table and its owners, as guovdamas_report does.
+ *
+ * Written: area, left, bottom, right and top, each as many as there are contours or more.
+ *   0:   entry c of each list is what guovdamas_report answers for contour c: NaN in all five where it finds none,
+ *        since the owner is not right. What is past the contours is as before the call.
+ *   10:  all is as before the call.
+ */
+GuovdamasReports guovdamas_report_all(
+    const int32_t *points, size_t points_len,
+    const uint32_t *first, size_t first_len, const uint32_t *len, size_t len_len, const uint8_t *kind, size_t kind_len,
+    const uint16_t *owner, size_t owner_len,
+    double *area, size_t area_len,
+    double *left, size_t left_len, double *bottom, size_t bottom_len,
+    double *right, size_t right_len, double *top, size_t top_len);
 
 #ifdef __cplusplus
 }

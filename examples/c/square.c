@@ -1,6 +1,6 @@
 /*
  * square.c: the library from C or C++. Extracts a square with a square hole, binds the hole and prints what was found,
- * without the points in the middle of a side.
+ * without the points in the middle of a side, and each contour's area.
  *
  * Build it where include/ and lib/ are, as
  *
@@ -46,14 +46,17 @@ static GuovdamasExtraction extract(bool drop_straight) {
                              state, LINKS, points, 2 * LINKS, first, CONTOURS, len, CONTOURS, kind, CONTOURS);
 }
 
-/* Prints a contour by its record. */
+/* Prints a contour by its record, with the area of its report. */
 static void print_contour(const GuovdamasExtraction *found, size_t contour) {
     const GuovdamasRecord record =
         guovdamas_lookup(points, 2 * found->points, first, found->contours, len, found->contours, kind,
                          found->contours, owner, CONTOURS, contour);
+    const GuovdamasReport report =
+        guovdamas_report(points, 2 * found->points, first, found->contours, len, found->contours, kind,
+                         found->contours, owner, CONTOURS, contour);
     static const char *const roles[] = {"hull", "hole", "dropped"};
     uint32_t i;
-    printf("%lu %s %lu:", (unsigned long)contour, roles[record.role], (unsigned long)record.owner);
+    printf("%lu %s %lu, %g mm2:", (unsigned long)contour, roles[record.role], (unsigned long)record.owner, report.area);
     for (i = record.first; i < record.first + record.len; i++)
         printf(" (%ld,%ld)", (long)points[2 * i], (long)points[2 * i + 1]);
     printf("\n");

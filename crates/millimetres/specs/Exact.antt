@@ -59,7 +59,8 @@ div-value (fin t m e) nan s a b h k l = absurd k
 div-value (fin t m e) (inf r) s a b h k l = absurd k
 div-value (fin t m e) (fin r n d) s a b h k l =
     rw (ne-eqb n 0 some, k .0, like-plus t, h .0)
-    (round-same binary64 s (m * up e * down d) (n * up d * down e) a b (mul-pos above (down-pos e)) l (crossed (m * up e) (n * up d) (down e) (down d) a b (h .1) (k .1)))
+    (round-same binary64 s (m * up e * down d) (n * up d * down e) a b (mul-pos above (down-pos e)) l
+    (crossed (m * up e) (n * up d) (down e) (down d) a b (h .1) (k .1)))
   where
     above : 0 < n * up d
     above = let w = mul-pos l (down-pos d) in omega (arith, k .1)

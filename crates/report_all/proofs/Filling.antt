@@ -6,7 +6,7 @@ use mathlib.Core.Path.{_≡_, refl, sym, ap, ap₂, _∙_}
 use mathlib.Core.Bool.{Bool, true, false}
 use mathlib.Core.List.{List}
 use lib.Dec.{eqb}
-use lib.ListN.{length}
+use lib.ListN.{length, set}
 use lib.Ieee.{Float, nan}
 use Rattle.laws.specs.Test.{pick}
 use Rattle.laws.specs.Count.{sum, count-none, count-more}
@@ -67,25 +67,27 @@ one-more f n = rw (add-one n) (omega arith)
 
 module _ {t : Table} {owner : List ℕ} {old new : Columns} {c shape missing : ℕ} (s : Sound t) (room : Room old (contourCount t))
     (g : Filling t owner old new c shape missing) where
-  pub filling-more : (r : Report) (e : ReportValues) (after : Columns) (shape′ missing′ : ℕ) → c < contourCount t → r ≡ reported t owner c → e ≡ valuesOfReport r
-      → after ≡ stored new c e → shape′ ≡ shape + pick (eqb (kindOf t c) 0) 1 0 → missing′ ≡ missing + pick (isMissing r) 1 0
+  pub filling-more : (r : Report) (v : ReportValues) (after : Columns)
+      (shape′ missing′ : ℕ) → c < contourCount t → r ≡ reported t owner c → v ≡ valuesOfReport r
+      → after ≡ stored new c v → shape′ ≡ shape + pick (eqb (kindOf t c) 0) 1 0 → missing′ ≡ missing + pick (isMissing r) 1 0
       → Filling t owner old after (c + 1) shape′ missing′
-  filling-more r e after shape′ missing′ l er ee ea es em = record {
+  filling-more r v after shape′ missing′ l er ee ea es em = record {
     within = omega arith;
     shape-is = es ∙ ap (λ n. n + pick (eqb (kindOf t c) 0) 1 0) (g .shape-is) ∙ sym (count-more 0 (t .kind) c (omega (arith, s .kind-long)));
     shape-few = omega (arith, g .shape-few, bit-small (eqb (kindOf t c) 0));
     missing-is =
         em ∙ ap₂ (λ n x. n + pick (isMissing x) 1 0) (g .missing-is) er ∙ sym (one-more (λ i. pick (isMissing (reported t owner i)) 1 0) c);
     missing-few = omega (arith, g .missing-few, bit-small (isMissing r));
-    area = rw (ap (λ (k : Columns). k .area) ea) (list-more nan (λ i. entryAt t owner i .area) _ _ _ c (g .area) _ (part (λ x. x .area)) (omega (arith, room .0)) l);
-    left = rw (ap (λ (k : Columns). k .left) ea) (list-more nan (λ i. entryAt t owner i .left) _ _ _ c (g .left) _ (part (λ x. x .left)) (omega (arith, room .1)) l);
-    bottom = rw (ap (λ (k : Columns). k .bottom) ea) (list-more nan (λ i. entryAt t owner i .bottom) _ _ _ c (g .bottom) _ (part (λ x. x .bottom)) (omega (arith, room .2)) l);
-    right = rw (ap (λ (k : Columns). k .right) ea) (list-more nan (λ i. entryAt t owner i .right) _ _ _ c (g .right) _ (part (λ x. x .right)) (omega (arith, room .3)) l);
-    top = rw (ap (λ (k : Columns). k .top) ea) (list-more nan (λ i. entryAt t owner i .top) _ _ _ c (g .top) _ (part (λ x. x .top)) (omega (arith, room .4)) l);
+    area = rw (ap (λ (k : Columns). k .area) ea) (more (λ x. x .area) (g .area) (omega (arith, room .0)));
+    left = rw (ap (λ (k : Columns). k .left) ea) (more (λ x. x .left) (g .left) (omega (arith, room .1)));
+    bottom = rw (ap (λ (k : Columns). k .bottom) ea) (more (λ x. x .bottom) (g .bottom) (omega (arith, room .2)));
+    right = rw (ap (λ (k : Columns). k .right) ea) (more (λ x. x .right) (g .right) (omega (arith, room .3)));
+    top = rw (ap (λ (k : Columns). k .top) ea) (more (λ x. x .top) (g .top) (omega (arith, room .4)));
   }
     where
-      part : (p : ReportValues → Float) → p e ≡ p (entryAt t owner c)
-      part p = ap p (ee ∙ ap valuesOfReport er)
+      -- one list
+      more : (part : ReportValues → Float) {o n : List Float} → Column t owner part o n c → c < length o → Column t owner part o (set n c (part v)) (c + 1)
+      more part h k = list-more nan (λ i. part (entryAt t owner i)) _ _ _ c h _ (ap part (ee ∙ ap valuesOfReport er)) k l
 
   pub filling-room : c < contourCount t → Room new (c + 1)
   filling-room l = (

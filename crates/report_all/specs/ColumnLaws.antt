@@ -22,7 +22,22 @@ use Rattle.report.specs.declared.records.Report.the-variants.{Missing}
 use Rattle.report.specs.Reports.{measured, reportBy, reported}
 use Rattle.report.specs.declared.records.ReportValues.{ReportValues}
 use Rattle.report_all.specs.declared.records.Reports.the-variants.{Filled, Refused}
-use Rattle.report_all.specs.Columns.{Columns, Room, roomOf, entered, entryAt, missingBelow, Counted, counted, allEntered, Reporting, reporting, reportedAfter, reportedAll, reportAt}
+use Rattle.report_all.specs.Columns.{
+  Columns,
+  Room,
+  roomOf,
+  entered,
+  entryAt,
+  missingBelow,
+  Counted,
+  counted,
+  allEntered,
+  Reporting,
+  reporting,
+  reportedAfter,
+  reportedAll,
+  reportAt,
+}
 
 -- ---- one contour of a table that passes check 10
 pub report-at-is : (t : Table) (owner : List ℕ) (c shape hulls : ℕ) → Sound t → contourCount t ≤ length owner → c < contourCount t
@@ -79,7 +94,8 @@ module _ (t : Table) (owner : List ℕ) (k : Columns) where
   unfolding reportedAll
   all-fine e = rw e
 
-  pub all-refused : (number place : ℕ) → tableChecked t (roomOf owner k) ≡ check.Refused number place → reporting (Refused number place) k ≡ reportedAll t owner k
+  pub all-refused : (number place : ℕ) → tableChecked t (roomOf owner k) ≡ check.Refused number place → reporting
+      (Refused number place) k ≡ reportedAll t owner k
   unfolding reportedAll
   all-refused number place e = rw e
 

@@ -54,7 +54,8 @@ stored k c v = columns (set (k .area) c (v .area)) (set (k .left) c (v .left)) (
 -- a rule's entries for the numbers below n, in front of the old tails
 abbrev pub entered : (ℕ → ReportValues) → ℕ → Columns → Columns
 entered f n k = columns (overFront (tabulate (λ c. f c .area) n) (k .area)) (overFront (tabulate (λ c. f c .left) n) (k .left))
-    (overFront (tabulate (λ c. f c .bottom) n) (k .bottom)) (overFront (tabulate (λ c. f c .right) n) (k .right)) (overFront (tabulate (λ c. f c .top) n) (k .top))
+    (overFront (tabulate (λ c. f c .bottom) n) (k .bottom)) (overFront (tabulate (λ c. f c .right) n) (k .right))
+    (overFront (tabulate (λ c. f c .top) n) (k .top))
 
 -- ---- all contours of a table
 -- what the contour's own report answers

@@ -33,8 +33,8 @@ Times the static library and the given text of i_overlay 9.0.1 on the same graph
 Each time is the least of many runs of one graph; the ratio is the first time by the second. There are graphs near the
 most links, 48 different meshes in turn, and tiny graphs; then the whole call of the safe interface, with buffers of its
 own and in a workspace, beside the bare calls; then extraction that drops the points on a straight line, beside
-extraction that keeps them; then polygons to shapes, by the text that is patched to call the library, beside the text as
-it is.
+extraction that keeps them; then areas and frames of all contours, with their checks, beside a plain loop that checks
+nothing; then polygons to shapes, by the text that is patched to call the library, beside the text as it is.
 Where the text is not at hand (../shared/docs/src beside the repository) the library is timed alone.
 docs/PERFORMANCE.md says what each row is.";
 
@@ -70,6 +70,7 @@ fn run(effort: Effort) {
     whole_calls(&Table::in_nanos("Graph to shapes from Rust, tiny graphs", calls), &tiny, effort);
     let points = ["dropped", "kept"];
     dropping(&Table::in_micros("Points on a straight line", points), &graphs::jointed(), effort);
+    reporting(&Table::in_micros("Areas and frames", ["library", "plain loop"]), &large, effort);
     if text::AT_HAND {
         let sides = ["patched text", "text"];
         end_to_end(&Table::in_micros("Polygons to shapes, end to end", sides), &polygons::plans(), effort);
@@ -144,6 +145,24 @@ fn dropping(table: &Table, groups: &[Group], effort: Effort) {
     }
 }
 
+/// Areas and frames of all contours beside a plain loop over the same points.
+fn reporting(table: &Table, groups: &[Group], effort: Effort) {
+    for group in groups {
+        let bound = |sample| {
+            let mut bound = Library::new(sample);
+            bound.extract();
+            bound.bind();
+            bound
+        };
+        let mut ours: Vec<Library> = group.samples.iter().map(bound).collect();
+        let mut plain: Vec<Library> = group.samples.iter().map(bound).collect();
+        let loops = each(group, &mut plain, Library::measure);
+        let times = least(effort, each(group, &mut ours, Library::report), Some(loops));
+        table.row(group.name, "reports of all contours", times, group.runs());
+        ours.iter().zip(&plain).for_each(|(ours, plain)| sides::report_alike(group.name, ours, plain));
+    }
+}
+
 /// Polygons to shapes by the patched text, beside the text as it is; then the steps of that. The split and the graph are the
 /// same code on both sides.
 fn end_to_end(table: &Table, plans: &[Plan], effort: Effort) {
@@ -188,6 +207,7 @@ mod tests {
         whole_calls(&Table::in_micros("Small graphs, whole calls", ["whole call", "bare calls"]), &groups, effort);
         let points = Table::in_micros("Few points on a straight line", ["dropped", "kept"]);
         dropping(&points, &graphs::small_jointed(), effort);
+        reporting(&Table::in_micros("Few areas and frames", ["library", "plain loop"]), &groups, effort);
         if text::AT_HAND {
             end_to_end(&Table::in_micros("Few polygons", ["patched text", "text"]), &polygons::small(), effort);
         }

@@ -17,6 +17,8 @@ pub struct Library<'a> {
     lent: Buffers,
     counts: lent::Counts,
     owner: Vec<u16>,
+    /// Areas, lefts, bottoms, rights and tops.
+    reports: [Vec<f64>; 5],
     graph: Graph,
     workspace: Workspace,
 }
@@ -25,8 +27,9 @@ impl<'a> Library<'a> {
     pub fn new(sample: &'a Sample) -> Self {
         let lent = Buffers::for_states(sample.state.clone());
         let owner = vec![0; lent.first.len()];
+        let reports = [(); 5].map(|()| vec![0.0; owner.len()]);
         let (graph, workspace) = (owned(sample), Workspace::new());
-        Self { sample, lent, counts: lent::Counts::default(), owner, graph, workspace }
+        Self { sample, lent, counts: lent::Counts::default(), owner, reports, graph, workspace }
     }
 
     /// Extraction with every link skipped: all checks run, and nothing is walked.
@@ -54,14 +57,25 @@ impl<'a> Library<'a> {
 
     /// Binding with all its checks, of what was extracted last.
     pub fn bind(&mut self) {
-        let contours = self.counts.contours as usize;
-        let table = lent::Table {
-            points: &self.lent.points[..2 * self.counts.points as usize],
-            first: &self.lent.first[..contours],
-            len: &self.lent.len[..contours],
-            kind: &self.lent.kind[..contours],
-        };
+        let table = table(&self.lent, self.counts);
         lent::bind(table, ContourDirection::CounterClockwise, &mut self.owner).expect("the holes are bound");
+    }
+
+    /// Areas and frames, with check 10 and the owners', of what was bound last.
+    pub fn report(&mut self) {
+        let [area, left, bottom, right, top] = self.reports.each_mut();
+        let lists = lent::ReportLists { area, left, bottom, right, top };
+        lent::report_all(table(&self.lent, self.counts), &self.owner, lists).expect("the contours are reported");
+    }
+
+    /// The same by a plain loop that checks nothing.
+    pub fn measure(&mut self) {
+        let table = table(&self.lent, self.counts);
+        for (contour, (&first, &len)) in table.first.iter().zip(table.len).enumerate() {
+            let points = &table.points[2 * first as usize..][..2 * len as usize];
+            let numbers = measured(points);
+            self.reports.iter_mut().zip(numbers).for_each(|(list, number)| list[contour] = number);
+        }
     }
 
     /// The whole call of the safe interface: graph to shapes, in buffers that it allocates.
@@ -89,6 +103,33 @@ impl<'a> Library<'a> {
         owned.for_each(|(&owner, _)| holes[owner as usize] += 1);
         holes
     }
+}
+
+/// What was extracted, without the room past it.
+fn table(lent: &Buffers, counts: lent::Counts) -> lent::Table<'_> {
+    let contours = counts.contours as usize;
+    lent::Table {
+        points: &lent.points[..2 * counts.points as usize],
+        first: &lent.first[..contours],
+        len: &lent.len[..contours],
+        kind: &lent.kind[..contours],
+    }
+}
+
+/// Area, left, bottom, right and top of points, x and y in turn.
+fn measured(points: &[i32]) -> [f64; 5] {
+    let mut doubled = 0;
+    let (mut low, mut high) = ([i32::MAX; 2], [i32::MIN; 2]);
+    let mut before = [points[points.len() - 2], points[points.len() - 1]];
+    for point in points.chunks_exact(2) {
+        let point = [point[0], point[1]];
+        doubled += before[0] as i64 * point[1] as i64 - before[1] as i64 * point[0] as i64;
+        low = [low[0].min(point[0]), low[1].min(point[1])];
+        high = [high[0].max(point[0]), high[1].max(point[1])];
+        before = point;
+    }
+    let [left, bottom, right, top] = [low[0], low[1], high[0], high[1]].map(|edge| f64::from(edge) / 100.0);
+    [doubled as f64 / 20_000.0, left, bottom, right, top]
 }
 
 /// The sample as a graph of the safe interface.
@@ -126,6 +167,13 @@ pub fn unbound(ours: &[Library], theirs: &[Run]) -> Vec<Unbound> {
 pub fn most_points_went(name: &str, dropped: &Library, kept: &Library) {
     assert_eq!(dropped.kinds(), kept.kinds(), "{name}: no contour goes");
     assert!(2 * dropped.points().len() < kept.points().len(), "{name}: most points go");
+}
+
+/// Panics unless both have the same reports, to the last bit, as they ran last.
+pub fn report_alike(name: &str, ours: &Library, plain: &Library) {
+    let bits =
+        |side: &Library| side.reports.each_ref().map(|list| list.iter().map(|n| n.to_bits()).collect::<Vec<_>>());
+    assert_eq!(bits(ours), bits(plain), "{name}: both report alike");
 }
 
 /// Panics unless the safe interface says what the bare calls say.

@@ -1,8 +1,9 @@
 //! What a case lends: a graph or a contour table, the room to be written, and the settings.
 
-use crate::outcome::{Lists, Outcome, said};
+use crate::outcome::{Lists, Number, Outcome, said};
 use reading::bind::{Bound, Record, Role, Table};
 use reading::graph::{Buffers, Graph};
+use reading::report::{ReportLists, Reported};
 use reading::walk::Counts;
 use reading::{Settings, Side};
 
@@ -17,6 +18,8 @@ pub struct Room {
     pub len: Option<usize>,
     pub kind: Option<usize>,
     pub owners: Option<usize>,
+    /// The lists of areas, lefts, bottoms, rights and tops.
+    pub reports: [Option<usize>; 5],
 }
 
 #[derive(Clone, Debug)]
@@ -55,8 +58,16 @@ fn direction(clockwise: bool) -> &'static str {
     if clockwise { "clockwise" } else { "counterclockwise" }
 }
 
-fn numbers<T: Copy + Into<i64>>(list: &[T]) -> Vec<i64> {
-    list.iter().map(|&number| number.into()).collect()
+fn numbers<T: Copy + Into<i64>>(list: &[T]) -> Vec<Number> {
+    list.iter().map(|&number| Number::Whole(number.into())).collect()
+}
+
+/// What a report tells, in its order.
+pub const REPORTED: [&str; 5] = ["area", "left", "bottom", "right", "top"];
+
+fn report_lists(lent: &ReportLists) -> Lists {
+    let floats = |list: &Vec<f64>| list.iter().map(|&float| Number::float(float)).collect();
+    REPORTED.into_iter().zip(lent.lists().map(floats)).collect()
 }
 
 fn lists(lent: &Buffers) -> Lists {
@@ -131,5 +142,23 @@ impl Input {
             }
         };
         Outcome { asked: format!("contour {contour}"), said, before: Vec::new(), after: Vec::new() }
+    }
+
+    pub fn report(&self, side: Side, contour: usize) -> Outcome {
+        let found = (side.report)(&self.table, &self.owner, contour);
+        let numbers = found.into_iter().flat_map(|report| report.numbers());
+        let after = REPORTED.into_iter().zip(numbers.map(|number| vec![Number::float(number)])).collect();
+        let said = if found.is_some() { "found" } else { "none" };
+        Outcome { asked: format!("contour {contour}"), said: said.into(), before: Vec::new(), after }
+    }
+
+    pub fn report_all(&self, side: Side) -> Outcome {
+        let room = |length: Option<usize>| vec![SEVEN.into(); length.unwrap_or(self.table.contours() + 1)];
+        let [area, left, bottom, right, top] = self.room.reports.map(room);
+        let mut lent = ReportLists { area, left, bottom, right, top };
+        let before = report_lists(&lent);
+        let answer = (side.report_all)(&self.table, &self.owner, &mut lent);
+        let words = |Reported { contours, missing }| format!("contours {contours} missing {missing}");
+        Outcome { asked: "all".into(), said: said(answer, words), before, after: report_lists(&lent) }
     }
 }

@@ -19,6 +19,7 @@ pub enum Run {
     Extract,
     Bind,
     Lookup,
+    Report,
 }
 
 /// One case: a title and an input, for one run or several.
@@ -31,13 +32,17 @@ pub struct Case {
 
 impl Case {
     /// The answers of one side: one for each setting of extraction, each direction of binding, or each contour that is
-    /// looked up.
+    /// looked up; or one for each contour that is reported, and then one for all.
     pub fn ask(&self, side: Side) -> Vec<Outcome> {
         let Input { clockwise, look, .. } = &self.input;
         match self.run {
             Run::Extract => self.input.settings().map(|settings| self.input.extract(side, settings)).collect(),
             Run::Bind => clockwise.iter().map(|&way| self.input.bind(side, way)).collect(),
             Run::Lookup => look.iter().map(|&contour| self.input.lookup(side, contour)).collect(),
+            Run::Report => {
+                let each = look.iter().map(|&contour| self.input.report(side, contour));
+                each.chain([self.input.report_all(side)]).collect()
+            }
         }
     }
 }

@@ -3,8 +3,42 @@
 use reading::Refusal;
 use std::fmt;
 
-/// The lent buffers by name, as whole numbers.
-pub type Lists = Vec<(&'static str, Vec<i64>)>;
+/// The lent buffers by name.
+pub type Lists = Vec<(&'static str, Vec<Number>)>;
+
+/// An entry of a buffer.
+#[derive(Clone, Copy, Debug, PartialEq, Eq)]
+pub enum Number {
+    Whole(i64),
+    /// The bits of a float.
+    Float(u64),
+}
+
+impl Number {
+    /// All that are no number are the same one: which of them is answered is not said.
+    pub fn float(float: f64) -> Self {
+        Self::Float(if float.is_nan() { f64::NAN } else { float }.to_bits())
+    }
+
+    /// What is summed of it.
+    fn summed(self) -> i64 {
+        match self {
+            Self::Whole(number) => number,
+            Self::Float(bits) => bits as i64,
+        }
+    }
+}
+
+/// A float is shown in decimal and, unless it is no number, by its bits.
+impl fmt::Display for Number {
+    fn fmt(&self, f: &mut fmt::Formatter<'_>) -> fmt::Result {
+        match *self {
+            Self::Whole(number) => write!(f, "{number}"),
+            Self::Float(bits) if f64::from_bits(bits).is_nan() => write!(f, "NaN"),
+            Self::Float(bits) => write!(f, "{}={bits:016x}", f64::from_bits(bits)),
+        }
+    }
+}
 
 /// One answer.
 #[derive(Clone, Debug, PartialEq, Eq)]
@@ -32,18 +66,22 @@ pub fn said<T>(answer: Result<T, Refusal>, words: impl Fn(T) -> String) -> Strin
 }
 
 /// A list's numbers, equal ones together.
-fn words(list: &[i64]) -> Vec<String> {
+fn words(list: &[Number]) -> Vec<String> {
     let runs = list.chunk_by(|p, q| p == q);
-    let shown = |run: &[i64]| match run.len() {
+    let shown = |run: &[Number]| match run.len() {
         RUN.. => vec![format!("{}*{}", run.len(), run[0])],
-        _ => run.iter().map(i64::to_string).collect(),
+        _ => run.iter().map(Number::to_string).collect(),
     };
     runs.flat_map(shown).collect()
 }
 
-/// A long list: its length, its ends, its sum, and the sum of the sums on the way to it, which tells an order from another.
-fn shortened(list: &[i64]) -> String {
-    let (sum, again) = list.iter().fold((0i64, 0i64), |(sum, again), n| (sum + n, again + sum + n));
+/// A long list: its length, its ends, its sum, and the sum of the sums on the way to it, which tells an order from
+/// another. Of floats the bits are summed, and what passes 64 bits is lost.
+fn shortened(list: &[Number]) -> String {
+    let (sum, again) = list.iter().fold((0i64, 0i64), |(sum, again), number| {
+        let sum = sum.wrapping_add(number.summed());
+        (sum, again.wrapping_add(sum))
+    });
     let (head, tail) = (words(&list[..END]).join(" "), words(&list[list.len() - END..]).join(" "));
     format!("{} numbers, {head} .. {tail}, summed {sum} and again {again}", list.len())
 }

@@ -1,6 +1,6 @@
 //! Reads tables; tests/tables/README.md says what each word means.
 
-use crate::input::{Input, Link};
+use crate::input::{Input, Link, REPORTED};
 use crate::{Case, Run, made};
 use reading::Side;
 use reading::geometry::Point;
@@ -11,7 +11,8 @@ use std::path::PathBuf;
 use std::str::FromStr;
 
 /// Every table, by the name of its file.
-pub const TABLES: [&str; 8] = ["checks", "walks", "turns", "straight", "contours", "anchors", "lookups", "binding"];
+pub const TABLES: [&str; 9] =
+    ["checks", "walks", "turns", "straight", "contours", "anchors", "lookups", "reports", "binding"];
 
 /// tests/tables/NAME.ENDING
 pub fn file(name: &str, ending: &str) -> PathBuf {
@@ -162,7 +163,11 @@ fn room(input: &mut Input, line: &Words<'_>) {
         "len" => room.len = length,
         "kind" => room.kind = length,
         "owners" => room.owners = length,
-        _ => line.fault("no such room"),
+        "reports" => room.reports = [length; 5],
+        word => match REPORTED.iter().position(|list| *list == word) {
+            Some(list) => room.reports[list] = length,
+            None => line.fault("no such room"),
+        },
     }
 }
 
@@ -203,6 +208,17 @@ fn change<T: Clone + FromStr>(list: &mut Vec<T>, line: &Words<'_>) {
     }
 }
 
+/// `run WHAT`
+fn asked(line: &Words<'_>) -> Run {
+    match line.word(1) {
+        "extract" => Run::Extract,
+        "bind" => Run::Bind,
+        "lookup" => Run::Lookup,
+        "report" => Run::Report,
+        _ => line.fault("no such run"),
+    }
+}
+
 /// Which block a line stands in.
 enum Place {
     Head,
@@ -224,12 +240,7 @@ fn parse(text: &str, path: &str) -> Vec<Case> {
             None => continue,
             Some(word) if word.starts_with('#') => continue,
             Some(&"run") => {
-                run = Some(match line.word(1) {
-                    "extract" => Run::Extract,
-                    "bind" => Run::Bind,
-                    "lookup" => Run::Lookup,
-                    _ => line.fault("no such run"),
-                });
+                run = Some(asked(&line));
                 continue;
             }
             Some(&("graph" | "table")) => Place::Named(line.word(1).into()),

@@ -60,6 +60,11 @@ fn table_of_lookups() {
 }
 
 #[test]
+fn table_of_reports() {
+    hold("reports");
+}
+
+#[test]
 fn table_of_binding() {
     hold("binding");
 }

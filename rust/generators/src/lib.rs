@@ -1,8 +1,8 @@
 //! Generated graphs and contour tables, good and damaged, from fixed seeds.
 //!
 //! [`planar`] makes graphs of document 01's domain, [`wild`] graphs that pass checks 1 to 7 and are no planar map,
-//! [`joints`] splits the links of either, [`damage`] breaks what it is given, [`tables`] makes contour tables for binding,
-//! [`polygons`] makes the polygons of which the crate makes its graphs.
+//! [`joints`] splits the links of either, [`damage`] breaks what it is given, [`tables`] makes contour tables for
+//! binding and reports, [`polygons`] makes the polygons of which the crate makes its graphs.
 
 pub mod damage;
 pub mod joints;

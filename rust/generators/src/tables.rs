@@ -1,9 +1,10 @@
-//! Contour tables for binding that no extraction need have made: small coordinates, so that anchors, edges, gaps and slopes
-//! coincide in every way.
+//! Contour tables for binding that no extraction need have made: small coordinates, so that anchors, edges, gaps and
+//! slopes coincide in every way. For reports: owners that no binding need have found, and tables as large as can be.
 
 use crate::rng::Rng;
-use reading::bind::Table;
+use reading::bind::{NO_OWNER, Table};
 use reading::geometry::Point;
+use reading::{MAX_COORDINATE, MAX_LINKS};
 
 /// A contour with its kind.
 type Kept = (u8, Vec<Point>);
@@ -42,6 +43,74 @@ pub fn crowded(size: usize, clockwise: bool, rng: &mut Rng) -> Table {
         holes.push(hole);
     }
     table(hulls, holes, clockwise, rng)
+}
+
+/// A table with 4,096 points, or at most two less: one contour, contours of many lengths, or 1,365 triangles. It passes
+/// check 10 alone. Many a contour goes round and round the corners of all that is in range, or beside them: no area is
+/// larger.
+pub fn full(rng: &mut Rng) -> Table {
+    let longest = rng.choose(&[3, 5, 40, 1000, MAX_LINKS]);
+    let hole_percent = rng.choose(&[0, 50, 100]);
+    let mut table = Table::default();
+    loop {
+        let room = MAX_LINKS - table.points.len() / 2;
+        let count = if longest == MAX_LINKS { room } else { (3 + rng.below(longest - 2)).min(room) };
+        if count < 3 {
+            return table;
+        }
+        let contour = if rng.chance(50) { round_and_round(count, rng) } else { wandering(count, rng) };
+        table.push(&contour, rng.chance(hole_percent));
+    }
+}
+
+/// Round the corners of all that is in range, or up to two off them, in either direction.
+fn round_and_round(count: usize, rng: &mut Rng) -> Vec<Point> {
+    let (beside, clockwise) = (rng.choose(&[0, 0, 2]), rng.chance(50));
+    let corner = |at: usize| {
+        let Point { x, y } = [(-1, -1), (1, -1), (1, 1), (-1, 1)].map(|(x, y)| Point::new(x, y))[at % 4];
+        Point::new(x * (MAX_COORDINATE - rng.within(0..=beside)), y * (MAX_COORDINATE - rng.within(0..=beside)))
+    };
+    let mut round: Vec<Point> = (0..count).map(corner).collect();
+    if clockwise {
+        round.reverse();
+    }
+    if round.first() == round.last() {
+        round[count - 1] = Point::new(0, 0);
+    }
+    round
+}
+
+/// Any points, no two neighbours equal, however many there are.
+fn wandering(count: usize, rng: &mut Rng) -> Vec<Point> {
+    let reach = rng.choose(&[1, 9, 1000, MAX_COORDINATE]);
+    let mut points: Vec<Point> = Vec::with_capacity(count);
+    while points.len() < count {
+        let point = Point::new(rng.within(-reach..=reach), rng.within(-reach..=reach));
+        let closes = points.len() + 1 == count && points.first() == Some(&point);
+        if points.last() != Some(&point) && !closes {
+            points.push(point);
+        }
+    }
+    points
+}
+
+/// An owner for each contour that a lookup takes, though binding might find another; of every hundred so many are any,
+/// right or wrong.
+pub fn owners(table: &Table, any_percent: usize, rng: &mut Rng) -> Vec<u16> {
+    let hulls = table.kind.iter().filter(|&&kind| kind == 0).count();
+    let mut met = 0;
+    let mut owners = Vec::new();
+    for &kind in &table.kind {
+        let right = match kind {
+            0 => met,
+            _ if hulls == 0 => NO_OWNER,
+            _ => rng.below(hulls) as u16,
+        };
+        met += (kind == 0) as u16;
+        let any = rng.choose(&[0, 1, 2, hulls as u16, 65_534, NO_OWNER]);
+        owners.push(if rng.chance(any_percent) { any } else { right });
+    }
+    owners
 }
 
 /// So many random hulls, often with a floor under everything, so that most holes find an edge.

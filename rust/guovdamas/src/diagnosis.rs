@@ -1,7 +1,7 @@
 //! The reason of a refusal, worked out from what was lent. Nothing of it runs unless the library has refused; that it
 //! did, with which number and where, is the library's answer alone.
 
-use crate::lists::{Buffers, Lists, Table, in_range, turn};
+use crate::lists::{Buffers, Lists, ReportLists, Table, in_range, turn};
 use crate::refusal::RefusalKind::{self, *};
 use crate::{ContourDirection, MAX_LINKS};
 
@@ -33,9 +33,24 @@ pub(crate) fn of_table(
 ) -> RefusalKind {
     let (place, clockwise) = (place as usize, direction.is_clockwise());
     let reason = match number {
-        10 => wrong_table(table, owners).or_else(|| wrong_contour(table, place)),
+        10 => wrong_table(table, owners, &[]).or_else(|| wrong_contour(table, place)),
         11 => wrong_anchor(table, place, clockwise),
         12 => Some(NothingUnder),
+        _ => None,
+    };
+    reason.unwrap_or(Unknown { number })
+}
+
+/// Why the reports of a table were refused, given these owners and these lists to fill.
+pub(crate) fn of_reports(
+    number: u32,
+    place: u32,
+    table: &Table<'_>,
+    owners: usize,
+    lists: &ReportLists<'_>,
+) -> RefusalKind {
+    let reason = match number {
+        10 => wrong_table(table, owners, &lists.lengths()).or_else(|| wrong_contour(table, place as usize)),
         _ => None,
     };
     reason.unwrap_or(Unknown { number })
@@ -159,12 +174,16 @@ fn is_one_direction(o: [i32; 2], p: [i32; 2], q: [i32; 2]) -> bool {
     turn(o, p, q) == 0 && (p > o) == (q > o)
 }
 
-fn wrong_table(table: &Table<'_>, owners: usize) -> Option<RefusalKind> {
+/// What is wrong with the whole table, its owners, or one of the lists to fill, each with its name.
+fn wrong_table(table: &Table<'_>, owners: usize, lists: &[(&'static str, usize)]) -> Option<RefusalKind> {
     let (contours, points) = (table.first.len(), table.points.len() / 2);
+    let short = lists.iter().find(|(_, length)| *length < contours);
     if [table.len.len(), table.kind.len()] != [contours; 2] {
         Some(UnevenColumns)
     } else if owners < contours {
         Some(LittleRoomForOwners)
+    } else if let Some(&(list, _)) = short {
+        Some(LittleRoomForReports { list })
     } else if points > MAX_LINKS {
         Some(TooManyPoints)
     } else if table.points.len() % 2 == 1 {

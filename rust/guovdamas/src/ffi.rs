@@ -4,7 +4,7 @@
 //! alone, keeps no pointer, never unwinds, and requires nothing of what they hold. What is left to this side is that
 //! they are what they say they are, and that what may be written overlaps nothing else; Rust's references say both.
 
-use crate::lists::{Buffers, Lists, Table};
+use crate::lists::{Buffers, Lists, ReportLists, Table};
 
 #[repr(C)]
 pub(crate) struct Settings {
@@ -43,6 +43,24 @@ pub(crate) struct Record {
     pub(crate) len: u32,
 }
 
+#[repr(C)]
+pub(crate) struct Report {
+    pub(crate) found: u32,
+    pub(crate) area: f64,
+    pub(crate) left: f64,
+    pub(crate) bottom: f64,
+    pub(crate) right: f64,
+    pub(crate) top: f64,
+}
+
+#[repr(C)]
+pub(crate) struct Reports {
+    pub(crate) number: u32,
+    pub(crate) place: usize,
+    pub(crate) contours: usize,
+    pub(crate) missing: usize,
+}
+
 #[rustfmt::skip]
 unsafe extern "C" {
     fn guovdamas_extract(
@@ -70,6 +88,22 @@ unsafe extern "C" {
         owner: *const u16, owner_len: usize,
         contour: usize,
     ) -> Record;
+
+    fn guovdamas_report(
+        points: *const i32, points_len: usize,
+        first: *const u32, first_len: usize, len: *const u32, len_len: usize, kind: *const u8, kind_len: usize,
+        owner: *const u16, owner_len: usize,
+        contour: usize,
+    ) -> Report;
+
+    fn guovdamas_report_all(
+        points: *const i32, points_len: usize,
+        first: *const u32, first_len: usize, len: *const u32, len_len: usize, kind: *const u8, kind_len: usize,
+        owner: *const u16, owner_len: usize,
+        area: *mut f64, area_len: usize,
+        left: *mut f64, left_len: usize, bottom: *mut f64, bottom_len: usize,
+        right: *mut f64, right_len: usize, top: *mut f64, top_len: usize,
+    ) -> Reports;
 }
 
 #[rustfmt::skip]
@@ -117,6 +151,37 @@ pub(crate) fn lookup(table: Table<'_>, owner: &[u16], contour: usize) -> Record 
             first.as_ptr(), first.len(), len.as_ptr(), len.len(), kind.as_ptr(), kind.len(),
             owner.as_ptr(), owner.len(),
             contour,
+        )
+    }
+}
+
+#[rustfmt::skip]
+pub(crate) fn report(table: Table<'_>, owner: &[u16], contour: usize) -> Report {
+    let Table { points, first, len, kind } = table;
+    // SAFETY: as of a lookup.
+    unsafe {
+        guovdamas_report(
+            points.as_ptr(), points.len(),
+            first.as_ptr(), first.len(), len.as_ptr(), len.len(), kind.as_ptr(), kind.len(),
+            owner.as_ptr(), owner.len(),
+            contour,
+        )
+    }
+}
+
+#[rustfmt::skip]
+pub(crate) fn report_all(table: Table<'_>, owner: &[u16], lent: &mut ReportLists<'_>) -> Reports {
+    let Table { points, first, len, kind } = table;
+    let ReportLists { area, left, bottom, right, top } = lent;
+    // SAFETY: as of extraction; the five lists are the exclusive references.
+    unsafe {
+        guovdamas_report_all(
+            points.as_ptr(), points.len(),
+            first.as_ptr(), first.len(), len.as_ptr(), len.len(), kind.as_ptr(), kind.len(),
+            owner.as_ptr(), owner.len(),
+            area.as_mut_ptr(), area.len(),
+            left.as_mut_ptr(), left.len(), bottom.as_mut_ptr(), bottom.len(),
+            right.as_mut_ptr(), right.len(), top.as_mut_ptr(), top.len(),
         )
     }
 }

@@ -14,6 +14,7 @@ mod lists;
 mod options;
 mod outline;
 mod refusal;
+mod report;
 mod sides;
 pub mod study;
 mod workspace;
@@ -25,6 +26,7 @@ pub use lists::Lists;
 pub use options::{ContourDirection, Options};
 pub use outline::{Contour, ContourKind, Contours, Shape, Shapes};
 pub use refusal::{Refusal, RefusalKind};
+pub use report::{Frame, Reports};
 pub use sides::UnevenNode;
 pub use workspace::{Lending, Workspace};
 

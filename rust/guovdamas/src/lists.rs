@@ -1,4 +1,5 @@
-//! What is lent to the library: a graph's lists, the buffers that extraction writes, and a contour table.
+//! What is lent to the library: a graph's lists, the buffers that extraction writes, a contour table, and the lists
+//! that its reports fill.
 
 use crate::MAX_COORDINATE;
 
@@ -94,6 +95,34 @@ impl Table<'_> {
         let (first, len) = (*self.first.get(number)? as usize, *self.len.get(number)? as usize);
         let numbers = self.points.get(first.checked_mul(2)?..)?.get(..len.checked_mul(2)?)?;
         Some(numbers.chunks_exact(2).map(|point| [point[0], point[1]]).collect())
+    }
+}
+
+/// What the reports of a whole table fill: an entry a contour, in each list.
+#[derive(Debug)]
+pub struct ReportLists<'a> {
+    /// Signed areas in mm², positive when counterclockwise.
+    pub area: &'a mut [f64],
+    /// The least x of each contour, in mm.
+    pub left: &'a mut [f64],
+    /// The least y, in mm.
+    pub bottom: &'a mut [f64],
+    /// The greatest x, in mm.
+    pub right: &'a mut [f64],
+    /// The greatest y, in mm.
+    pub top: &'a mut [f64],
+}
+
+impl ReportLists<'_> {
+    /// Each list's name and length.
+    pub(crate) fn lengths(&self) -> [(&'static str, usize); 5] {
+        [
+            ("area", self.area.len()),
+            ("left", self.left.len()),
+            ("bottom", self.bottom.len()),
+            ("right", self.right.len()),
+            ("top", self.top.len()),
+        ]
     }
 }
 

@@ -94,7 +94,7 @@ impl Contours {
     }
 
     /// The contour table with all points.
-    fn full_table(&self) -> lent::Table<'_> {
+    pub(crate) fn full_table(&self) -> lent::Table<'_> {
         if self.options.preserve_output_collinear { self.written.table() } else { self.full.table() }
     }
 

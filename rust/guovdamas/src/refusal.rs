@@ -21,7 +21,7 @@ impl Refusal {
         Self { number, place, kind }
     }
 
-    /// The refusal's number: 1 to 9 from extraction, 10 to 12 from binding.
+    /// The refusal's number: 1 to 9 from extraction, 10 to 12 from binding, 10 from the reports of a table.
     pub fn number(&self) -> u32 {
         self.number
     }
@@ -180,6 +180,11 @@ pub enum RefusalKind {
     UnevenColumns,
     /// 10, of the whole table: there are fewer owners than contours.
     LittleRoomForOwners,
+    /// 10, of the reports of a whole table: a list to fill, named here, is shorter than the contours.
+    LittleRoomForReports {
+        /// The list's name, as `"area"` or `"left"`.
+        list: &'static str,
+    },
     /// 10, of the whole table: there are more points than [`MAX_LINKS`](crate::MAX_LINKS).
     TooManyPoints,
     /// 10, of the whole table: the points' last number is an x alone.
@@ -226,7 +231,8 @@ impl RefusalKind {
             SameDirection { .. } => 7,
             NoLinkToTake => 8,
             EndsElsewhere => 9,
-            UnevenColumns | LittleRoomForOwners | TooManyPoints | HalfAPoint | PointsLeft => 10,
+            UnevenColumns | LittleRoomForOwners | LittleRoomForReports { .. } => 10,
+            TooManyPoints | HalfAPoint | PointsLeft => 10,
             NotAdjoining | PastThePoints | FewPoints | EqualNeighbours | PointOutOfRange | WrongKind => 10,
             AnchorNotLeast | HolesOutOfOrder => 11,
             NothingUnder => 12,
@@ -297,6 +303,9 @@ impl RefusalKind {
 
     fn fmt_of_walk_or_table(&self, f: &mut fmt::Formatter<'_>) -> fmt::Result {
         use RefusalKind::*;
+        if let LittleRoomForReports { list } = self {
+            return write!(f, "the list {list} has room for fewer reports than there are contours");
+        }
         f.write_str(match self {
             NoLinkToTake => "has no unvisited link to take",
             EndsElsewhere => "ends away from where it began",

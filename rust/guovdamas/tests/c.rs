@@ -3,10 +3,12 @@
 use std::path::{Path, PathBuf};
 use std::process::Command;
 
+const HEADER: &str = include_str!("../../../include/guovdamas.h");
+
 const FOUND: &str = "\
 contours 2 shapes 1 doubled area 128
-0 hull 0: (0,10) (0,0) (10,0) (10,10)
-1 hole 0: (2,2) (2,8) (8,8) (8,2)
+0 hull 0, 0.01 mm2: (0,10) (0,0) (10,0) (10,10)
+1 hole 0, -0.0036 mm2: (2,2) (2,8) (8,8) (8,2)
 ";
 
 /// Compiles the example, as the language that the words after the compiler name, and runs it; passes where there is no
@@ -41,11 +43,74 @@ fn as_cpp17() {
 /// The header's limits are this crate's.
 #[test]
 fn limits_are_the_same() {
-    let header = include_str!("../../../include/guovdamas.h");
     let defined = |name: &str| {
-        let line = header.lines().find_map(|line| line.strip_prefix(&format!("#define GUOVDAMAS_{name} ")));
+        let line = HEADER.lines().find_map(|line| line.strip_prefix(&format!("#define GUOVDAMAS_{name} ")));
         line.unwrap_or_else(|| panic!("{name} is defined")).to_string()
     };
     assert_eq!(defined("MAX_LINKS"), guovdamas::MAX_LINKS.to_string());
     assert_eq!(defined("MAX_COORDINATE"), guovdamas::MAX_COORDINATE.to_string());
+}
+
+/// What stands between the first place of one text and the next of another.
+fn between<'a>(text: &'a str, from: &str, to: &str) -> &'a str {
+    let (_, after) = text.split_once(from).unwrap_or_else(|| panic!("{from} is there"));
+    after.split_once(to).unwrap_or_else(|| panic!("{to} is there")).0
+}
+
+/// C's names for types that Rust names otherwise.
+const TYPES: [(&str, &str); 8] = [
+    ("uint8_t", "u8"),
+    ("uint16_t", "u16"),
+    ("uint32_t", "u32"),
+    ("uint64_t", "u64"),
+    ("int32_t", "i32"),
+    ("int64_t", "i64"),
+    ("size_t", "usize"),
+    ("double", "f64"),
+];
+
+/// `const int32_t *ax` as `ax: *const i32`.
+fn in_rust(declared: &str) -> String {
+    let words: Vec<&str> = declared.split_whitespace().collect();
+    let (name, types) = words.split_last().expect("a name");
+    let of = *types.last().expect("a type");
+    let of = TYPES.iter().find(|(c, _)| *c == of).map_or(of.trim_start_matches("Guovdamas"), |(_, rust)| rust);
+    match (name.strip_prefix('*'), types[0]) {
+        (Some(name), "const") => format!("{name}: *const {of}"),
+        (Some(name), _) => format!("{name}: *mut {of}"),
+        (None, _) => format!("{name}: {of}"),
+    }
+}
+
+fn parts(list: &str, separator: char) -> impl Iterator<Item = &str> {
+    list.split(separator).map(str::trim).filter(|part| !part.is_empty())
+}
+
+/// The C compiler sees the header and rustc src/ffi.rs: both declare the same fields and parameters, in the same order.
+#[test]
+fn declarations_are_the_same() {
+    let ours = include_str!("../src/ffi.rs").replace("pub(crate) ", "");
+    let header: String = HEADER.split("/*").filter_map(|part| part.split("*/").nth(1)).collect();
+    for name in ["Settings", "Extraction", "Binding", "Record", "Report", "Reports"] {
+        let (before, _) = header.split_once(&format!("}} Guovdamas{name};")).expect("it is declared");
+        let fields = before.rsplit_once('{').expect("it has fields").1;
+        let due: Vec<&str> = parts(between(&ours, &format!("struct {name} {{"), "}"), ',').collect();
+        assert_eq!(parts(fields, ';').map(in_rust).collect::<Vec<_>>(), due, "{name}");
+    }
+    let functions = [
+        ("extract", "Extraction"),
+        ("bind", "Binding"),
+        ("lookup", "Record"),
+        ("report", "Report"),
+        ("report_all", "Reports"),
+    ];
+    for (name, answer) in functions {
+        let parameters = between(&header, &format!("Guovdamas{answer} guovdamas_{name}("), ");");
+        let due = between(&ours, &format!("fn guovdamas_{name}("), &format!(") -> {answer};"));
+        assert_eq!(
+            parts(parameters, ',').map(in_rust).collect::<Vec<_>>(),
+            parts(due, ',').collect::<Vec<_>>(),
+            "{name}"
+        );
+    }
 }

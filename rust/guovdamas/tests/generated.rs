@@ -60,6 +60,23 @@ fn every_refusal_of_a_table_has_a_reason() {
     reasons.report(14);
 }
 
+#[test]
+fn every_refusal_of_reports_has_a_reason() {
+    let mut reasons = Reasons::default();
+    for seed in 0..20_000 {
+        let mut rng = Rng::new(seed ^ 13 << 40);
+        let mut soiled = tables::sample(6, false, &mut rng);
+        let room = if rng.chance(80) { damage::table(&mut soiled, &mut rng) } else { soiled.contours() };
+        let mut lists = [(); 5].map(|()| vec![0.0; (soiled.contours() + rng.below(30)).saturating_sub(1)]);
+        let [area, left, bottom, right, top] = lists.each_mut();
+        let lists = lent::ReportLists { area, left, bottom, right, top };
+        if let Err(refusal) = lent::report_all(table(&soiled), &vec![0; room], lists) {
+            reasons.count(refusal);
+        }
+    }
+    reasons.report(12);
+}
+
 /// The total over the links that are not skipped, each directed with its filled side on the left.
 fn link_total(graph: &Graph, state: &[u8]) -> i64 {
     let unskipped = (0..graph.links()).filter(|&link| state[link] == 0);

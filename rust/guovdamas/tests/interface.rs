@@ -2,7 +2,8 @@
 
 use guovdamas::lent::Role;
 use guovdamas::{
-    ContourDirection, ContourKind, Graph, Link, Lists, Options, Segment, Shapes, UnevenNode, Workspace, lent,
+    ContourDirection, ContourKind, Frame, Graph, Link, Lists, Options, Reports, Segment, Shapes, UnevenNode, Workspace,
+    lent,
 };
 
 /// A box of four sides, filled inside or outside.
@@ -87,12 +88,50 @@ fn shapes_and_their_holes() {
 }
 
 #[test]
+fn areas_and_frames_in_millimetres() {
+    let shapes = two_boxes_with_a_hole();
+    let areas: Vec<f64> = shapes.contours().iter().map(|contour| contour.area_mm2()).collect();
+    assert_eq!(areas, [0.01, 0.01, -0.0016]);
+    let hole = shapes.contours().get(2).unwrap();
+    assert_eq!(hole.frame_mm(), Frame { left: 0.22, bottom: 0.02, right: 0.26, top: 0.06 });
+    let nets: Vec<f64> = shapes.iter().map(|shape| shape.area_mm2()).collect();
+    assert_eq!((nets, shapes.area_mm2()), (vec![0.01, 0.0084], 0.0184));
+    let Reports { area, left, bottom, right, top } = shapes.reports();
+    assert_eq!((area, left, bottom), (areas, vec![0.0, 0.2, 0.22], vec![0.0, 0.0, 0.02]));
+    assert_eq!((right, top), (vec![0.1, 0.3, 0.26], vec![0.1, 0.1, 0.06]));
+    let nothing = Graph::new().extract_shapes(Options::default()).unwrap();
+    assert_eq!((nothing.area_mm2().to_bits(), nothing.reports()), (0, Reports::default()));
+}
+
+/// A doubled area of 17 and edges of 47 and 57 are of those that would be other floats if they were rounded twice.
+#[test]
+fn areas_and_frames_are_rounded_once() {
+    let side = |a, b| Segment { a, b, fill_top: true, skipped: false };
+    let sides = [side([47, 57], [64, 57]), side([64, 57], [47, 58]), side([47, 58], [47, 57])];
+    let shapes = Graph::from_segments(sides).extract_shapes(Options::default()).unwrap();
+    assert_eq!((shapes.area_mm2(), shapes.reports().area), (0.00085, vec![0.00085]));
+    let frame = Frame { left: 0.47, bottom: 0.57, right: 0.64, top: 0.58 };
+    assert_eq!(shapes.shape(0).unwrap().hull().frame_mm(), frame);
+}
+
+/// From bound to bound: 2^40 square units.
+#[test]
+fn the_largest_square_in_millimetres() {
+    let shapes = Graph::from_segments(frame([-524_288; 2], 1 << 20, true)).extract_shapes(Options::default()).unwrap();
+    assert_eq!(shapes.area_mm2(), 109_951_162.777_6);
+    let frame = Frame { left: -5242.88, bottom: -5242.88, right: 5242.88, top: 5242.88 };
+    assert_eq!(shapes.shape(0).unwrap().hull().frame_mm(), frame);
+}
+
+#[test]
 fn holes_without_a_hull_are_dropped() {
     let shapes = Graph::from_segments(frame([0, 0], 4, false)).extract_shapes(Options::default()).unwrap();
     assert!(shapes.is_empty());
     assert_eq!((shapes.bound().dropped, shapes.owners()), (1, &[65_535][..]));
     assert_eq!(shapes.role(0), Some(Role::Dropped));
     assert_eq!(shapes.dropped_holes().count(), 1);
+    // it has a report, and belongs to no shape
+    assert_eq!((shapes.area_mm2(), shapes.reports().area), (0.0, vec![-0.0016]));
 }
 
 #[test]
@@ -252,7 +291,7 @@ fn filled_sides_alternate() {
 #[test]
 fn interfaces_cross_threads() {
     fn is_send_and_sync<T: Send + Sync>() {}
-    is_send_and_sync::<(Graph, Shapes, Workspace, guovdamas::Refusal)>();
+    is_send_and_sync::<(Graph, Shapes, Workspace, guovdamas::Refusal, Reports)>();
     let graph = Graph::from_segments(frame([0, 0], 4, true));
     let find = || graph.extract_shapes(Options::default());
     // binding and extraction fit the stack that is promised, with room for the thread itself

@@ -1,6 +1,9 @@
 //! The library against the reading of documents 01 and 02: every answer and every byte of every buffer, on generated
 //! graphs and tables, good and damaged. Seeds are fixed; the counts are printed (`cargo test -- --nocapture`).
 
+mod both;
+
+use both::{Met, compare_lookups, compare_reports};
 use generators::planar::{FAMILIES, Family, sample};
 use generators::rng::Rng;
 use generators::{Sample, damage, joints, planar, tables, wild};
@@ -10,12 +13,13 @@ use reading::graph::{Buffers, Graph};
 use reading::{Settings, bind, walk};
 use std::collections::BTreeMap;
 
-/// How often each number was answered, 0 for done, and how many of the holes that were searched pass their anchor point two,
-/// three and more times.
+/// How often each number was answered, 0 for done, how many of the holes that were searched pass their anchor point
+/// two, three and more times, and what was met by reports.
 #[derive(Default)]
 struct Tally {
     answers: BTreeMap<u32, usize>,
     again: [usize; 3],
+    reports: Met,
 }
 
 impl Tally {
@@ -40,9 +44,13 @@ impl Tally {
 
     /// Prints the counts and sees that each number was met often enough to mean something.
     fn report(&self, what: &str, numbers: &[u32]) {
-        let Self { answers, again } = self;
+        let Self { answers, again, reports } = self;
         println!("{what}: {} compared; answers by number: {answers:?}", answers.values().sum::<usize>());
         println!("  holes searched that pass their anchor two, three and more times: {again:?}");
+        reports.report(
+            "  reports",
+            &[("found", 100), ("odd areas", 20), ("tables all found", 20), ("tables refused", 20)],
+        );
         for number in numbers {
             assert!(answers.get(number).is_some_and(|&met| met >= 20), "{what}: {number} is hardly met");
         }
@@ -73,7 +81,8 @@ fn compare_extraction(graph: &Graph, lent: &Buffers, settings: Settings, tally: 
     }
 }
 
-/// Binds by both, then looks up every contour and one more; all answers and buffers must be equal.
+/// Binds by both, then looks up every contour and one more, and asks for their reports; all answers and buffers must be
+/// equal.
 fn compare_binding(lent: &Table, room: usize, clockwise: bool, tally: &mut Tally) {
     let soiled: Vec<u16> = (0..room as u16).map(|position| position.wrapping_mul(40_503)).collect();
     let (mut read, mut ours) = (soiled.clone(), soiled);
@@ -86,13 +95,7 @@ fn compare_binding(lent: &Table, room: usize, clockwise: bool, tally: &mut Tally
         tally.count_holes(lent, clockwise);
     }
     compare_lookups(lent, &read);
-}
-
-fn compare_lookups(lent: &Table, owner: &[u16]) {
-    for contour in (0..=lent.contours()).chain([usize::MAX]) {
-        let due = bind::lookup(lent, owner, contour);
-        assert_eq!((LIBRARY.lookup)(lent, owner, contour), due, "{lent:?} {owner:?} {contour}");
-    }
+    compare_reports(lent, &read, &mut tally.reports);
 }
 
 /// A direction, straight points kept or dropped, and a minimum that some of the graph's walks just meet or just miss, or one

@@ -204,6 +204,15 @@ impl Framed {
         lent::bind(table, ContourDirection::CounterClockwise, &mut vec![0; *owners])
     }
 
+    /// The reports of both contours, with lists so long.
+    fn report_all(&self, lengths: [usize; 5]) -> Result<lent::Reported, Refusal> {
+        let Self { points, first, len, kind, owners } = self;
+        let mut lists = lengths.map(|length| vec![0.0; length]);
+        let [area, left, bottom, right, top] = lists.each_mut();
+        let lists = lent::ReportLists { area, left, bottom, right, top };
+        lent::report_all(lent::Table { points, first, len, kind }, &vec![0; *owners], lists)
+    }
+
     /// A contour more.
     fn with(mut self, points: &[[i32; 2]], kind: u8) -> Self {
         self.first.push(self.points.len() as u32 / 2);
@@ -243,6 +252,27 @@ fn tables() {
         change(&mut table);
         assert_refused(table.bind().unwrap_err(), kind, place, words);
     }
+}
+
+#[test]
+fn reports() {
+    assert_eq!(Framed::new().report_all([2; 5]), Ok(lent::Reported { contours: 2, missing: 0 }));
+    for (at, list) in ["area", "left", "bottom", "right", "top"].into_iter().enumerate() {
+        let mut lengths = [2; 5];
+        lengths[at] = 1;
+        let words = format!("the list {list} has room for fewer reports than there are contours");
+        assert_refused(Framed::new().report_all(lengths).unwrap_err(), LittleRoomForReports { list }, 0, &words);
+    }
+    // of several reasons the first in their order: owners before the lists, and these before the contours
+    let mut damaged = Framed::new();
+    damaged.kind[1] = 2;
+    let words = "contour 1 has a kind other than 0 and 1";
+    assert_refused(damaged.report_all([2; 5]).unwrap_err(), WrongKind, 1, words);
+    let words = "the list left has room for fewer reports than there are contours";
+    assert_refused(damaged.report_all([2, 1, 2, 2, 0]).unwrap_err(), LittleRoomForReports { list: "left" }, 0, words);
+    damaged.owners = 1;
+    let words = "there are fewer owners than contours";
+    assert_refused(damaged.report_all([0; 5]).unwrap_err(), LittleRoomForOwners, 0, words);
 }
 
 #[test]

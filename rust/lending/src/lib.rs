@@ -4,6 +4,7 @@
 use guovdamas::{ContourDirection, Lists, Options, lent};
 use reading::bind::{Bound, Record, Role, Table};
 use reading::graph::{Buffers, Graph};
+use reading::report::{Frame, Report, ReportLists, Reported};
 use reading::walk::Counts;
 use reading::{Refusal, Settings, Side};
 
@@ -38,6 +39,12 @@ pub fn table(table: &Table) -> lent::Table<'_> {
     lent::Table { points: &table.points, first: &table.first, len: &table.len, kind: &table.kind }
 }
 
+/// The lists that reports fill.
+pub fn report_lists(lists: &mut ReportLists) -> lent::ReportLists<'_> {
+    let ReportLists { area, left, bottom, right, top } = lists;
+    lent::ReportLists { area, left, bottom, right, top }
+}
+
 /// Output direction, minimum area, and whether points on a straight line are kept.
 pub fn options(settings: Settings) -> Options {
     Options {
@@ -51,8 +58,8 @@ fn refusal(refusal: guovdamas::Refusal) -> Refusal {
     Refusal { number: refusal.number(), place: refusal.place() }
 }
 
-/// The library's three functions.
-pub const LIBRARY: Side = Side { extract, bind, lookup };
+/// The library's functions.
+pub const LIBRARY: Side = Side { extract, bind, lookup, report, report_all };
 
 fn extract(graph: &Graph, settings: Settings, lent: &mut Buffers) -> Result<Counts, Refusal> {
     let lent::Counts { contours, points, rejected, walked, left_out, kept_area, rejected_area } =
@@ -74,4 +81,16 @@ fn lookup(lent: &Table, owner: &[u16], contour: usize) -> Option<Record> {
         lent::Role::Dropped => Role::Dropped,
     };
     Some(Record { first, len, role })
+}
+
+fn report(lent: &Table, owner: &[u16], contour: usize) -> Option<Report> {
+    let lent::Report { area, frame } = lent::report(table(lent), owner, contour)?;
+    let guovdamas::Frame { left, bottom, right, top } = frame;
+    Some(Report { area, frame: Frame { left, bottom, right, top } })
+}
+
+fn report_all(lent: &Table, owner: &[u16], lists: &mut ReportLists) -> Result<Reported, Refusal> {
+    let lent::Reported { contours, missing } =
+        lent::report_all(table(lent), owner, report_lists(lists)).map_err(refusal)?;
+    Ok(Reported { contours, missing })
 }

@@ -84,7 +84,7 @@ pub fn anchor_visits(hole: &[Point], clockwise: bool) -> impl Iterator<Item = us
 }
 
 /// Check 10, first what is told of the table as a whole, then contour by contour.
-fn check_table(table: &Table, owners: usize) -> Result<(), Refusal> {
+pub(crate) fn check_table(table: &Table, owners: usize) -> Result<(), Refusal> {
     let count = table.points.len() / 2;
     let end = match table.contours() {
         0 => 0,
@@ -267,11 +267,13 @@ fn search_parents(
 /// the table fails check 10, or the owner is not right".
 pub fn lookup(table: &Table, owner: &[u16], contour: usize) -> Option<Record> {
     check_table(table, owner.len()).ok()?;
-    if contour >= table.contours() {
-        return None;
-    }
+    if contour < table.contours() { record(table, owner, contour) } else { None }
+}
+
+/// The record of a contour of a table that passed check 10, if the owner is right: "for a hull its own number, for a
+/// hole one below the hull count, or 65,535 with no hulls".
+pub(crate) fn record(table: &Table, owner: &[u16], contour: usize) -> Option<Record> {
     let (number, hulls) = (owner[contour], table.hulls());
-    // "for a hull its own number, for a hole one below the hull count, or 65,535 with no hulls".
     let role = if !table.is_hole(contour) {
         (number == table.shape_number(contour)).then_some(Role::Hull(number))
     } else if hulls == 0 {

@@ -123,7 +123,7 @@ fn e8_the_scan_stays_at_its_link() {
 }
 
 /// A table of contours, each with its kind.
-fn table(contours: &[(&[i32], u8)]) -> Table {
+pub(crate) fn table(contours: &[(&[i32], u8)]) -> Table {
     let mut table = Table::default();
     for (numbers, kind) in contours {
         let points: Vec<Point> = (0..numbers.len() / 2).map(|position| Point::in_list(numbers, position)).collect();
@@ -132,10 +132,10 @@ fn table(contours: &[(&[i32], u8)]) -> Table {
     table
 }
 
-const FIRST_HULL: (&[i32], u8) = (&[0, 10, 0, 0, 10, 0, 10, 10], 0);
-const SECOND_HULL: (&[i32], u8) = (&[20, 20, 20, 0, 30, 0, 30, 20], 0);
-const FIRST_HOLE: (&[i32], u8) = (&[22, 2, 22, 8, 28, 8, 28, 2], 1);
-const SECOND_HOLE: (&[i32], u8) = (&[23, 10, 23, 14, 27, 14, 27, 10], 1);
+pub(crate) const FIRST_HULL: (&[i32], u8) = (&[0, 10, 0, 0, 10, 0, 10, 10], 0);
+pub(crate) const SECOND_HULL: (&[i32], u8) = (&[20, 20, 20, 0, 30, 0, 30, 20], 0);
+pub(crate) const FIRST_HOLE: (&[i32], u8) = (&[22, 2, 22, 8, 28, 8, 28, 2], 1);
+pub(crate) const SECOND_HOLE: (&[i32], u8) = (&[23, 10, 23, 14, 27, 14, 27, 10], 1);
 const FAR_HOLE: (&[i32], u8) = (&[40, 2, 40, 8, 46, 8, 46, 2], 1);
 
 #[test]

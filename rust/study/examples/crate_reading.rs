@@ -5,6 +5,7 @@
 
 use guovdamas::study::Study;
 use reading::bind::{Table, bind};
+use reading::report::square_mm;
 use reading::walk::{Scan, Walk, walks};
 use std::error::Error;
 use std::{env, fs};
@@ -39,17 +40,20 @@ fn found(file: &[u8]) -> Result<Found, reading::Refusal> {
     let mut found = Found { rejected: patches(&rejected), ..Found::default() };
     let kept: Vec<Patch> = patches(&kept);
     let (holes, hulls): (Vec<Patch>, Vec<Patch>) = kept.into_iter().partition(|patch| patch.is_hole);
-    found.shapes = hulls.into_iter().map(|hull| Shape { hull, holes: Vec::new() }).collect();
+    found.shapes = hulls.into_iter().map(|hull| Shape { hull, holes: Vec::new(), net_mm2: 0.0 }).collect();
     for hole in holes {
         match found.shapes.get_mut(usize::from(owners[hole.number])) {
             Some(shape) => shape.holes.push(hole),
             None => found.dropped.push(hole),
         }
     }
+    found.shapes.iter_mut().for_each(|shape| shape.net_mm2 = square_mm(shape.doubled_net()));
+    found.net_mm2 = square_mm(found.doubled_net());
     Ok(found)
 }
 
 fn patch(number: usize, walk: &Walk) -> Patch {
     let points = walk.points.iter().map(|point| [point.x, point.y]).collect();
-    Patch { number, is_hole: walk.hole, points, doubled_area: walk.doubled_area().abs() }
+    let doubled_area = walk.doubled_area().abs();
+    Patch { number, is_hole: walk.hole, points, doubled_area, area_mm2: square_mm(doubled_area) }
 }

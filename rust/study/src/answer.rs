@@ -9,7 +9,7 @@ use guovdamas::{Contour, ContourDirection, ContourKind, Contours, Refusal, Shape
 pub type Point = [i32; 2];
 
 /// A walk that closed: a contour, or a patch that was rejected.
-#[derive(Clone, Debug, PartialEq, Eq)]
+#[derive(Clone, Debug, PartialEq)]
 pub struct Patch {
     /// In the order found: among the contours, or among the rejected patches.
     pub number: usize,
@@ -17,14 +17,18 @@ pub struct Patch {
     pub points: Vec<Point>,
     /// Doubled; positive if it runs as the output direction asks of its kind.
     pub doubled_area: i128,
+    /// The same in mm², as the library reports it: what is drawn. What is shown in words is exact, however large.
+    pub area_mm2: f64,
 }
 
 impl Patch {
     pub fn new(number: usize, contour: &Contour<'_>, direction: ContourDirection) -> Self {
         let is_hole = contour.kind() == ContourKind::Hole;
+        let is_turned = is_hole != direction.is_clockwise();
         let area = i128::from(contour.doubled_area());
-        let doubled_area = if is_hole == direction.is_clockwise() { area } else { -area };
-        Self { number, is_hole, points: contour.points().to_vec(), doubled_area }
+        let doubled_area = if is_turned { -area } else { area };
+        let area_mm2 = turned(contour.area_mm2(), is_turned);
+        Self { number, is_hole, points: contour.points().to_vec(), doubled_area, area_mm2 }
     }
 
     pub fn kind(&self) -> &'static str {
@@ -32,10 +36,17 @@ impl Patch {
     }
 }
 
-#[derive(Clone, Debug, PartialEq, Eq)]
+/// An area with its sign turned round, if so; 0 stays 0, and is not -0.
+fn turned(area_mm2: f64, is_turned: bool) -> f64 {
+    if is_turned { 0.0 - area_mm2 } else { area_mm2 }
+}
+
+#[derive(Clone, Debug, PartialEq)]
 pub struct Shape {
     pub hull: Patch,
     pub holes: Vec<Patch>,
+    /// The hull less its holes in mm², rounded once.
+    pub net_mm2: f64,
 }
 
 impl Shape {
@@ -50,9 +61,11 @@ fn doubled_sum(patches: &[Patch]) -> i128 {
 }
 
 /// An answer that is no refusal.
-#[derive(Clone, Debug, Default, PartialEq, Eq)]
+#[derive(Clone, Debug, Default, PartialEq)]
 pub struct Found {
     pub shapes: Vec<Shape>,
+    /// All shapes in mm², rounded once.
+    pub net_mm2: f64,
     /// Holes without a shape, since there is none.
     pub dropped: Vec<Patch>,
     /// Walks below the minimum.
@@ -64,7 +77,7 @@ pub struct Found {
 impl Found {
     /// What is written: hulls, holes and dropped holes.
     pub fn contours(&self) -> impl Iterator<Item = &Patch> {
-        let shapes = self.shapes.iter().flat_map(|Shape { hull, holes }| [hull].into_iter().chain(holes));
+        let shapes = self.shapes.iter().flat_map(|Shape { hull, holes, .. }| [hull].into_iter().chain(holes));
         shapes.chain(&self.dropped)
     }
 
@@ -87,7 +100,7 @@ impl Found {
 }
 
 /// What a refusal speaks of.
-#[derive(Clone, Debug, PartialEq, Eq)]
+#[derive(Clone, Debug, PartialEq)]
 pub enum Place {
     /// The graph as a whole.
     Whole,
@@ -96,13 +109,13 @@ pub enum Place {
     Contour(Patch),
 }
 
-#[derive(Clone, Debug, PartialEq, Eq)]
+#[derive(Clone, Debug, PartialEq)]
 pub struct Refused {
     pub refusal: Refusal,
     pub place: Place,
 }
 
-#[derive(Clone, Debug, PartialEq, Eq)]
+#[derive(Clone, Debug, PartialEq)]
 pub enum Answer {
     Found(Found),
     Refused(Refused),
@@ -131,12 +144,17 @@ fn place(study: &Study, refusal: Refusal) -> Place {
 }
 
 fn found(study: &Study, shapes: &Shapes) -> Result<Found, String> {
-    let patch = |contour: Contour<'_>| Patch::new(contour.number(), &contour, study.options.output_direction);
+    let direction = study.options.output_direction;
+    let patch = |contour: Contour<'_>| Patch::new(contour.number(), &contour, direction);
+    let net = |area_mm2: f64| turned(area_mm2, direction.is_clockwise());
+    let shape = |shape: guovdamas::Shape<'_>| Shape {
+        hull: patch(shape.hull()),
+        holes: shape.holes().map(patch).collect(),
+        net_mm2: net(shape.area_mm2()),
+    };
     Ok(Found {
-        shapes: shapes
-            .iter()
-            .map(|shape| Shape { hull: patch(shape.hull()), holes: shape.holes().map(patch).collect() })
-            .collect(),
+        shapes: shapes.iter().map(shape).collect(),
+        net_mm2: net(shapes.area_mm2()),
         dropped: shapes.dropped_holes().map(patch).collect(),
         rejected: rejected(study, shapes.contours().counts())?,
         straight_dropped: !study.options.preserve_output_collinear,

@@ -34,15 +34,15 @@ pub fn study(title: &str, study: &Study) -> Result<String, String> {
 pub fn found(title: &str, links: &[Link], found: &Found) -> String {
     let heading = format!(
         "{title}: {}, {}, {}",
-        sum(found.shapes.len(), "shape", found.doubled_net()),
+        sum(found.shapes.len(), "shape", &found.net_mm2.to_string()),
         rejected(found),
-        sum(found.dropped.len(), "dropped hole", found.doubled_dropped()),
+        sum(found.dropped.len(), "dropped hole", &square_mm(found.doubled_dropped())),
     );
     // a number and its unit are not parted by the end of a line
     let heading = heading.replace(" mm²", "\u{a0}mm²");
     let sheet = Sheet::new(Frame::of_links(links), &heading, INK, entries(links, found));
     let mut svg = Svg::default();
-    for (number, Shape { hull, holes }) in found.shapes.iter().enumerate() {
+    for (number, Shape { hull, holes, .. }) in found.shapes.iter().enumerate() {
         let rings: Vec<Vec<Pixel>> = [hull].into_iter().chain(holes).map(|patch| sheet.ring(&patch.points)).collect();
         svg.path(rings.iter().map(Vec::as_slice), true, &shape_colours(number).style());
     }
@@ -66,10 +66,10 @@ fn draw_points(svg: &mut Svg, sheet: &Sheet, found: &Found) {
     }
 }
 
-fn sum(number: usize, word: &str, doubled: i128) -> String {
+fn sum(number: usize, word: &str, area: &str) -> String {
     match number {
         0 => format!("no {word}"),
-        _ => format!("{} of {} mm²", count(number, word), square_mm(doubled)),
+        _ => format!("{} of {area} mm²", count(number, word)),
     }
 }
 
@@ -108,13 +108,13 @@ fn entries(links: &[Link], found: &Found) -> Vec<Entry> {
     for (patches, what) in groups {
         for patch in patches.iter().take(LISTED) {
             let colours = if what == "dropped" { DROPPED } else { rejected_colours(patch) };
-            let area = square_mm(patch.doubled_area);
-            entries.push(entry(colours, format!("{what} {}: {area} mm² ({})", patch.number, patch.kind())));
+            let Patch { number, area_mm2, .. } = patch;
+            entries.push(entry(colours, format!("{what} {number}: {area_mm2} mm² ({})", patch.kind())));
         }
         entries.extend(rest(patches, &format!("more {what} patch"), |patch| patch.doubled_area));
     }
     entries.extend(skipped_entry(links));
-    let mut totals = vec![format!("net in all: {} mm²", square_mm(found.doubled_net()))];
+    let mut totals = vec![format!("net in all: {} mm²", found.net_mm2)];
     if !found.rejected.is_empty() {
         totals.push(format!("rejected in all:{}", rejected_words(found).trim_start_matches(" of")));
     }
@@ -130,20 +130,16 @@ fn entries(links: &[Link], found: &Found) -> Vec<Entry> {
 }
 
 fn shape_words(number: usize, shape: &Shape) -> String {
-    let Shape { hull, holes } = shape;
-    let net = square_mm(shape.doubled_net());
-    match holes.len() {
-        0 => format!("shape {number}: {net} mm²"),
+    let Shape { hull, holes, net_mm2 } = shape;
+    let less = match holes.len() {
+        0 => return format!("shape {number}: {net_mm2} mm²"),
         1..=TOLD => {
-            let holes = holes.iter().map(|hole| format!("hole {}, {}", hole.number, square_mm(hole.doubled_area)));
-            let holes = holes.collect::<Vec<_>>().join(", and ");
-            format!("shape {number}: {net} mm² (hull {} less {holes})", square_mm(hull.doubled_area))
+            let holes = holes.iter().map(|hole| format!("hole {}, {}", hole.number, hole.area_mm2));
+            holes.collect::<Vec<_>>().join(", and ")
         }
-        more => {
-            let hull = square_mm(hull.doubled_area);
-            format!("shape {number}: {net} mm² (hull {hull} less {})", count(more, "hole"))
-        }
-    }
+        more => count(more, "hole"),
+    };
+    format!("shape {number}: {net_mm2} mm² (hull {} less {less})", hull.area_mm2)
 }
 
 /// One line for those that have none.
@@ -156,27 +152,26 @@ fn rest<T>(all: &[T], what: &str, doubled: impl Fn(&T) -> i128) -> Option<Entry>
 fn draw_labels(svg: &mut Svg, sheet: &Sheet, found: &Found, skipped: Vec<Edge>) {
     let mut items: Vec<Item> = Vec::new();
     let mut colours: Vec<String> = Vec::new();
-    let mut label = |patch: &Patch, what: String, short: String, doubled: i128, colour: Colours| {
-        let long = vec![what, format!("{} mm²", square_mm(doubled))];
+    let mut label = |patch: &Patch, what: String, short: String, area_mm2: f64, colour: Colours| {
+        let long = vec![what, format!("{area_mm2} mm²")];
         items.push(Item { ring: sheet.ring(&patch.points), long, short });
         colours.push(colour.line());
     };
     // those that come first are the first to get a leader line
     for patch in &found.rejected {
         let number = patch.number;
-        label(patch, format!("rejected {number}"), format!("r{number}"), patch.doubled_area, REJECTED);
+        label(patch, format!("rejected {number}"), format!("r{number}"), patch.area_mm2, REJECTED);
     }
     for (number, shape) in found.shapes.iter().enumerate() {
-        let net = shape.doubled_net();
-        label(&shape.hull, format!("shape {number}"), number.to_string(), net, shape_colours(number));
+        label(&shape.hull, format!("shape {number}"), number.to_string(), shape.net_mm2, shape_colours(number));
     }
     for hole in &found.dropped {
-        label(hole, format!("dropped hole {}", hole.number), format!("d{}", hole.number), hole.doubled_area, DROPPED);
+        label(hole, format!("dropped hole {}", hole.number), format!("d{}", hole.number), hole.area_mm2, DROPPED);
     }
     for (number, shape) in found.shapes.iter().enumerate() {
         for hole in &shape.holes {
             let what = format!("hole {} of {number}", hole.number);
-            label(hole, what, format!("h{}", hole.number), hole.doubled_area, DROPPED);
+            label(hole, what, format!("h{}", hole.number), hole.area_mm2, DROPPED);
         }
     }
     let spots = Labels::new(sheet.area(), &items, skipped).place(&items);

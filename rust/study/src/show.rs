@@ -121,7 +121,7 @@ pub fn rejected_words(found: &Found) -> String {
 }
 
 fn shape_words(number: usize, shape: &Shape) -> String {
-    let Shape { hull, holes } = shape;
+    let Shape { hull, holes, .. } = shape;
     let less = match holes.len() {
         0 => String::new(),
         some => format!(" (hull {} less {})", square_mm(hull.doubled_area), count(some, "hole")),

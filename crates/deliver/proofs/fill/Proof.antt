@@ -28,7 +28,8 @@ loop-less : tie.Need-loop-less Inv-loop μ-loop
 loop-less c = let s = c .before .before in omega (arith, s .pre, c .before .loop .inv .len)
 
 loop-again : tie.Need-loop-again Inv-loop μ-loop
-loop-again c = let s = c .before .before in let l = c .before .loop in fill-more 0 _ (l .owner) _ _ (l .i) (l .inv) (omega (arith, s .pre)) (c .loop-test .taken)
+loop-again c = let s = c .before .before in
+    let l = c .before .loop in fill-more 0 _ (l .owner) _ _ (l .i) (l .inv) (omega (arith, s .pre)) (c .loop-test .taken)
 
 same-length : tie.Need-same-length Inv-loop μ-loop
 same-length c = c .before .loop .inv .len

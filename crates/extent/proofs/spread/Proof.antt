@@ -20,8 +20,10 @@ greater-requires-2 c κs = search needs
 returns : tie.Need-returns
 returns c =
     let s = c .before .before .before .before .before .before .before .before .before .before .before .before .args in
-    let g = c .before .before .before .before .before .before .before .before .before .before .before .struct-told .given in let h = c .before .before .before .before .before .before .before .before .before .before .struct-told2 .given in
-    let l = c .before .before .before .before .before .before .before .before .before .lesser in let b = c .before .before .before .before .before .before .lesser2 in let r = c .before .before .before .greater in let t = c .greater2 in
+    let g = c .before .before .before .before .before .before .before .before .before .before .before .struct-told .given in
+    let h = c .before .before .before .before .before .before .before .before .before .before .struct-told2 .given in
+    let l = c .before .before .before .before .before .before .before .before .before .lesser in
+    let b = c .before .before .before .before .before .before .lesser2 in let r = c .before .before .before .greater in let t = c .greater2 in
     let x = toZ-ofZ w32 (s .p .x) (record { sfits = h .0 .1 }) in
     let y = toZ-ofZ w32 (s .p .y) (record { sfits = h .1 .0 .1 }) in
     let left = rw (toZ-ofZ w32 (s .e .left) (record { sfits = g .0 .1 }), x) at (l .ensures) in

@@ -26,7 +26,8 @@ same-length-5 : tie.Need-same-length-5
 same-length-5 c = search needs
 
 returns : tie.Need-returns
-returns c = reports-numbered (c .reports-of .ensures) (c .before .before .before .before .before .before .before .before .before .before .before .report-all .ensures)
+returns c = reports-numbered (c .reports-of .ensures) (c .before .before .before .before .before .before .before .before .before .before .before
+    .report-all .ensures)
 
 pub guovdamas-report-all-spec : {M : Type 1} → statement M
 guovdamas-report-all-spec = tie.close (tie.spec report-all-requires reports-of-requires same-length same-length-2

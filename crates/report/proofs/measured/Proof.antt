@@ -35,15 +35,14 @@ part-run-end c = search needs
 
 doubled-area-requires : tie.Need-doubled-area-requires
 doubled-area-requires c κs =
-    let s = c .before .before .before in
-    part-asked (s .args .points .now) (c .before .before .wide .result) (c .before .wide2 .result) (omega (arith, c .before .before .wide .ensures, c .before .wide2 .ensures, s .pre .1))
-    (s .pre .2) (s .pre .3)
+    let s = c .before .before .before in let f = c .before .before .wide in let n = c .before .wide2 in
+    part-asked (s .args .points .now) (f .result) (n .result) (omega (arith, f .ensures, n .ensures, s .pre .1)) (s .pre .2) (s .pre .3)
 
 square-millimetres-requires : tie.Need-square-millimetres-requires
 square-millimetres-requires c κs =
-    let s = c .before .before .before .before in let w = c .doubled-area in
-    let h = area-exact (s .args .points .now) (c .before .before .before .wide .result) (c .before .before .wide2 .result) (omega (arith, c .before .before .before .wide .ensures, c .before .before .wide2 .ensures, s .pre .1))
-    (s .pre .2) (s .pre .3) (w .result) (w .ensures .1) in
+    let s = c .before .before .before .before in let f = c .before .before .before .wide in let n = c .before .before .wide2 in let w = c .doubled-area in
+    let h = area-exact (s .args .points .now) (f .result) (n .result) (omega (arith, f .ensures, n .ensures, s .pre .1)) (s .pre .2) (s .pre .3) (w .result)
+    (w .ensures .1) in
     rw (same64 (w .result) (omega arith)) h
 
 extent-of-requires : tie.Need-extent-of-requires
@@ -54,28 +53,15 @@ frame-of-requires c κs = search needs
 
 returns : tie.Need-returns
 returns c =
-    let s = c .before .before .before .before .before .before .before in let w = c .before .before .before .doubled-area in
-    let h = area-exact (s .args .points .now) (c .before .before .before .before .before .before .wide .result) (c .before .before .before .before .before .wide2 .result) (omega (arith, c .before .before .before .before .before .before .wide .ensures, c .before .before .before .before .before .wide2 .ensures, s .pre .1))
-    (s .pre .2) (s .pre .3) (w .result) (w .ensures .1) in
-    measured-so (s .args .points .now) (c .before .before .before .before .before .before .wide .result) (c .before .before .before .before .before .wide2 .result) (s .args .first) (s .args .len) (c .before .before .before .before .before .before .wide .ensures) (c .before .before .before .before .before .wide2 .ensures)
-    (c .before .before .square-millimetres .result) (w .result) (c .frame-of .result) (c .before .extent-of .result)
-    (rw (same64 (w .result) (omega arith)) at (c .before .before .square-millimetres .ensures)) (w .ensures .0) (c .frame-of .ensures) (c .before .extent-of .ensures)
+    let s = c .before .before .before .before .before .before .before in let f = c .before .before .before .before .before .before .wide in
+    let n = c .before .before .before .before .before .wide2 in
+    let w = c .before .before .before .doubled-area in let q = c .before .before .square-millimetres in let e = c .before .extent-of in
+    let h = area-exact (s .args .points .now) (f .result) (n .result) (omega (arith, f .ensures, n .ensures, s .pre .1)) (s .pre .2) (s .pre .3) (w .result)
+    (w .ensures .1) in
+    measured-so (s .args .points .now) (f .result) (n .result) (s .args .first) (s .args .len) (f .ensures) (n .ensures) (q .result) (w .result)
+    (c .frame-of .result) (e .result) (rw (same64 (w .result) (omega arith)) at (q .ensures)) (w .ensures .0) (c .frame-of .ensures) (e .ensures)
 
 pub measured-spec : {M : Type 1} → statement M
-measured-spec =
-    tie.close
-    (tie.spec
-    wide-requires
-    mul-from
-    wide-requires-2
-    mul-to
-    add-to
-    mul-run
-    sub-run
-    part-run-start
-    part-run-end
-    doubled-area-requires
-    square-millimetres-requires
-    extent-of-requires
-    frame-of-requires
-    returns)
+measured-spec = tie.close (tie.spec wide-requires mul-from wide-requires-2 mul-to add-to mul-run sub-run
+    part-run-start part-run-end doubled-area-requires square-millimetres-requires extent-of-requires
+    frame-of-requires returns)

@@ -20,7 +20,8 @@ enum-known-found c = search needs
 measured-requires : tie.Need-measured-requires
 measured-requires c κs =
     let s = c .before .before .before .before .before .before .before .before in
-    room (t-of s) (now (s .args .owner)) (s .args .contour) (c .before .found .given .0 .0) (sym (c .before .before .before .lookup .ensures .0) ∙ c .before .found .given .1)
+    room (t-of s) (now (s .args .owner)) (s .args .contour) (c .before .found .given .0 .0) (sym (c .before .before .before .lookup .ensures .0)
+    ∙ c .before .found .given .1)
 
 enum-told : tie.Need-enum-told
 enum-told c = search needs
@@ -29,7 +30,8 @@ returns : tie.Need-returns
 returns c =
     let s = c .before .before .before .before .before .before .before .before .before in
     let e = c .measured .ensures
-    ∙ found-is (t-of s) (now (s .args .owner)) (s .args .contour) (c .before .before .found .given .0 .0) (sym (c .before .before .before .before .lookup .ensures .0) ∙ c .before .before .found .given .1) in
+    ∙ found-is (t-of s) (now (s .args .owner)) (s .args .contour) (c .before .before .found .given .0 .0)
+    (sym (c .before .before .before .before .lookup .ensures .0) ∙ c .before .before .found .given .1) in
     (e, ap valuesOfReport e ∙ reported-values (t-of s) (now (s .args .owner)) (s .args .contour))
 
 returns-2 : tie.Need-returns-2

@@ -26,9 +26,11 @@ enum-told c = search needs
 
 fill-lists-requires : tie.Need-fill-lists-requires
 fill-lists-requires c κs =
-    let s = c .before .before .before .before .before .before .before .before .before .before .before .before .before .before .before .before .before .before in
+    let k = c .before .before .before .before .before .before .before in
+    let s = k .before .before .before .before .before .before .before .before .before .before .before in
     fine-room (t-of s) (now (s .args .owner)) (lists s)
-    (ap (tableChecked (t-of s)) (sym (c .before .before .before .before .before .before .before .before .shortest .ensures)) ∙ sym (c .before .before .before .before .before .before .before .check-table .ensures .2) ∙ c .before .before .before .before .before .enum-told .given .1)
+    (ap (tableChecked (t-of s)) (sym (k .before .shortest .ensures)) ∙ sym (k .check-table .ensures .2)
+    ∙ c .before .before .before .before .before .enum-told .given .1)
 
 enum-known-number : tie.Need-enum-known-number
 enum-known-number c = search needs
@@ -50,30 +52,20 @@ same-length-5 c = search needs
 
 returns : tie.Need-returns
 returns c =
-    let s = c .before .before .before .before .before .before .before .before .before .before .before .before .before .before .before .before .before .before .before .before .before .before .before .before .before .before .before .before .before in
+    let f = c .before .before .before .before .before .before .before .before .before .before in
+    let k = f .before .before .before .before .before .before .before .before in
+    let s = k .before .before .before .before .before .before .before .before .before .before .before in
     all-filled (t-of s) (now (s .args .owner)) (lists s) _ _
-    (ap (tableChecked (t-of s)) (sym (c .before .before .before .before .before .before .before .before .before .before .before .before .before .before .before .before .before .before .before .shortest .ensures)) ∙ sym (c .before .before .before .before .before .before .before .before .before .before .before .before .before .before .before .before .before .before .check-table .ensures .2) ∙ c .before .before .before .before .before .before .before .before .before .before .before .before .before .before .before .before .enum-told .given .1)
-    (c .before .before .before .before .before .before .before .before .before .before .fill-lists .ensures)
+    (ap (tableChecked (t-of s)) (sym (k .before .shortest .ensures)) ∙ sym (k .check-table .ensures .2)
+    ∙ f .before .before .before .before .before .before .enum-told .given .1)
+    (f .fill-lists .ensures)
 
 returns-2 : tie.Need-returns-2
 returns-2 c =
-    let s = c .before .before .before .before .before .before .before .before .before .before .before .before .before .before in
+    let k = c .before .before .before in let s = k .before .before .before .before .before .before .before .before .before .before .before in
     all-refused (t-of s) (now (s .args .owner)) (lists s) _ _
-    (ap (tableChecked (t-of s)) (sym (c .before .before .before .before .shortest .ensures)) ∙ sym (c .before .before .before .check-table .ensures .2) ∙ c .before .number .given .1)
+    (ap (tableChecked (t-of s)) (sym (k .before .shortest .ensures)) ∙ sym (k .check-table .ensures .2) ∙ c .before .number .given .1)
 
 pub report-all-spec : {M : Type 1} → statement M
-report-all-spec =
-    tie.close
-    (tie.spec
-    shortest-requires
-    check-table-requires
-    enum-told
-    fill-lists-requires
-    enum-known-number
-    same-length
-    same-length-2
-    same-length-3
-    same-length-4
-    same-length-5
-    returns
-    returns-2)
+report-all-spec = tie.close (tie.spec shortest-requires check-table-requires enum-told fill-lists-requires
+    enum-known-number same-length same-length-2 same-length-3 same-length-4 same-length-5 returns returns-2)

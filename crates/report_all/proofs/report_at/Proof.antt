@@ -35,7 +35,8 @@ shared-slice-read-measured-2 : tie.Need-shared-slice-read-measured-2
 shared-slice-read-measured-2 c = search needs
 
 measured-requires : tie.Need-measured-requires
-measured-requires c κs = let s = c .before .before .before .before .before .before .before .before .before .before in contour-room (t-of s) (s .pre .0) (s .args .c) (s .pre .1)
+measured-requires c κs = let s = c .before .before .before .before .before .before .before .before .before .before in contour-room (t-of s)
+    (s .pre .0) (s .args .c) (s .pre .1)
 
 returns : tie.Need-returns
 returns c = chosen _ _ _ _ _ (c .before .before .before .before .owner-right .ensures) (c .before .before .before .if1 .taken) (c .measured .ensures)
@@ -44,17 +45,6 @@ returns-2 : tie.Need-returns-2
 returns-2 c = passed-over _ _ _ _ (c .before .owner-right .ensures) (c .if1 .left)
 
 pub report-at-spec : {M : Type 1} → statement M
-report-at-spec =
-    tie.close
-    (tie.spec
-    shared-slice-read-owner-right
-    mul-owner-right
-    shared-slice-read-owner-right-2
-    owner-right-requires
-    mul-measured
-    shared-slice-read-measured
-    mul-measured-2
-    shared-slice-read-measured-2
-    measured-requires
-    returns
-    returns-2)
+report-at-spec = tie.close (tie.spec shared-slice-read-owner-right mul-owner-right shared-slice-read-owner-right-2
+    owner-right-requires mul-measured shared-slice-read-measured mul-measured-2 shared-slice-read-measured-2
+    measured-requires returns returns-2)

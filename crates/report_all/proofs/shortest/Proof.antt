@@ -25,15 +25,9 @@ returns c =
     let s = c .before .before .before .before .before .args in
     c .lesser5 .ensures
     ∙ ap (min (s .owner)) (c .before .lesser4 .ensures
-    ∙ ap (min (s .area)) (c .before .before .lesser3 .ensures ∙ ap (min (s .left)) (c .before .before .before .lesser2 .ensures ∙ ap (min (s .bottom)) (c .before .before .before .before .lesser .ensures))))
+    ∙ ap (min (s .area)) (c .before .before .lesser3 .ensures ∙ ap (min (s .left)) (c .before .before .before .lesser2 .ensures
+    ∙ ap (min (s .bottom)) (c .before .before .before .before .lesser .ensures))))
 
 pub shortest-spec : {M : Type 1} → statement M
-shortest-spec =
-    tie.close
-    (tie.spec
-    lesser-requires
-    lesser-requires-2
-    lesser-requires-3
-    lesser-requires-4
-    lesser-requires-5
-    returns)
+shortest-spec = tie.close (tie.spec lesser-requires lesser-requires-2 lesser-requires-3 lesser-requires-4
+    lesser-requires-5 returns)

@@ -13,6 +13,8 @@ use guovdamas::study::Study;
 use look::{bytes, cases, path, tags, texts};
 use reading::Settings;
 use reading::file::{self, encode};
+use study::answer::{Answer, Patch, Shape, answer};
+use study::units::square_mm;
 use study::{draw, show, text};
 
 fn case(name: &str) -> Vec<u8> {
@@ -132,10 +134,34 @@ fn pictures_are_well_formed_and_labels_apart() {
     }
 }
 
+/// Sees that each area as it is shown, exact, reads as the float that the library reports, and is drawn in the same
+/// digits; how many there are.
+fn hold_areas(study: &Study) -> usize {
+    let Answer::Found(found) = answer(study).expect("it is answered") else { return 0 };
+    let patch = |patch: &Patch| (patch.doubled_area, patch.area_mm2);
+    let shape = |shape: &Shape| (shape.doubled_net(), shape.net_mm2);
+    let mut areas: Vec<(i128, f64)> = found.contours().chain(&found.rejected).map(patch).collect();
+    areas.extend(found.shapes.iter().map(shape));
+    areas.push((found.doubled_net(), found.net_mm2));
+    for (doubled, reported) in &areas {
+        let shown = square_mm(*doubled);
+        assert_eq!(shown.parse::<f64>().map(f64::to_bits), Ok(reported.to_bits()), "{shown}");
+        assert_eq!(reported.to_string(), shown);
+    }
+    areas.len()
+}
+
+#[test]
+fn areas_are_those_that_the_library_reports() {
+    let areas: usize = studies().iter().map(|(_, study)| hold_areas(study)).sum();
+    let study = Study::parse(&bytes("rust-data/study.graph")).expect("it is right");
+    assert!(areas > 200 && hold_areas(&study) > 5, "{areas}");
+}
+
 /// Graphs with crosses, holes, islands, skipped links, rejected patches, and walks that are refused.
 #[test]
 fn generated_studies() {
-    let mut refused = 0;
+    let (mut refused, mut areas) = (0, 0);
     for seed in 0..240 {
         let mut rng = Rng::new(seed ^ 9 << 40);
         let sample = match seed % 3 {
@@ -150,9 +176,10 @@ fn generated_studies() {
         assert_eq!(text::make(&text::dump(&study)).expect("it is right").encode().as_ref(), Ok(&bytes));
         let svg = draw::study("generated", &study).unwrap_or_else(|error| panic!("{seed}: {error}"));
         texts(&svg);
+        areas += hold_areas(&study);
         refused += usize::from(words(&bytes).contains("\nrefused "));
     }
-    assert!((10..230).contains(&refused), "{refused} are refused");
+    assert!((10..230).contains(&refused) && areas > 1000, "{refused} are refused, {areas} areas");
 }
 
 /// The square of seven links: three of its points are straight. With all of them no point is drawn, without them the others.
