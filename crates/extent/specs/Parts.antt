@@ -6,6 +6,7 @@ use mathlib.Core.Path.{_≡_, refl, sym, ap, ap₂, _∙_}
 use mathlib.Core.List.{List, [], _∷_}
 use lib.IntN.{ℤ, pos}
 use lib.ListN.{length, getD, take, drop}
+use lib.Seq.{getD-drop}
 use Rattle.turn.specs.declared.Point.{Point}
 use Rattle.turn.specs.Area.{pointsOf}
 use Rattle.table.specs.Table.{pointIn}
@@ -51,3 +52,13 @@ points-end (x ∷ []) zero h = refl
 points-end (x ∷ []) (suc n) h = refl
 points-end (x ∷ (y ∷ l)) zero h = absurd (omega arith)
 points-end (x ∷ (y ∷ l)) (suc n) h = points-end l n (omega arith)
+
+pub points-at : (d : Point) (l : List ℤ) (n : ℕ) → n < length l / 2 → getD (pointsOf l) n d ≡ pointIn l n
+points-at d l n h =
+    let e : n ≡ n + 0 = omega arith in
+    ap (λ i. getD (pointsOf l) i d) e ∙ sym (getD-drop n (pointsOf l) 0 d) ∙ ap (λ (r : List Point). getD r 0 d) (points-on l n h)
+
+pub points-many : (l : List ℤ) → length (pointsOf l) ≡ length l / 2
+points-many [] = refl
+points-many (x ∷ []) = refl
+points-many (x ∷ (y ∷ l)) = let h = points-many l in omega arith

@@ -102,8 +102,8 @@ module _ (t : Table) (s : Sound t) (c : ℕ) (l : c < contourCount t) where
   as-part : contour t c ≡ pointsOf (take (lenOf t c * 2) (drop (firstOf t c * 2) (t .points)))
   as-part = sym (points-part (t .points) (firstOf t c) (lenOf t c))
 
-  few : length (contour t c) ≤ maxLinks
-  few = omega (arith, length-take (lenOf t c) (drop (firstOf t c) (pointsOf (t .points))), s .within c l, s .few)
+  pub points-few : length (contour t c) ≤ maxLinks
+  points-few = omega (arith, length-take (lenOf t c) (drop (firstOf t c) (pointsOf (t .points))), s .within c l, s .few)
 
   pub on-grid : (p : Point) → List·Memᴰ p (contour t c) → OnGrid p
   on-grid =
@@ -112,7 +112,7 @@ module _ (t : Table) (s : Sound t) (c : ℕ) (l : c < contourCount t) where
 
   -- with at most 4,096 points the doubled area is below 2^53: each point adds at most 2^39
   pub area-small : natAbs (area (contour t c)) < 2 ^ 53
-  area-small = omega (arith, area-bound (contour t c) on-grid, few)
+  area-small = omega (arith, area-bound (contour t c) on-grid, points-few)
 
   -- it has a first point
   some : contour t c ≡ pointIn (t .points) (firstOf t c) ∷ take (lenOf t c - 1) (drop (suc (firstOf t c)) (pointsOf (t .points)))

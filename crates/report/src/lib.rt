@@ -1,12 +1,15 @@
 // The report of a contour: its area and its frame in millimetres, or that there is no such contour.
 use lookup::records::Lookup;
+use millimetres::Frame;
 use records::Report;
 use records::ReportValues;
+ghost use mathlib.Core.Path.{_≡_};
 ghost use Prim.Native.Nat.{_+_, _*_, _≤_};
 ghost use lib.ListN.{length};
 ghost use Rattle.turn.specs.Limits.{maxLinks};
 ghost use Rattle.turn.specs.Points.{Grid};
 ghost use Rattle.table.specs.Table.{Table, table};
+ghost use Rattle.report.specs.Reports.{valuesWith};
 ghost use Rattle.report.specs.Promises.{measured-says, values-of-says, report-says};
 
 pub mod records;
@@ -27,19 +30,26 @@ pub fn measured(points: &[i32], first: u32, len: u32) -> Report
     }
 }
 
+// The values of a report that is there.
+fn values_with(area: f64, frame: Frame) -> ReportValues
+    ensures { λ v. ⌜ v ≡ valuesWith area frame ⌝ }
+{
+    ReportValues {
+        found: 1,
+        area: area,
+        left: frame.left,
+        bottom: frame.bottom,
+        right: frame.right,
+        top: frame.top,
+    }
+}
+
 // A report's values.
 pub fn values_of(r: Report) -> ReportValues
     ensures { λ v. ⌜ values-of-says r v ⌝ }
 {
     match r {
-        Report::Contour { area, frame } => ReportValues {
-            found: 1,
-            area: area,
-            left: frame.left,
-            bottom: frame.bottom,
-            right: frame.right,
-            top: frame.top,
-        },
+        Report::Contour { area, frame } => values_with(area, frame),
         Report::Missing => {
             let none = millimetres::no_number();
             ReportValues {

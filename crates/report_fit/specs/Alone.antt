@@ -8,9 +8,9 @@ use mathlib.Core.Logic.{⊎-elim}
 use mathlib.Core.Bool.{Bool, true, false}
 use mathlib.Core.List.{List, [], _∷_, List·Memᴰ, List·Memᴰ·head, List·Memᴰ·tail, List·Memᴰ·cases-cons}
 use lib.IntN.{ℤ, pos}
-use lib.ListN.{length, getD, take, drop}
+use lib.ListN.{length, getD, take, drop, length-take, length-drop}
 use borrow.Author.Tests.{le-ltb}
-use lib.Seq.{take-all}
+use lib.Seq.{take-all, getD-take, getD-drop}
 use Rattle.laws.specs.Test.{pick, pick-false, true≢false}
 use Rattle.laws.specs.Sign.{zer, sgn, eqS}
 use Rattle.laws.specs.Count.{count}
@@ -21,17 +21,30 @@ use Rattle.turn.specs.declared.Checked.the-variants.{Fine}
 use Rattle.turn.specs.Points.{differ, OnGrid, Grid, turn}
 use Rattle.turn.specs.Area.{pointsOf}
 use Rattle.turn.specs.PointOrder.{same-of-differ}
-use Rattle.keep.specs.Outcome.{coordinates}
-use Rattle.keep.specs.Ledger.{coordinates-length, points-back}
+use Rattle.graph.specs.Graph.{Graph, Lent, graphOf}
+use Rattle.walk.specs.Walk.{Walk, points}
+use Rattle.keep.specs.declared.Counts.{Counts}
+use Rattle.keep.specs.Outcome.{kept, lens, coordinates}
+use Rattle.keep.specs.Ledger.{coordinates-length, points-back, firsts-length}
+use Rattle.scan.specs.declared.Extraction.the-variants.{Done}
+use Rattle.finish.specs.Finish.{Buffers}
+use Rattle.extraction.specs.Extract.{extractedAs, extracted}
+use Rattle.outlines.specs.Straightening.{AllSpikeless, kept-spikeless}
+use Rattle.smooth.specs.Spikes.{spikeless}
+use Rattle.fit.specs.Places.{tableOf, walkAt, lens-length}
+use Rattle.fit.specs.Sizes.{table-sound}
+use Rattle.fit.specs.Fit.{writtenTable, Ran, ran}
+use Rattle.fit.specs.Enclosed.{contour-is}
 use Rattle.straighten.specs.Reread.{origin, coordinates-at}
-use Rattle.table.specs.Table.{Table, table, contour, contourCount, pointCount, firstOf, rangeEnd, point, next, nextIn}
+use Rattle.table.specs.Table.{Table, table, contour, contourCount, pointCount, firstOf, lenOf, rangeEnd, point, next, nextIn}
 use Rattle.table.specs.TableChecks.{tableChecked}
 use Rattle.table.specs.TableLaws.{next-inside, next-last}
 use Rattle.table.specs.Sound.{Sound}
 use Rattle.table.specs.Passing.{passes-sound}
 use Rattle.lookup.specs.LookupLaws.{found-record}
 use Rattle.report.specs.Reports.{measured, reported}
-use Rattle.report.specs.ReportLaws.{measured-is}
+use Rattle.extent.specs.Parts.{points-at, points-many}
+use Rattle.report.specs.ReportLaws.{measured-is, points-few, on-grid}
 use Rattle.straight.specs.Straight.{onLine, headOr, lastOr, without, removeLowest, removal, removals, dropStraight}
 use Rattle.straight.specs.Corners.{Spikeless, corners, allCorners, corners-left, corners-few, enough}
 
@@ -96,6 +109,48 @@ module _ (l : List Point) (three : 3 ≤ length l) (few : length l ≤ maxLinks)
   alone-reported =
       sym (measured-is (alone l) (0 ∷ []) 0 _ (found-record (alone l) (0 ∷ []) 0 (record { below = omega arith; passes = alone-fine; owned = refl })))
       ∙ ap measured contour-alone
+
+-- ---- a contour of a table that passes check 10
+module _ (t : Table) (s : Sound t) (c : ℕ) (l : c < contourCount t) where
+  contour-long : length (contour t c) ≡ lenOf t c
+  contour-long =
+      let n = length-take (lenOf t c) (drop (firstOf t c) (pointsOf (t .points))) in
+      let r = length-drop (firstOf t c) (pointsOf (t .points)) in
+      omega (arith, n, r, points-many (t .points), s .within c l)
+
+  contour-at : (k : ℕ) → k < lenOf t c → getD (contour t c) k origin ≡ point t (firstOf t c + k)
+  contour-at k h =
+      getD-take (lenOf t c) (drop (firstOf t c) (pointsOf (t .points))) k origin h ∙ getD-drop (firstOf t c) (pointsOf (t .points)) k origin
+      ∙ points-at origin (t .points) (firstOf t c + k) (omega (arith, s .within c l))
+
+  contour-apart : Apart (contour t c)
+  contour-apart k h = go (ℕ-discrete (k + 1) (lenOf t c))
+    where
+      in-range : k < lenOf t c
+      in-range = omega (arith, contour-long)
+
+      there : differ (point t (firstOf t c + k)) (point t (next t c (firstOf t c + k))) ≡ true
+      there = s .neighbours c (firstOf t c + k) l (omega arith) (omega (arith, in-range))
+
+      both : (i : ℕ) → nextIn 0 (length (contour t c)) k ≡ i → i < lenOf t c → next t c (firstOf t c + k) ≡ firstOf t c + i
+          → differ (getD (contour t c) k origin) (getD (contour t c) (nextIn 0 (length (contour t c)) k) origin) ≡ true
+      both i e m f =
+          ap₂ differ (contour-at k in-range) (ap (λ n. getD (contour t c) n origin) e ∙ contour-at i m ∙ ap (point t) (sym f)) ∙ there
+
+      go : Dec (k + 1 ≡ lenOf t c) → differ (getD (contour t c) k origin) (getD (contour t c) (nextIn 0 (length (contour t c)) k) origin) ≡ true
+      go (yes e) =
+          let z : firstOf t c ≡ firstOf t c + 0 = omega arith in
+          both 0 (next-last 0 (length (contour t c)) k (omega (arith, contour-long))) (omega (arith, in-range))
+          (next-last (firstOf t c) (rangeEnd t c) (firstOf t c + k) (omega arith) ∙ z)
+      go (no n) =
+          let z : firstOf t c + k + 1 ≡ firstOf t c + (k + 1) = omega arith in
+          both (k + 1) (next-inside 0 (length (contour t c)) k (omega (arith, contour-long, in-range))) (omega (arith, in-range))
+          (next-inside (firstOf t c) (rangeEnd t c) (firstOf t c + k) (omega (arith, in-range)) ∙ z)
+
+  -- The theorem: it is reported by itself.
+  pub contour-reported : reported (alone (contour t c)) (0 ∷ []) 0 ≡ measured (contour t c)
+  contour-reported =
+      alone-reported (contour t c) (omega (arith, contour-long, s .long c l)) (points-few t s c l) (on-grid t s c l) contour-apart
 
 -- ---- without its straight points
 -- as many removals as there are points have left nothing to remove
@@ -185,7 +240,8 @@ settled-apart [] h e k m = absurd (nothing k m)
   where
     nothing : (k : ℕ) → k < 0 → ⊥
     nothing k h = omega arith
-settled-apart (p ∷ l) h e k m = round-apart p l (bent (lastOr p l) p (p ∷ l) (sym (pick-false (p ∷ l) (removeLowest (p ∷ l)) (le-ltb (length (p ∷ l)) 3 h)) ∙ e)) k m
+settled-apart (p ∷ l) h e k m = round-apart p l (bent (lastOr p l) p (p ∷ l)
+    (sym (pick-false (p ∷ l) (removeLowest (p ∷ l)) (le-ltb (length (p ∷ l)) 3 h)) ∙ e)) k m
 
 -- what is left was there
 kept-of : (prev home : Point) (l : List Point) (q : Point) → List·Memᴰ q (corners prev home l) → List·Memᴰ q l
@@ -208,3 +264,40 @@ straight-reported l s h few on =
     let three : 3 ≤ length (dropStraight l) = rw (c .0) (c .1) in
     let less : length (dropStraight l) ≤ maxLinks = rw (c .0) (omega (arith, corners-few l)) in
     alone-reported (dropStraight l) three less (λ q m. on q (corners-of l q (rw (c .0) at m))) (settled-apart (dropStraight l) three (none-left l))
+
+-- ---- what extraction wrote
+one-of : (g : Graph) (ks : List Walk) → AllSpikeless g ks → (c : ℕ) → c < length ks → Spikeless (points g (walkAt ks c))
+one-of g [] a c h = absurd (nothing c h)
+  where
+    nothing : (c : ℕ) → c < 0 → ⊥
+    nothing c h = omega arith
+one-of g (w ∷ ks) a zero h = a .0 .0
+one-of g (w ∷ ks) a (suc c) h = one-of g ks (a .1) c (omega arith)
+
+-- The theorem: each contour of a table that extraction wrote is reported by itself without its straight points too.
+module _ (g : Lent) (top : List ℕ) (cw : Bool) (minimum : ℕ) (b b′ : Buffers) (n : Counts) (h : extractedAs (Done n) b′ ≡ extracted g top cw minimum b) where
+  pub written-reported : (c : ℕ) → c < contourCount (writtenTable n b′)
+      → reported (alone (dropStraight (contour (writtenTable n b′) c))) (0 ∷ []) 0 ≡ measured (dropStraight (contour (writtenTable n b′) c))
+  written-reported c l = subst So (sym (q .table-is)) go l
+    where
+      q : Ran g top cw minimum b b′ n
+      q = ran g top cw minimum b b′ n h
+
+      ks : List Walk
+      ks = kept (graphOf g top) minimum (q .all)
+
+      t : Table
+      t = tableOf (graphOf g top) ks
+
+      sound : Sound t
+      sound = table-sound g top (b .state) _ (q .fine-graph) cw minimum (q .all) (q .states) (q .scanned-as)
+
+      So : Table → Type 0
+      So u = c < contourCount u → reported (alone (dropStraight (contour u c))) (0 ∷ []) 0 ≡ measured (dropStraight (contour u c))
+
+      go : So t
+      go m =
+          let k : c < length ks = omega (arith, firsts-length 0 (lens ks), lens-length ks) in
+          let smooth = kept-spikeless (graphOf g top) minimum (q .all) (spikeless g top (b .state) _ cw (q .fine-graph) (q .all) (q .states) (q .scanned-as)) in
+          straight-reported (contour t c) (rw (contour-is (graphOf g top) ks c k) (one-of (graphOf g top) ks smooth c k))
+          (omega (arith, contour-long t sound c m, sound .long c m)) (points-few t sound c m) (on-grid t sound c m)

@@ -168,7 +168,7 @@ impl Shapes {
         let mut reports = Reports { area, left, bottom, right, top };
         let Reports { area, left, bottom, right, top } = &mut reports;
         let lists = ReportLists { area, left, bottom, right, top };
-        // the table that binding has bound: of it every contour is reported, and areas and frames are the same on all points
+        // the table that binding has bound: of it every contour is reported
         let reported = lent::report_all(self.contours().full_table(), self.owners(), lists);
         let Reported { contours: written, missing } = reported.expect("what was bound passes check 10");
         debug_assert_eq!((written as usize, missing), (contours, 0), "binding has made the owners");
