@@ -33,6 +33,16 @@ use Rattle.straighten.specs.Reread.{origin}
 use Rattle.outlines.specs.Grid.{walked-below, kept-of, kept-sum, points-on-grid}
 use Rattle.walk.specs.States.{unvisited-some}
 
+-- points on the grid, written as x and y in turn
+pub grid-of : (l : List Point) → ((q : Point) → List·Memᴰ q l → OnGrid q) → Grid (coordinates l)
+grid-of [] a i h = absurd (nothing i h)
+  where
+    nothing : (i : ℕ) → i < 0 → ⊥
+    nothing i h = omega arith
+grid-of (q ∷ l) a zero h = a q (List·Memᴰ·head refl) .0
+grid-of (q ∷ l) a (suc zero) h = a q (List·Memᴰ·head refl) .1
+grid-of (q ∷ l) a (suc (suc i)) h = grid-of l (λ x m. a x (List·Memᴰ·tail m)) i (omega arith)
+
 module _ (g : Lent) (top st : List ℕ) (r : Room) (e : checked g top st r ≡ Fine) (cw : Bool) (minimum : ℕ) (ws : List Walk) (after : List ℕ)
     (s : scan (graphOf g top) cw st ≡ walks ws after) where
   abbrev G : Graph
@@ -75,15 +85,6 @@ module _ (g : Lent) (top st : List ℕ) (r : Room) (e : checked g top st r ≡ F
 
   grid-all : (q : Point) → List·Memᴰ q (allPoints G ks) → OnGrid q
   grid-all = points-on-grid G (G .n) (left-grid g top st r f) ks (λ w m. links-in w (kept-of G minimum ws w m))
-
-  grid-of : (l : List Point) → ((q : Point) → List·Memᴰ q l → OnGrid q) → Grid (coordinates l)
-  grid-of [] a i h = absurd (nothing i h)
-    where
-      nothing : (i : ℕ) → i < 0 → ⊥
-      nothing i h = omega arith
-  grid-of (q ∷ l) a zero h = a q (List·Memᴰ·head refl) .0
-  grid-of (q ∷ l) a (suc zero) h = a q (List·Memᴰ·head refl) .1
-  grid-of (q ∷ l) a (suc (suc i)) h = grid-of l (λ x m. a x (List·Memᴰ·tail m)) i (omega arith)
 
   abbrev t : Table
   t = tableOf G ks

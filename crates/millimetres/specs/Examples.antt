@@ -1,6 +1,6 @@
 -- Areas and edges in millimetres, by the bits of their floats: each is the float nearest to the exact number.
 use mathlib.Core.Path.{_≡_, refl}
-use mathlib.Core.List.{List, [], _∷_, map}
+use mathlib.Core.List.{[], _∷_, map}
 use Prim.Native.Nat.{ℕ}
 use lib.IntN.{ℤ, pos, negsuc}
 use lib.Ieee.{binary64, div, ofInt, toBits}

@@ -1,10 +1,10 @@
 -- A report's values are numbers exactly where there is a report: no NaN stands for a contour that is there.
-use Prim.Native.Nat.{ℕ, _*_, _≤_, _<_}
+use Prim.Native.Nat.{ℕ, _<_}
 use native.Mathlib.Omega.{arith}
-use mathlib.Core.Path.{_≡_, refl, sym, ap, _∙_, subst}
+use mathlib.Core.Path.{_≡_, refl, sym, subst}
 use mathlib.Core.Bool.{true, false}
-use mathlib.Core.List.{List, List·Memᴰ}
-use lib.IntN.{ℤ, natAbs}
+use mathlib.Core.List.{List}
+use lib.IntN.{ℤ}
 use lib.ListN.{length}
 use lib.Ieee.{isNan}
 use Rattle.laws.specs.Test.{true≢false}
@@ -18,7 +18,6 @@ use Rattle.lookup.specs.declared.records.Lookup.{Lookup}
 use Rattle.lookup.specs.declared.records.Lookup.the-variants as lookup
 use Rattle.lookup.specs.Lookups.{lookedUp}
 use Rattle.lookup.specs.LookupLaws.{found-present}
-use Rattle.extent.specs.Extent.{extentOf}
 use Rattle.extent.specs.Bounds.{Foremost}
 use Rattle.millimetres.specs.Millimetres.{millimetres}
 use Rattle.millimetres.specs.Exact.{quotient-number}

@@ -1,19 +1,17 @@
 -- A report is missing exactly where the lookup is. Where it is not, its area is exact before it is divided, and its frame encloses the contour.
-use Prim.Native.Nat.{ℕ, zero, suc, _+_, _*_, _-_, _/_, _^_, _≤_, _<_}
+use Prim.Native.Nat.{ℕ, suc, _+_, _*_, _-_, _^_, _≤_, _<_}
 use native.Mathlib.Omega.{arith}
-use mathlib.Core.Path.{_≡_, refl, sym, ap, ap₂, _∙_, subst}
-use mathlib.Core.Bool.{Bool, true, false}
+use mathlib.Core.Path.{_≡_, refl, sym, ap, ap₂, _∙_}
 use mathlib.Core.List.{List, _∷_, List·Memᴰ}
-use lib.IntN.{ℤ, pos, natAbs}
-use lib.ListN.{length, take, drop, length-take, length-drop}
+use lib.IntN.{natAbs}
+use lib.ListN.{length, take, drop, length-take}
 use lib.Dec.{eqb}
-use lib.Ieee.{isNan}
 use Rattle.laws.specs.Test.{pick}
 use Rattle.laws.specs.Fails.{Iff}
-use Rattle.turn.specs.Limits.{maxLinks, maxCoordinate}
+use Rattle.turn.specs.Limits.{maxLinks}
 use Rattle.turn.specs.declared.Point.{Point}
-use Rattle.turn.specs.Points.{Coord, OnGrid, Grid}
-use Rattle.turn.specs.Area.{area, pointsOf, wedgeBound}
+use Rattle.turn.specs.Points.{OnGrid, Grid}
+use Rattle.turn.specs.Area.{area, pointsOf}
 use Rattle.turn.specs.Areas.{area-bound}
 use Rattle.turn.specs.Grids.{grid-part, grid-points}
 use Rattle.table.specs.Table.{Table, contour, contourCount, firstOf, lenOf, pointIn}
@@ -22,13 +20,12 @@ use Rattle.table.specs.Passing.{passes-sound}
 use Rattle.lookup.specs.declared.records.ContourRecord.{ContourRecord}
 use Rattle.lookup.specs.declared.records.Lookup.{Lookup}
 use Rattle.lookup.specs.declared.records.Lookup.the-variants as lookup
-use Rattle.lookup.specs.Lookups.{LookupValues, recordOf, lookedUp, valuesOfLookup, lookedUpValues}
+use Rattle.lookup.specs.Lookups.{LookupValues, recordOf, lookedUp, valuesOfLookup}
 use Rattle.lookup.specs.LookupLaws.{Present, found-record, found-present, looked-up-values}
 use Rattle.extent.specs.Extent.{extentOf}
 use Rattle.extent.specs.Parts.{points-part, points-on}
 use Rattle.extent.specs.Bounds.{Encloses, extent-encloses}
-use Rattle.report.specs.declared.records.Report.{Report}
-use Rattle.report.specs.declared.records.Report.the-variants.{Contour, Missing}
+use Rattle.report.specs.declared.records.Report.the-variants.{Missing}
 use Rattle.report.specs.Reports.{measured, reportBy, reported, noValues, valuesOfReport, valuesOf, reportedValues}
 
 -- ---- by the lookup's two cases

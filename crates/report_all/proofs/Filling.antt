@@ -12,13 +12,11 @@ use Rattle.laws.specs.Test.{pick}
 use Rattle.laws.specs.Count.{sum, count-none, count-more}
 use Rattle.laws.specs.Lists.{tabulate}
 use Rattle.laws.specs.Copies.{Copying, copy-start, list-more, list-end}
-use Rattle.table.specs.Table.{Table, contour, contourCount, kindOf, shapeOf}
+use Rattle.table.specs.Table.{Table, contourCount, kindOf, shapeOf}
 use Rattle.table.specs.TableLaws.{bit-small}
 use Rattle.table.specs.Sound.{Sound}
-use Rattle.lookup.specs.Lookups.{ownerRight}
 use Rattle.report.specs.declared.records.Report.{Report}
-use Rattle.report.specs.declared.records.Report.the-variants.{Missing}
-use Rattle.report.specs.Reports.{measured, reported, valuesOfReport}
+use Rattle.report.specs.Reports.{reported, valuesOfReport}
 use Rattle.report.specs.declared.records.ReportValues.{ReportValues}
 use Rattle.report_all.specs.Columns.{Columns, Room, isMissing, stored, entryAt, missingBelow, counted, allEntered}
 

@@ -1,7 +1,7 @@
 -- Each entry is what the contour's own report answers, and the lists past the contours are as they were; 10 is check 10's, asked with the lists' room.
-use Prim.Native.Nat.{ℕ, _+_, _≤_, _<_, min}
+use Prim.Native.Nat.{ℕ, _≤_, _<_}
 use native.Mathlib.Omega.{arith}
-use mathlib.Core.Path.{_≡_, refl, sym, ap, ap₂, _∙_}
+use mathlib.Core.Path.{_≡_, refl, sym, ap, _∙_}
 use mathlib.Core.Bool.{Bool, true, false}
 use mathlib.Core.List.{List}
 use lib.ListN.{length, getD}
@@ -9,15 +9,13 @@ use lib.Ieee.{Float}
 use borrow.Author.Tests.{lt-ltb}
 use Rattle.laws.specs.Test.{pick}
 use Rattle.laws.specs.Lists.{front-at, front-rest}
-use Rattle.turn.specs.declared.Checked.{Checked}
 use Rattle.turn.specs.declared.Checked.the-variants as check
 use Rattle.table.specs.Table.{Table, contour, contourCount, kindOf, shapeOf, hullCount}
 use Rattle.table.specs.TableChecks.{tableChecked}
 use Rattle.table.specs.Sound.{Sound}
 use Rattle.table.specs.Passing.{passes-sound}
 use Rattle.lookup.specs.declared.records.Lookup.the-variants as lookup
-use Rattle.lookup.specs.Lookups.{ownerRight, recordOf, recordIfRight, lookedUp}
-use Rattle.report.specs.declared.records.Report.{Report}
+use Rattle.lookup.specs.Lookups.{ownerRight, recordOf, lookedUp}
 use Rattle.report.specs.declared.records.Report.the-variants.{Missing}
 use Rattle.report.specs.Reports.{measured, reportBy, reported}
 use Rattle.report.specs.declared.records.ReportValues.{ReportValues}

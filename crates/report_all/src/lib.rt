@@ -4,7 +4,7 @@ use report::records::Report;
 use report::records::ReportValues;
 use turn::Checked;
 ghost use mathlib.Core.Path.{_≡_};
-ghost use Prim.Native.Nat.{ℕ, _+_, _^_, _<_, _≤_, min};
+ghost use Prim.Native.Nat.{_+_, _^_, _<_, _≤_, min};
 ghost use lib.ListN.{length};
 ghost use Rattle.laws.specs.Test.{pick};
 ghost use Rattle.table.specs.Table.{Table, table};

@@ -1,6 +1,7 @@
 -- A contour lent by itself, as a table of one hull with owner 0, is reported: one of a table that passes check 10, with its straight points or without.
-use Prim.Native.Nat.{ℕ, zero, suc, _+_, _*_, _-_, _/_, _≤_, _<_}
+use Prim.Native.Nat.{ℕ, zero, suc, _+_, _*_, _-_, _≤_, _<_}
 use native.Mathlib.Omega.{arith}
+use native.Mathlib.Nat.{not-suc-le-zero}
 use native.Mathlib.Numerals.{add-one}
 use native.Mathlib.Decide.{ℕ-discrete}
 use mathlib.Core.Path.{_≡_, refl, sym, ap, ap₂, _∙_, subst}
@@ -18,7 +19,7 @@ use Rattle.laws.specs.Ring.{ring, var, con, _:-_, _:*_}
 use Rattle.turn.specs.Limits.{maxLinks}
 use Rattle.turn.specs.declared.Point.{Point}
 use Rattle.turn.specs.declared.Checked.the-variants.{Fine}
-use Rattle.turn.specs.Points.{differ, OnGrid, Grid, turn}
+use Rattle.turn.specs.Points.{differ, OnGrid, turn}
 use Rattle.turn.specs.Area.{pointsOf}
 use Rattle.turn.specs.PointOrder.{same-of-differ}
 use Rattle.graph.specs.Graph.{Graph, Lent, graphOf}
@@ -32,11 +33,11 @@ use Rattle.extraction.specs.Extract.{extractedAs, extracted}
 use Rattle.outlines.specs.Straightening.{AllSpikeless, kept-spikeless}
 use Rattle.smooth.specs.Spikes.{spikeless}
 use Rattle.fit.specs.Places.{tableOf, walkAt, lens-length}
-use Rattle.fit.specs.Sizes.{table-sound}
+use Rattle.fit.specs.Sizes.{grid-of, table-sound}
 use Rattle.fit.specs.Fit.{writtenTable, Ran, ran}
 use Rattle.fit.specs.Enclosed.{contour-is}
 use Rattle.straighten.specs.Reread.{origin, coordinates-at}
-use Rattle.table.specs.Table.{Table, table, contour, contourCount, pointCount, firstOf, lenOf, rangeEnd, point, next, nextIn}
+use Rattle.table.specs.Table.{Table, table, contour, contourCount, firstOf, lenOf, rangeEnd, point, next, nextIn}
 use Rattle.table.specs.TableChecks.{tableChecked}
 use Rattle.table.specs.TableLaws.{next-inside, next-last}
 use Rattle.table.specs.Sound.{Sound}
@@ -57,15 +58,6 @@ AllOn l = (p : Point) → List·Memᴰ p l → OnGrid p
 -- round it no point is the next
 abbrev pub Apart : List Point → Type 0
 Apart l = (k : ℕ) → k < length l → differ (getD l k origin) (getD l (nextIn 0 (length l) k) origin) ≡ true
-
-grid-of : (l : List Point) → AllOn l → Grid (coordinates l)
-grid-of [] a i h = absurd (nothing i h)
-  where
-    nothing : (i : ℕ) → i < 0 → ⊥
-    nothing i h = omega arith
-grid-of (q ∷ l) a zero h = a q (List·Memᴰ·head refl) .0
-grid-of (q ∷ l) a (suc zero) h = a q (List·Memᴰ·head refl) .1
-grid-of (q ∷ l) a (suc (suc i)) h = grid-of l (λ x m. a x (List·Memᴰ·tail m)) i (omega arith)
 
 module _ (l : List Point) (three : 3 ≤ length l) (few : length l ≤ maxLinks) (on : AllOn l) (apart : Apart l) where
   alone-sound : Sound (alone l)
@@ -200,19 +192,13 @@ bends-apart a b c h = by (differ b c) refl
 
 bent-apart : (prev home : Point) (l : List Point) → Bent prev home l → (k : ℕ) → k < length l
     → differ (getD l k origin) (headOr home (drop (suc k) l)) ≡ true
-bent-apart prev home [] b k h = absurd (nothing k h)
-  where
-    nothing : (k : ℕ) → k < 0 → ⊥
-    nothing k h = omega arith
+bent-apart prev home [] b k h = absurd (not-suc-le-zero h)
 bent-apart prev home (p ∷ l) b zero h = bends-apart prev p (headOr home l) (b .0)
 bent-apart prev home (p ∷ l) b (suc k) h = bent-apart p home l (b .1) k (omega arith)
 
 -- the one after the last is the first
 head-at : (home : Point) (l : List Point) (k : ℕ) → k < length l → headOr home (drop k l) ≡ getD l k origin
-head-at home [] k h = absurd (nothing k h)
-  where
-    nothing : (k : ℕ) → k < 0 → ⊥
-    nothing k h = omega arith
+head-at home [] k h = absurd (not-suc-le-zero h)
 head-at home (p ∷ l) zero h = refl
 head-at home (p ∷ l) (suc k) h = head-at home l k (omega arith)
 
@@ -236,10 +222,7 @@ round-apart p l b k h = go (ℕ-discrete (k + 1) (length (p ∷ l)))
         ∙ ap (differ (getD (p ∷ l) k origin)) (sym (head-at p (p ∷ l) (suc k) (omega arith))) ∙ d
 
 settled-apart : (l : List Point) → 3 ≤ length l → removal l ≡ l → Apart l
-settled-apart [] h e k m = absurd (nothing k m)
-  where
-    nothing : (k : ℕ) → k < 0 → ⊥
-    nothing k h = omega arith
+settled-apart [] h e k m = absurd (not-suc-le-zero m)
 settled-apart (p ∷ l) h e k m = round-apart p l (bent (lastOr p l) p (p ∷ l)
     (sym (pick-false (p ∷ l) (removeLowest (p ∷ l)) (le-ltb (length (p ∷ l)) 3 h)) ∙ e)) k m
 
@@ -267,10 +250,7 @@ straight-reported l s h few on =
 
 -- ---- what extraction wrote
 one-of : (g : Graph) (ks : List Walk) → AllSpikeless g ks → (c : ℕ) → c < length ks → Spikeless (points g (walkAt ks c))
-one-of g [] a c h = absurd (nothing c h)
-  where
-    nothing : (c : ℕ) → c < 0 → ⊥
-    nothing c h = omega arith
+one-of g [] a c h = absurd (not-suc-le-zero h)
 one-of g (w ∷ ks) a zero h = a .0 .0
 one-of g (w ∷ ks) a (suc c) h = one-of g ks (a .1) c (omega arith)
 

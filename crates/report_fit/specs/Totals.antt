@@ -1,12 +1,12 @@
 -- After extraction and binding have succeeded every contour is reported, none is missing, and the doubled areas behind the reports sum to the kept total.
-use Prim.Native.Nat.{ℕ, zero, suc, _≤_, _<_}
+use Prim.Native.Nat.{ℕ, _<_}
 use native.Mathlib.Omega.{arith}
-use mathlib.Core.Path.{_≡_, refl, sym, ap, _∙_}
+use mathlib.Core.Path.{_≡_, sym, ap, _∙_}
 use mathlib.Core.Bool.{Bool}
 use mathlib.Core.List.{List}
 use lib.IntN.{ℤ, pos}
 use Rattle.laws.specs.Test.{pick}
-use Rattle.laws.specs.Count.{sum, sum-same as counts-same, sum-const}
+use Rattle.laws.specs.Count.{sum-same as counts-same, sum-const}
 use Rattle.turn.specs.Area.{area}
 use Rattle.graph.specs.Graph.{Lent}
 use Rattle.keep.specs.declared.Counts.{Counts}

@@ -1,1 +1,1 @@
-// The layers fit: what extraction writes passes binding's checks. The theorems stand in specs/; there is no function here.
+// Reports fit extraction and binding: every contour is reported, and the areas behind add up. The theorems stand in specs/; there is no function here.

@@ -1,14 +1,14 @@
 -- Lists of coordinates within the bounds: so is every part of one, and so are the points that it holds.
-use Prim.Native.Nat.{ℕ, suc, _+_, _<_}
+use Prim.Native.Nat.{ℕ, suc, _+_}
 use native.Mathlib.Omega.{arith}
 use mathlib.Core.Path.{_≡_, sym, _∙_, subst}
 use mathlib.Core.Logic.{⊎-elim}
 use mathlib.Core.List.{List, [], _∷_, List·Memᴰ, List·Memᴰ·not-nil, List·Memᴰ·cases-cons}
 use lib.IntN.{ℤ, pos}
-use lib.ListN.{length, take, drop, length-take, length-drop}
+use lib.ListN.{take, drop, length-take, length-drop}
 use lib.Seq.{getD-take, getD-drop}
 use Rattle.turn.specs.declared.Point.{Point}
-use Rattle.turn.specs.Points.{Coord, OnGrid, Grid}
+use Rattle.turn.specs.Points.{OnGrid, Grid}
 use Rattle.turn.specs.Area.{pointsOf}
 
 pub grid-part : (l : List ℤ) (from n : ℕ) → Grid l → Grid (take n (drop from l))

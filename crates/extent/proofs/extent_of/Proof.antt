@@ -1,7 +1,6 @@
 -- `extent_of`: the loop goes from point to point.
 use Prim.Native.Nat.{_-_}
 use native.Mathlib.Omega.{arith}
-use lib.ListN.{length}
 use borrow.Author.Needs.{needs}
 use Rattle.extent.proofs.Reaching.{Reached, first, onward, last}
 use Rattle.extent.proofs.extent_of.Statement.{statement}
