@@ -58,7 +58,7 @@ pub record Stands (d : Float) (k : Columns) (c : ℕ) (e : ReportValues) : Type 
   pub right : getD (k .right) c d ≡ e .right
   pub top : getD (k .top) c d ≡ e .top
 
--- from entry c on nothing has changed
+-- entry c of five lists is as it was
 pub record Stays (d : Float) (k l : Columns) (c : ℕ) : Type 0 where
   pub area : getD (l .area) c d ≡ getD (k .area) c d
   pub left : getD (l .left) c d ≡ getD (k .left) c d
