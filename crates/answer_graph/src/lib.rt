@@ -48,7 +48,6 @@ fn answer_contours(
         clockwise: clockwise,
         minimum: minimum,
         drop_straight: false,
-        ogc: false,
     };
     let extraction = extract::extract(
         ax, ay, bx, by, a_id, b_id, start, list, top, settings, state, points, first, len, kind,

@@ -1,6 +1,4 @@
 -- The definitions that the contracts cite, then the laws of them.
 pub mod Outcome
 pub mod Examples
-pub mod Handing
-pub mod Places
 pub mod Promises

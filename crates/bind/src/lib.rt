@@ -3,7 +3,7 @@ ghost use Rattle.std.specs.Prelude.{◌≡◌, ℕ, ◌<◌, ◌≤◌, length};
 ghost use Rattle.table.specs.Table.{Table, table};
 ghost use Rattle.table.specs.Sound.{Sound};
 ghost use Rattle.anchor.specs.Anchored.{Anchored};
-ghost use Rattle.owners.specs.Owners.{by_hulls, searched_owners};
+ghost use Rattle.owners.specs.Owners.{owners_of};
 ghost use Rattle.bind.specs.Outcome.{outcome, handed};
 ghost use Rattle.bind.specs.Promises.{BindSays};
 
@@ -29,7 +29,7 @@ fn bind_sound(
     requires { (let t : Table = table points.now first.now len.now kind.now in
         (Sound t) × (Anchored t clockwise) × (length first.now ≤ length owner.old)) }
     ensures { (let t : Table = table points.now first.now len.now kind.now in
-        outcome result owner.new ≡ handed t (by_hulls t (searched_owners t clockwise)) owner.old) }
+        outcome result owner.new ≡ handed t (owners_of t clockwise) owner.old) }
 {
     let n = first.len();
     let hulls = table::hulls_before(kind, n);

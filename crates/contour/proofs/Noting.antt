@@ -19,10 +19,14 @@ use Rattle.walk.specs.declared.Ended.TheVariants as ended
 use Rattle.contour.specs.declared.Noted.{Noted}
 use Rattle.contour.specs.declared.Noted.TheVariants as noting
 use Rattle.keep.specs.Tables.{sum_within, Tables, tables, enter, enter_kept, enter_rejected, noted, Within}
-use Rattle.walk.specs.Walk.{Step, Walk, Walked, stuck, done, left}
+use Rattle.walk.specs.Walk.{Step, Walk, Walked, stuck, done, left, mark_of}
 use Rattle.keep.specs.Ledger.{kept_three}
-use Rattle.walk.specs.Code.{paste, finished, WalkLeaves, Counted, Sized}
+use Rattle.walk.specs.Code.{paste, Marks, finished, WalkLeaves, Counted, Sized}
 use Rattle.contour.specs.Notes.{WalkNoted, Fewer, within_less}
+
+pub marks_of : (hole : Bool) → Marks (mark_of hole)
+marks_of true = omega arith
+marks_of false = omega arith
 
 -- ---- what the walk was, by how the code ended
 pub record Finish (g : Graph) (pts : List ℤ) (at : ℕ) (o : Walked) (f : Finished) (st' : List ℕ) (pts' : List ℤ) : Type 0 where

@@ -40,13 +40,3 @@ within_less n m more rest c w h k = record {
   kept_area = w.kept_area;
   rejected_area = w.rejected_area;
 }
-
--- ---- lists of the same lengths have the same room
-pub roomy_still : {n p f l k n' p' f' l' k' : ℕ} → Roomy n p f l k → n' ≡ n → p' ≡ p → f' ≡ f → l' ≡ l → k' ≡ k → Roomy n' p' f' l' k'
-roomy_still r en ep ef el ek = record {
-  few = omega (arith, r.few);
-  points_room = omega (arith, r.points_room);
-  first_room = omega (arith, r.first_room);
-  len_room = omega (arith, r.len_room);
-  kind_room = omega (arith, r.kind_room);
-}

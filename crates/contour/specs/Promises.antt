@@ -2,10 +2,8 @@
 use Rattle.std.specs.Prelude.{List, ◌≡◌, Bool, not, ℤ, ℕ}
 use Rattle.std.proofs.Common.{sym, ◌∙◌, arith}
 use Rattle.std.specs.Bool.{beq}
-use Rattle.laws.specs.Unique.{Determines, by_equation}
 use Rattle.graph.specs.Graph.{Graph}
 use Rattle.rings.specs.Field.{Steers, Reads}
-use Rattle.walk.specs.declared.Course.{Course}
 use Rattle.walk.specs.Walk.{Walked, stuck, done, walk_from, mark_of}
 use Rattle.keep.specs.declared.Counts.{Counts}
 use Rattle.keep.specs.Tables.{Tables, tables}
@@ -14,34 +12,13 @@ use Rattle.contour.specs.declared.Noted.{Noted}
 use Rattle.contour.specs.declared.Noted.TheVariants.{Entered, Stuck}
 use Rattle.contour.specs.Notes.{WalkNoted}
 
-abbrev pub MarkOfSays : Bool → ℕ → Type 0
-MarkOfSays hole r = r ≡ mark_of hole
-
-pub mark_of_once : (hole : Bool) → Determines (MarkOfSays hole)
-mark_of_once hole = by_equation (mark_of hole)
-
-abbrev pub SameSays : Bool → Bool → Bool → Type 0
-SameSays a b r = r ≡ beq a b
-
-pub same_once : (a b : Bool) → Determines (SameSays a b)
-same_once a b = by_equation (beq a b)
-
 -- for every graph whose field of ends and whose points the lists hold
-abbrev pub NoteCourseSays : (ax ay bx by : List ℤ) (nxt prv : List ℕ) (course : Course) (hole : Bool) (minimum : ℕ) (state : List ℕ) (points : List ℤ)
-    (first len kind : List ℕ) (s : ℕ) (c : Counts) → Noted → List ℕ → List ℤ → List ℕ → List ℕ → List ℕ → Type 0
-NoteCourseSays ax ay bx by nxt prv course hole minimum state points first len kind s c r state' points' first' len' kind' =
-    (g : Graph) → Steers g nxt prv state → Reads g ax ay bx by
-    → WalkNoted g minimum (tables points first len kind c) hole s (walk_from g course.forward course.sense course.mark state s) r
-    state' points' first' len' kind'
-
--- rule 2
-abbrev pub course_of : Bool → Bool → Course
-course_of cw hole = record { forward = not (beq hole cw); sense = beq hole cw; mark = mark_of hole }
-
 abbrev pub NoteContourSays : (ax ay bx by : List ℤ) (nxt prv : List ℕ) (settings : Settings) (hole : Bool) (state : List ℕ) (points : List ℤ)
     (first len kind : List ℕ) (s : ℕ) (c : Counts) → Noted → List ℕ → List ℤ → List ℕ → List ℕ → List ℕ → Type 0
 NoteContourSays ax ay bx by nxt prv settings hole state points first len kind s c r state' points' first' len' kind' =
-    NoteCourseSays ax ay bx by nxt prv (course_of settings.clockwise hole) hole settings.minimum state points first len kind s c r
+    (g : Graph) → Steers g nxt prv state → Reads g ax ay bx by
+    → WalkNoted g settings.minimum (tables points first len kind c) hole s
+    (walk_from g (not (beq hole settings.clockwise)) (beq hole settings.clockwise) (mark_of hole) state s) r
     state' points' first' len' kind'
 
 pub stuck_not_entered : (number : ℕ) (c : Counts) (s : ℕ) → Stuck number ≡ Entered c s → ⊥
@@ -66,21 +43,13 @@ noted_once g minimum t hole from (done steps left) r s st st' pts pts' f f' l l'
 }
 
 -- that there is such a graph is required
-pub note_course_once : (ax ay bx by : List ℤ) (nxt prv : List ℕ) (course : Course) (hole : Bool) (minimum : ℕ) (state : List ℕ) (points : List ℤ)
-    (first len kind : List ℕ) (from : ℕ) (c : Counts) (g : Graph) → Steers g nxt prv state → Reads g ax ay bx by
-    → (r s : Noted) (st st' : List ℕ) (pts pts' : List ℤ) (f f' l l' k k' : List ℕ)
-    → NoteCourseSays ax ay bx by nxt prv course hole minimum state points first len kind from c r st pts f l k
-    → NoteCourseSays ax ay bx by nxt prv course hole minimum state points first len kind from c s st' pts' f' l' k'
-    → SameNote r s st st' pts pts' f f' l l' k k'
-note_course_once ax ay bx by nxt prv course hole minimum state points first len kind from c g steers reads r s st st' pts pts' f f' l l' k k' p q =
-    noted_once g minimum (tables points first len kind c) hole from (walk_from g course.forward course.sense course.mark state from) r s st st'
-    pts pts' f f' l l' k k' (p g steers reads) (q g steers reads)
-
 pub note_contour_once : (ax ay bx by : List ℤ) (nxt prv : List ℕ) (settings : Settings) (hole : Bool) (state : List ℕ) (points : List ℤ)
     (first len kind : List ℕ) (from : ℕ) (c : Counts) (g : Graph) → Steers g nxt prv state → Reads g ax ay bx by
     → (r s : Noted) (st st' : List ℕ) (pts pts' : List ℤ) (f f' l l' k k' : List ℕ)
     → NoteContourSays ax ay bx by nxt prv settings hole state points first len kind from c r st pts f l k
     → NoteContourSays ax ay bx by nxt prv settings hole state points first len kind from c s st' pts' f' l' k'
     → SameNote r s st st' pts pts' f f' l l' k k'
-note_contour_once ax ay bx by nxt prv settings hole =
-    note_course_once ax ay bx by nxt prv (course_of settings.clockwise hole) hole settings.minimum
+note_contour_once ax ay bx by nxt prv settings hole state points first len kind from c g steers reads r s st st' pts pts' f f' l l' k k' p q =
+    noted_once g settings.minimum (tables points first len kind c) hole from
+    (walk_from g (not (beq hole settings.clockwise)) (beq hole settings.clockwise) (mark_of hole) state from) r s st st' pts pts'
+    f f' l l' k k' (p g steers reads) (q g steers reads)

@@ -1,24 +1,24 @@
 // One contour (rules 2 to 6): the walk that starts with a link, as a hole's or a hull's, entered in the table, counted as rejected, or refused.
 ghost use Rattle.std.specs.Prelude.{◌≡◌, ◌<◌, length, get_or};
+ghost use Rattle.std.specs.Bool.{beq};
 ghost use Rattle.next.specs.Next.{unvisited};
 ghost use Rattle.next.specs.Known.{Links};
 ghost use Rattle.rings.specs.Field.{Steered};
-ghost use Rattle.walk.specs.Code.{Kept, Marks};
+ghost use Rattle.walk.specs.Walk.{mark_of};
+ghost use Rattle.walk.specs.Code.{Kept};
 ghost use Rattle.keep.specs.Tables.{Within};
 ghost use Rattle.contour.specs.Notes.{Fewer, Roomy};
-ghost use Rattle.contour.specs.Promises.{MarkOfSays, SameSays, NoteCourseSays, NoteContourSays};
+ghost use Rattle.contour.specs.Promises.{NoteContourSays};
 
 use keep::Counts;
 use walk::{Course, Ended};
 
-// How outlines are asked for: the output direction, the area below which a walk is rejected, whether points on a straight line are dropped, and whether
-// by the OGC profile, in which no contour is to touch itself.
+// How outlines are asked for: the output direction, the area below which a walk is rejected, and whether points on a straight line are dropped.
 #[derive(Drop)]
 pub struct Settings {
     pub clockwise: bool,
     pub minimum: u64,
     pub drop_straight: bool,
-    pub ogc: bool,
 }
 
 // What becomes of a walk of the scan: entered in the table or the counts, with its first link told, or refused with a number.
@@ -28,71 +28,20 @@ pub enum Noted {
     Stuck(u32),
 }
 
-// Rule 2: the mark of the links of a hole's walk, or of a hull's.
-pub fn mark_of(hole: bool) -> u8
-    ensures { MarkOfSays hole result }
+fn mark_of(hole: bool) -> u8
+    ensures { result ≡ mark_of hole }
 {
     if hole { 2 } else { 3 }
 }
 
 // Whether two flags are equal.
-pub fn same(a: bool, b: bool) -> bool
-    ensures { SameSays a b result }
+fn same(a: bool, b: bool) -> bool
+    ensures { result ≡ beq a b }
 {
     (a & b) | (!a & !b)
 }
 
-// Rules 3 to 6: the walk that starts with link s and takes a course, entered in the table as a hole or a hull, or counted as rejected.
-pub fn note_course(
-    ax: &[i32],
-    ay: &[i32],
-    bx: &[i32],
-    by: &[i32],
-    nxt: &[u32],
-    prv: &[u32],
-    course: Course,
-    hole: bool,
-    minimum: u64,
-    state: &mut [u8],
-    points: &mut [i32],
-    first: &mut [u32],
-    len: &mut [u32],
-    kind: &mut [u8],
-    s: usize,
-    c: Counts,
-) -> Noted
-    requires steered { (Steered nxt.now prv.now state.old) × (Links ax.now ay.now bx.now by.now (length state.old)) × (Marks course.mark) }
-    requires roomy { Roomy (length state.old) (length points.old) (length first.old) (length len.old) (length kind.old) }
-    requires s_in_bounds { (s < length state.old) × (get_or state.old s 1 ≡ 0) × (Within (length state.old) (unvisited state.old) c) }
-    ensures note_course_says { NoteCourseSays ax.now ay.now bx.now by.now nxt.now prv.now
-        course hole minimum state.old points.old first.old len.old kind.old s c result
-        state.new points.new first.new len.new kind.new }
-    ensures fewer { Fewer (length state.old) state.old state.new result }
-    ensures kept { Kept state.old state.new }
-{
-    let at = c.points;
-    match walk::find_contour(ax, ay, bx, by, nxt, prv, course, state, points, at, s) {
-        Ended::Stuck(number) => Noted::Stuck(number),
-        Ended::Done(walked) => {
-            let counts = keep::note_walk(
-                first,
-                len,
-                kind,
-                hole,
-                minimum,
-                walked.to,
-                walked.area,
-                c,
-            );
-            Noted::Entered {
-                counts: counts,
-                first: s,
-            }
-        }
-    }
-}
-
-// Rule 2: the walk that starts with link s, as a hole's or a hull's, noted.
+// Rules 2 to 6: the walk that starts with link s, a hole's or a hull's, entered in the table or counted as rejected.
 pub fn note_contour(
     ax: &[i32],
     ay: &[i32],
@@ -125,22 +74,24 @@ pub fn note_contour(
         sense: sense,
         mark: mark_of(hole),
     };
-    note_course(
-        ax,
-        ay,
-        bx,
-        by,
-        nxt,
-        prv,
-        course,
-        hole,
-        settings.minimum,
-        state,
-        points,
-        first,
-        len,
-        kind,
-        s,
-        c,
-    )
+    let at = c.points;
+    match walk::find_contour(ax, ay, bx, by, nxt, prv, course, state, points, at, s) {
+        Ended::Stuck(number) => Noted::Stuck(number),
+        Ended::Done(walked) => {
+            let counts = keep::note_walk(
+                first,
+                len,
+                kind,
+                hole,
+                settings.minimum,
+                walked.to,
+                walked.area,
+                c,
+            );
+            Noted::Entered {
+                counts: counts,
+                first: s,
+            }
+        }
+    }
 }

@@ -3,9 +3,8 @@ use Rattle.std.specs.Prelude.{ℕ, ◌≡◌, Bool, List, replicate}
 use Rattle.laws.specs.Lists.{over_front}
 use Rattle.laws.specs.Unique.{Determines, by_equation, same_part}
 use Rattle.table.specs.Table.{Table}
-use Rattle.nearest.specs.SearchLists.{giving}
 use Rattle.owners.specs.declared.Given.{Given}
-use Rattle.owners.specs.Owners.{owned, searched_among, searched_owners}
+use Rattle.owners.specs.Owners.{owned, searched_owners}
 use Rattle.deliver.specs.Delivery.{delivered}
 
 abbrev pub FillSays : (n number : ℕ) → List ℕ → List ℕ → Type 0
@@ -13,17 +12,6 @@ FillSays n number owner owner' = owner' ≡ over_front (replicate n number) owne
 
 pub fill_once : (n number : ℕ) (owner : List ℕ) → Determines (FillSays n number owner)
 fill_once n number owner = by_equation (over_front (replicate n number) owner)
-
--- over the contours that are mute, the first owners and the owner buffer, then the answer, the owners found and the buffer at exit
-abbrev pub SearchIntoSays : Table → Bool → (mute own owner : List ℕ) → Given → (own' owner' : List ℕ) → Type 0
-SearchIntoSays t clockwise mute own owner r own' owner' =
-    (owned r own' ≡ searched_among t clockwise (giving mute) own) × (owned r owner' ≡ delivered (searched_among t clockwise (giving mute) own) owner)
-
-pub search_into_once : (t : Table) (clockwise : Bool) (mute own owner : List ℕ) (r s : Given) (own₁ owner₁ own₂ owner₂ : List ℕ)
-    → SearchIntoSays t clockwise mute own owner r own₁ owner₁ → SearchIntoSays t clockwise mute own owner s own₂ owner₂
-    → (r ≡ s) × (own₁ ≡ own₂) × (owner₁ ≡ owner₂)
-search_into_once t clockwise mute own owner r s own₁ owner₁ own₂ owner₂ p q =
-    (same_part (λ o. o.answer) p.0 q.0, same_part (λ o. o.owners) p.0 q.0, same_part (λ o. o.owners) p.1 q.1)
 
 -- over the owner buffer at entry, then the answer and the buffer at exit
 abbrev pub BindHolesSays : Table → Bool → (owner : List ℕ) → Given → (owner' : List ℕ) → Type 0

@@ -1,12 +1,12 @@
 // The owner buffer: owners written over its front, and with two hulls or more where every hole has found its own.
-ghost use Rattle.std.specs.Prelude.{◌≡◌, ℕ, ◌<◌, ◌≤◌, length, replicate};
+ghost use Rattle.std.specs.Prelude.{◌≡◌, ℕ, ◌<◌, ◌≤◌, length};
 ghost use Rattle.laws.specs.Lists.{over_front};
-ghost use Rattle.table.specs.Table.{Table, table, max_contours};
+ghost use Rattle.table.specs.Table.{Table, table};
 ghost use Rattle.table.specs.Sound.{Sound};
 ghost use Rattle.anchor.specs.Anchored.{Anchored};
 ghost use Rattle.owners.specs.Owners.{owned, searched_owners};
 ghost use Rattle.deliver.specs.Delivery.{is_stuck, delivered};
-ghost use Rattle.deliver.specs.Promises.{FillSays, SearchIntoSays, BindHolesSays};
+ghost use Rattle.deliver.specs.Promises.{FillSays, BindHolesSays};
 
 use owners::Given;
 
@@ -44,24 +44,24 @@ fn is_stuck(given: Given) -> bool
     }
 }
 
-// The search goes on from the first owners, in `own`, and `owner` is written only where every hole has found its own.
-pub fn search_into(
+// The owners are worked out in `own`, and `owner` is written only where every hole has found its own.
+fn bind_in(
     points: &[i32],
     first: &[u32],
     len: &[u32],
     kind: &[u8],
     clockwise: bool,
-    mute: &[u8],
     own: &mut [u16],
     owner: &mut [u16],
 ) -> Given
     requires fact { (let t : Table = table points.now first.now len.now kind.now in
         (Sound t) × (Anchored t clockwise)) }
-    requires first_in_bounds { (length first.now ≤ length mute.now) × (length own.old ≡ length first.now) × (length first.now ≤ length owner.old) }
+    requires own_len { (length own.old ≡ length first.now) × (length first.now ≤ length owner.old) }
     ensures { (let t : Table = table points.now first.now len.now kind.now in
-        SearchIntoSays t clockwise mute.now own.old owner.old result own.new owner.new) }
+        owned result owner.new ≡ delivered (searched_owners t clockwise) owner.old) }
 {
-    let given = owners::search_owners(points, first, len, kind, clockwise, mute, own);
+    owners::number_hulls(kind, own);
+    let given = owners::search_owners(points, first, len, kind, clockwise, own);
     if is_stuck(given) {
         return given;
     }
@@ -69,28 +69,7 @@ pub fn search_into(
     given
 }
 
-// Two hulls or more: every contour gives edges, a hull has its own number, and the holes search.
-fn bind_in(
-    points: &[i32],
-    first: &[u32],
-    len: &[u32],
-    kind: &[u8],
-    clockwise: bool,
-    mute: &[u8],
-    own: &mut [u16],
-    owner: &mut [u16],
-) -> Given
-    requires fact { (let t : Table = table points.now first.now len.now kind.now in
-        (Sound t) × (Anchored t clockwise)) }
-    requires mute_value { (mute.now ≡ replicate max_contours 0) × (length own.old ≡ length first.now) × (length first.now ≤ length owner.old) }
-    ensures { (let t : Table = table points.now first.now len.now kind.now in
-        owned result owner.new ≡ delivered (searched_owners t clockwise) owner.old) }
-{
-    owners::number_hulls(kind, own);
-    search_into(points, first, len, kind, clockwise, mute, own, owner)
-}
-
-// Two hulls or more, with arrays of its own.
+// Two hulls or more, with an array of its own.
 pub fn bind_holes(
     points: &[i32],
     first: &[u32],
@@ -105,16 +84,6 @@ pub fn bind_holes(
         BindHolesSays t clockwise owner.old result owner.new) }
 {
     let n = first.len();
-    let mute = [0u8; table::MAX_CONTOURS];
     let mut own = [0u16; table::MAX_CONTOURS];
-    bind_in(
-        points,
-        first,
-        len,
-        kind,
-        clockwise,
-        &mute,
-        &mut own[..n],
-        owner,
-    )
+    bind_in(points, first, len, kind, clockwise, &mut own[..n], owner)
 }

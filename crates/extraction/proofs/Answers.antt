@@ -1,56 +1,101 @@
 -- What extraction leaves: after a walk that is refused, and after all walks.
-use Prim.Native.Nat.{ℕ, ◌≤◌}
+use Prim.Native.Nat.{ℕ, ◌*◌, ◌≤◌}
 use mathlib.Core.Path.{◌≡◌, refl, sym, ap, ◌∙◌}
 use mathlib.Core.Bool.{Bool, true≢false}
 use mathlib.Core.List.{List, map}
 use native.Mathlib.Omega.{arith}
-use lib.ListN.{length}
-use lib.IntN.{ℤ}
+use lib.ListN.{length, replicate}
+use lib.IntN.{ℤ, pos}
+use Rattle.laws.specs.Lists.{map_from, map_const}
 use Rattle.graph.specs.Graph.{Graph}
+use Rattle.turn.specs.declared.Checked.{Checked}
+use Rattle.turn.specs.declared.Checked.TheVariants as check
+use Rattle.graph.specs.Checks.{room}
+use Rattle.rings.specs.Steering as steering
 use Rattle.keep.specs.declared.Counts.{Counts}
 use Rattle.scan.specs.declared.Extraction.{Extraction}
 use Rattle.scan.specs.declared.Extraction.TheVariants.{Done, Refused}
 use Rattle.walk.specs.Walk.{Walk}
-use Rattle.walk.specs.Code.{Kept, unmark}
-use Rattle.walk.specs.States.{unvisited_some}
-use Rattle.keep.specs.Outcome.{Judged, judged_by, kept, rejected, lens, sum, states_after, counts_from}
-use Rattle.keep.specs.Tables.{Tables, tables, no_counts, all_noted}
-use Rattle.keep.specs.Ledger.{Fits, walks_in, all_three, walks_judged}
-use Rattle.contour.specs.Notes.{Roomy}
 use Rattle.scan.specs.Scan.{Scanned, stopped, walks, scan}
 use Rattle.scan.specs.Visits.{scanned}
-use Rattle.scan.specs.Notes.{Ends, ScanLeaves}
+use Rattle.keep.specs.Ledger.{Fits, finished}
+use Rattle.keep.specs.Tables.{Tables, tables, no_counts, all_noted}
 use Rattle.finish.specs.Finish.{finished_by, Holds, Buffers, buffers}
-use Rattle.extraction.specs.Extract.{extracted_as, done, after_kept, after_scan}
-use Rattle.extraction.specs.Finishing.{refused_as, fits_in, plain_as}
+use Rattle.contour.specs.Notes.{Roomy}
+use Rattle.scan.specs.Notes.{Ends, ScanLeaves}
+use Rattle.walk.specs.Code.{Kept, unmark}
+use Rattle.walk.specs.States.{unvisited_some}
+use Rattle.extraction.specs.Extract.{extracted_as, after_scan}
 
--- ---- a walk was refused, or all were done
-module _ (g : Graph) (minimum : ℕ) (t : Tables) (number place : ℕ) (st' : List ℕ) (pts' : List ℤ) (first' len' kind' : List ℕ) where
-  RefusedAt : (o : Scanned) → ScanLeaves g minimum t o (Refused number place) st' pts' first' len' kind' → stopped number place ≡ o
-  RefusedAt (stopped m p) h = let x : m ≡ number = cc in let y : p ≡ place = cc in λ i. stopped (sym x i) (sym y i)
-  RefusedAt (walks ws st) h = absurd (true≢false (cc))
+zeros : {A : Type 0} (z : A) (l l' l'' : List A) → length l' ≡ length l → l'' ≡ map_from (λ _. z) 0 l' → l'' ≡ replicate (length l) z
+zeros z l l' l'' e q = q ∙ map_const z l' ∙ ap (λ k. replicate k z) e
 
+-- ---- a walk was refused
+module _ (g : Graph) (minimum : ℕ) (b : Buffers) (t : Tables) (number place : ℕ) (r : Extraction) (st' : List ℕ) (pts' : List ℤ)
+    (first' len' kind' : List ℕ) where
+  RefusedAt : (o : Scanned) → ScanLeaves g minimum t o r st' pts' first' len' kind' → r ≡ Refused number place → o ≡ stopped number place
+  RefusedAt (stopped m p) h e =
+      let q : Refused m p ≡ Refused number place = sym h ∙ e in
+      let x : m ≡ number = cc in let y : p ≡ place = cc in λ i. stopped (x i) (y i)
+  RefusedAt (walks ws st) h e = absurd (true≢false (cc))
+
+  refused : (o : Scanned) → ScanLeaves g minimum t o r st' pts' first' len' kind' → r ≡ Refused number place
+      → map unmark b.state ≡ b.state → Kept b.state st' → length pts' ≡ length b.points → length first' ≡ length b.first → length len'
+      ≡ length b.len → length kind' ≡ length b.kind
+      → (st'' : List ℕ) (pts'' : List ℤ) (first'' len'' kind'' : List ℕ) → st'' ≡ map_from unmark 0 st' → pts'' ≡ map_from (λ _. pos 0) 0 pts'
+      → first'' ≡ map_from (λ _. 0) 0 first' → len'' ≡ map_from (λ _. 0) 0 len' → kind'' ≡ map_from (λ _. 0) 0 kind'
+      → extracted_as (Refused number place) (buffers st'' pts'' first'' len'' kind'') ≡ after_scan g minimum b o
+  refused o h e u k lp lf ll lk st'' pts'' first'' len'' kind'' qs qp qf ql qk =
+      let s : st'' ≡ b.state = qs ∙ k.marks ∙ u in
+      let p = zeros (pos 0) b.points pts' pts'' lp qp in
+      let x = zeros 0 b.first first' first'' lf qf in
+      let y = zeros 0 b.len len' len'' ll ql in
+      let z = zeros 0 b.kind kind' kind'' lk qk in
+      (λ i. extracted_as (Refused number place) (buffers (s i) (p i) (x i) (y i) (z i)))
+      ∙ ap (after_scan g minimum b) (sym (RefusedAt o h e))
+
+-- ---- all walks were done
 module _ (g : Graph) (cw : Bool) (minimum : ℕ) (b : Buffers)
-    (room : Roomy (length b.state) (length b.points) (length b.first) (length b.len) (length b.kind)) (c : Counts) (b' : Buffers) where
+    (room : Roomy (length b.state) (length b.points) (length b.first) (length b.len) (length b.kind))
+    (c : Counts) (r : Extraction) (st' : List ℕ) (pts' : List ℤ) (first' len' kind' : List ℕ) where
   abbrev t₀ : Tables
   t₀ = tables b.points b.first b.len b.kind no_counts
 
-  done_by : (o : Scanned) → scan g cw b.state ≡ o → ScanLeaves g minimum t₀ o (Done c) b'.state b'.points b'.first b'.len b'.kind
-      → extracted_as (Done c) (finished_by (Done c) b') ≡ after_scan g minimum b o
-  done_by (stopped number place) e h = absurd (true≢false (cc))
-  done_by (walks ws after) e h =
-      let js : List Judged = judged_by g minimum ws in
-      let all : walks_in js ≡ ws = walks_judged g minimum ws in
-      let s = scanned g cw b.state ws after e in
-      let few : sum (lens (walks_in js)) ≤ length b.state =
-      omega (arith, ap (λ (l : List Walk). sum (lens l)) all, s.count, unvisited_some b.state) in
-      let fits : Fits t₀ (walks_in js) = fits_in b (walks_in js) room few in
-      let z : Done c ≡ Done (all_noted g minimum t₀ ws).counts = h.0 in
+  fits : (ws : List Walk) (after : List ℕ) → scan g cw b.state ≡ walks ws after → Fits t₀ ws
+  fits ws after e =
+      let w = scanned g cw b.state ws after e in
+      record {
+        points_fit = omega (arith, w.count, unvisited_some b.state, room.points_room);
+        threes = omega arith;
+        first_fit = omega (arith, w.count, unvisited_some b.state, room.first_room);
+        len_fit = room.len_room;
+        kind_fit = room.kind_room;
+      }
+
+  finish : (o : Scanned) → scan g cw b.state ≡ o → ScanLeaves g minimum t₀ o r st' pts' first' len' kind' → r ≡ Done c
+      → (pts'' : List ℤ) (first'' len'' kind'' : List ℕ) → pts'' ≡ map_from (λ _. pos 0) (c.points * 2) pts'
+      → first'' ≡ map_from (λ _. 0) c.contours first' → len'' ≡ map_from (λ _. 0) c.contours len' → kind'' ≡ map_from (λ _. 0) c.contours kind'
+      → extracted_as (Done c) (buffers st' pts'' first'' len'' kind'') ≡ after_scan g minimum b o
+  finish (stopped number place) e h q pts'' first'' len'' kind'' qp qf ql qk = absurd (true≢false (cc))
+  finish (walks ws after) e h q pts'' first'' len'' kind'' qp qf ql qk =
+      let f = finished g minimum ws b.points b.first b.len b.kind (fits ws after e) in
+      let z : Done c ≡ Done (all_noted g minimum t₀ ws).counts = sym q ∙ h.0 in
       let k : c ≡ (all_noted g minimum t₀ ws).counts = cc in
-      let states : b'.state ≡ states_after (walks_in js) b.state = h.1 ∙ s.states ∙ ap (λ (l : List Walk). states_after l b.state) (sym all) in
-      plain_as g js b (all_three g minimum ws) fits c b' k (λ i. buffers (states i) (h.2 i) (h.3 i) (h.4 i) (h.5 i))
-      ∙ ap (λ (l : List Walk). done (counts_from g (kept g minimum ws) (rejected g minimum ws) l (length (kept g minimum ws)))
-      (after_kept g (kept g minimum ws) l b)) all
+      let s = h.1 ∙ (scanned g cw b.state ws after e).states in
+      let p = qp ∙ ap (λ x. map_from (λ _. pos 0) (x.points * 2) pts') k ∙ ap (map_from (λ _. pos 0) ((all_noted g minimum t₀ ws).counts.points * 2))
+      h.2 ∙ f.points_are in
+      let x = qf ∙ ap (λ x. map_from (λ _. 0) x.contours first') k ∙ ap (map_from (λ _. 0) (all_noted g minimum t₀ ws).counts.contours) h.3
+      ∙ f.first_are in
+      let y = ql ∙ ap (λ x. map_from (λ _. 0) x.contours len') k ∙ ap (map_from (λ _. 0) (all_noted g minimum t₀ ws).counts.contours) h.4 ∙ f.len_are in
+      let v = qk ∙ ap (λ x. map_from (λ _. 0) x.contours kind') k ∙ ap (map_from (λ _. 0) (all_noted g minimum t₀ ws).counts.contours) h.5 ∙ f.kind_are in
+      let d = k ∙ f.counts_are in
+      λ i. extracted_as (Done (d i)) (buffers (s i) (p i) (x i) (y i) (v i))
+
+  all_done : ScanLeaves g minimum t₀ (scan g cw b.state) r st' pts' first' len' kind' → r ≡ Done c
+      → (pts'' : List ℤ) (first'' len'' kind'' : List ℕ) → pts'' ≡ map_from (λ _. pos 0) (c.points * 2) pts'
+      → first'' ≡ map_from (λ _. 0) c.contours first' → len'' ≡ map_from (λ _. 0) c.contours len' → kind'' ≡ map_from (λ _. 0) c.contours kind'
+      → extracted_as (Done c) (buffers st' pts'' first'' len'' kind'') ≡ after_scan g minimum b (scan g cw b.state)
+  all_done = finish (scan g cw b.state) refl
 
 -- ---- what the scan wrote lies within the buffers
 module _ (b b' : Buffers) (room : Roomy (length b.state) (length b.points) (length b.first) (length b.len) (length b.kind))
@@ -73,7 +118,10 @@ module _ (b b' : Buffers) (room : Roomy (length b.state) (length b.points) (leng
         b'.first b'.len b'.kind
         → b'' ≡ finished_by r b' → extracted_as r b'' ≡ after_scan g minimum b (scan g cw b.state)
     finished_as (Refused number place) h q =
-        ap (extracted_as (Refused number place)) q ∙ refused_as b b' number place u k lp lf ll lk
-        ∙ ap (after_scan g minimum b) (RefusedAt g minimum (tables b.points b.first b.len b.kind no_counts) number place b'.state
-        b'.points b'.first b'.len b'.kind (scan g cw b.state) h)
-    finished_as (Done c) h q = ap (extracted_as (Done c)) q ∙ done_by g cw minimum b room c b' (scan g cw b.state) refl h
+        ap (extracted_as (Refused number place)) q
+        ∙ refused g minimum b (tables b.points b.first b.len b.kind no_counts) number place (Refused number place) b'.state b'.points
+        b'.first b'.len b'.kind
+        (scan g cw b.state) h refl u k lp lf ll lk _ _ _ _ _ refl refl refl refl refl
+    finished_as (Done c) h q =
+        ap (extracted_as (Done c)) q
+        ∙ all_done g cw minimum b room c (Done c) b'.state b'.points b'.first b'.len b'.kind h refl _ _ _ _ refl refl refl refl

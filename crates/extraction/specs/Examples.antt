@@ -9,8 +9,7 @@ use Rattle.graph.specs.Examples.{square, tops, unvisited}
 use Rattle.next.specs.Next.{next_link, first_link}
 use Rattle.scan.specs.declared.Extraction.TheVariants.{Done, Refused}
 use Rattle.walk.specs.Walk.{Step, Walk, walk_on, walk_from}
-use Rattle.scan.specs.Scan.{walks, scan_by, scan}
-use Rattle.keep.specs.declared.Counts.{Counts}
+use Rattle.scan.specs.Scan.{walks, scan_on, scan}
 use Rattle.keep.specs.Outcome.{areas}
 use Rattle.extraction.specs.Extract.{Extracted, extracted_as, extracted}
 use Rattle.finish.specs.Finish.{Buffers, buffers}
@@ -28,28 +27,15 @@ fw k = record { link = k; forward = true }
 abbrev bw : ℕ → Step
 bw k = record { link = k; forward = false }
 
--- the counts of so many contours, points, rejected walks and links walked, and both totals; no hole is free
-abbrev pub tally : (contours points rejected walked : ℕ) → (keptArea rejectedArea : ℤ) → Counts
-tally contours points rejected walked keptArea rejectedArea = record {
-  contours = contours;
-  points = points;
-  rejected = rejected;
-  walked = walked;
-  left_out = 0;
-  first_free = contours;
-  kept_area = keptArea;
-  rejected_area = rejectedArea;
-}
-
 -- buffers of nines, with room for so many points and contours
 abbrev pub nines : List ℕ → ℕ → ℕ → Buffers
 nines state points contours = buffers state (replicate (2 * points) (p 9)) (replicate contours 9) (replicate contours 9) (replicate contours 9)
 
 -- ---- E1: no links, no nodes
 pub e1 : extracted (lent [] [] [] [] [] [] (0 ∷ []) []) [] false 0 (nines [] 1 1)
-    ≡ extracted_as (Done (tally 0 0 0 0 (p 0) (p 0)))
+    ≡ extracted_as (Done (record { contours = 0; points = 0; rejected = 0; walked = 0; left_out = 0; kept_area = p 0; rejected_area = p 0 }))
     (buffers [] (p 0 ∷ p 0 ∷ []) (0 ∷ []) (0 ∷ []) (0 ∷ []))
-unfolding extracted checked links_checked each_checked nodes_checked lowest count scan_by
+unfolding extracted checked links_checked each_checked nodes_checked lowest count scan_on
 e1 = refl
 
 -- ---- E2 to E5 and E7: the square
@@ -59,44 +45,44 @@ extract_square clockwise minimum state = extracted square tops clockwise minimum
 -- one hull (0,4) (0,0) (4,0) (4,4), doubled area 32
 abbrev pub one_hull : Extracted
 one_hull =
-    extracted_as (Done (tally 1 4 0 4 (p 32) (p 0)))
+    extracted_as (Done (record { contours = 1; points = 4; rejected = 0; walked = 4; left_out = 0; kept_area = p 32; rejected_area = p 0 }))
     (buffers (3 ∷ 3 ∷ 3 ∷ 3 ∷ []) (p 0 ∷ p 4 ∷ p 0 ∷ p 0 ∷ p 4 ∷ p 0 ∷ p 4 ∷ p 4 ∷ p 0 ∷ p 0 ∷ []) (0 ∷ 0 ∷ []) (4 ∷ 0 ∷ []) (0 ∷ 0 ∷ []))
 
 pub e2 : extract_square false 0 unvisited ≡ one_hull
-unfolding extracted checked links_checked each_checked nodes_checked lowest count scan_by walk_on walk_from next_link first_link
+unfolding extracted checked links_checked each_checked nodes_checked lowest count scan_on walk_on walk_from next_link first_link
 e2 = refl
 
 e2_walks : scan (graph_of square tops) false unvisited ≡ walks ((record { hole = false; steps = bw 1 ∷ fw 0 ∷ fw 3 ∷ bw 2 ∷ [] }) ∷ []) (3 ∷ 3 ∷ 3 ∷ 3 ∷ [])
-unfolding scan_by walk_on walk_from next_link first_link lowest
+unfolding scan_on walk_on walk_from next_link first_link lowest
 e2_walks = refl
 
 -- E3: clockwise, (0,0) (0,4) (4,4) (4,0)
 pub e3 : extract_square true 0 unvisited
-    ≡ extracted_as (Done (tally 1 4 0 4 (m 32) (p 0)))
+    ≡ extracted_as (Done (record { contours = 1; points = 4; rejected = 0; walked = 4; left_out = 0; kept_area = m 32; rejected_area = p 0 }))
     (buffers (3 ∷ 3 ∷ 3 ∷ 3 ∷ []) (p 0 ∷ p 0 ∷ p 0 ∷ p 4 ∷ p 4 ∷ p 4 ∷ p 4 ∷ p 0 ∷ p 0 ∷ p 0 ∷ []) (0 ∷ 0 ∷ []) (4 ∷ 0 ∷ []) (0 ∷ 0 ∷ []))
-unfolding extracted checked links_checked each_checked nodes_checked lowest count scan_by walk_on walk_from next_link first_link
+unfolding extracted checked links_checked each_checked nodes_checked lowest count scan_on walk_on walk_from next_link first_link
 e3 = refl
 
 e3_walks : scan (graph_of square tops) true unvisited ≡ walks ((record { hole = false; steps = fw 1 ∷ fw 2 ∷ bw 3 ∷ bw 0 ∷ [] }) ∷ []) (3 ∷ 3 ∷ 3 ∷ 3 ∷ [])
-unfolding scan_by walk_on walk_from next_link first_link lowest
+unfolding scan_on walk_on walk_from next_link first_link lowest
 e3_walks = refl
 
 -- E4: minimum 16 keeps
 pub e4 : extract_square false 16 unvisited ≡ one_hull
-unfolding extracted checked links_checked each_checked nodes_checked lowest count scan_by walk_on walk_from next_link first_link
+unfolding extracted checked links_checked each_checked nodes_checked lowest count scan_on walk_on walk_from next_link first_link
 e4 = refl
 
 -- E5: 17 rejects, links walked 4
 pub e5 : extract_square false 17 unvisited
-    ≡ extracted_as (Done (tally 0 0 1 4 (p 0) (p 32)))
+    ≡ extracted_as (Done (record { contours = 0; points = 0; rejected = 1; walked = 4; left_out = 0; kept_area = p 0; rejected_area = p 32 }))
     (buffers (3 ∷ 3 ∷ 3 ∷ 3 ∷ []) (replicate 10 (p 0)) (0 ∷ 0 ∷ []) (0 ∷ 0 ∷ []) (0 ∷ 0 ∷ []))
-unfolding extracted checked links_checked each_checked nodes_checked lowest count scan_by walk_on walk_from next_link first_link
+unfolding extracted checked links_checked each_checked nodes_checked lowest count scan_on walk_on walk_from next_link first_link
 e5 = refl
 
 -- E7: link 0 skipped
 pub e7 : extract_square false 0 (1 ∷ 0 ∷ 0 ∷ 0 ∷ [])
     ≡ extracted_as (Refused 8 1) (buffers (1 ∷ 0 ∷ 0 ∷ 0 ∷ []) (replicate 10 (p 0)) (0 ∷ 0 ∷ []) (0 ∷ 0 ∷ []) (0 ∷ 0 ∷ []))
-unfolding extracted checked links_checked each_checked nodes_checked lowest count scan_by walk_on walk_from next_link first_link
+unfolding extracted checked links_checked each_checked nodes_checked lowest count scan_on walk_on walk_from next_link first_link
 e7 = refl
 
 -- ---- E6: a triangle of doubled area 1
@@ -109,16 +95,16 @@ extract_triangle minimum =
 
 -- minimum 0 keeps it
 pub e6 : extract_triangle 0
-    ≡ extracted_as (Done (tally 1 3 0 3 (p 1) (p 0)))
+    ≡ extracted_as (Done (record { contours = 1; points = 3; rejected = 0; walked = 3; left_out = 0; kept_area = p 1; rejected_area = p 0 }))
     (buffers (3 ∷ 3 ∷ 3 ∷ []) (p 0 ∷ p 1 ∷ p 0 ∷ p 0 ∷ p 1 ∷ p 0 ∷ []) (0 ∷ []) (3 ∷ []) (0 ∷ []))
-unfolding extracted checked links_checked each_checked nodes_checked lowest count scan_by walk_on walk_from next_link first_link
+unfolding extracted checked links_checked each_checked nodes_checked lowest count scan_on walk_on walk_from next_link first_link
 e6 = refl
 
 -- 1 rejects it
 pub e6_rejected : extract_triangle 1
-    ≡ extracted_as (Done (tally 0 0 1 3 (p 0) (p 1)))
+    ≡ extracted_as (Done (record { contours = 0; points = 0; rejected = 1; walked = 3; left_out = 0; kept_area = p 0; rejected_area = p 1 }))
     (buffers (3 ∷ 3 ∷ 3 ∷ []) (replicate 6 (p 0)) (0 ∷ []) (0 ∷ []) (0 ∷ []))
-unfolding extracted checked links_checked each_checked nodes_checked lowest count scan_by walk_on walk_from next_link first_link
+unfolding extracted checked links_checked each_checked nodes_checked lowest count scan_on walk_on walk_from next_link first_link
 e6_rejected = refl
 
 -- ---- E8, of difference D1: two walks of doubled area 2 rejected; one hull (10,-10) (0,0) (10,-20), doubled 100
@@ -136,9 +122,9 @@ abbrev pub fan_tops : List ℕ
 fan_tops = 1 ∷ 0 ∷ 1 ∷ 0 ∷ 1 ∷ 0 ∷ 1 ∷ 1 ∷ 1 ∷ []
 
 pub e8 : extracted fan fan_tops false 2 (nines (replicate 9 0) 9 3)
-    ≡ extracted_as (Done (tally 1 3 2 9 (p 100) (p 4)))
+    ≡ extracted_as (Done (record { contours = 1; points = 3; rejected = 2; walked = 9; left_out = 0; kept_area = p 100; rejected_area = p 4 }))
     (buffers (replicate 9 3) (p 10 ∷ m 10 ∷ p 0 ∷ p 0 ∷ p 10 ∷ m 20 ∷ replicate 12 (p 0)) (0 ∷ 0 ∷ 0 ∷ []) (3 ∷ 0 ∷ 0 ∷ []) (0 ∷ 0 ∷ 0 ∷ []))
-unfolding extracted checked links_checked each_checked nodes_checked lowest count scan_by walk_on walk_from next_link first_link
+unfolding extracted checked links_checked each_checked nodes_checked lowest count scan_on walk_on walk_from next_link first_link
 e8 = refl
 
 abbrev fan_walks : List Walk
@@ -149,7 +135,7 @@ fan_walks =
     ∷ []
 
 e8_walks : scan (graph_of fan fan_tops) false (replicate 9 0) ≡ walks fan_walks (replicate 9 3)
-unfolding scan_by walk_on walk_from next_link first_link lowest
+unfolding scan_on walk_on walk_from next_link first_link lowest
 e8_walks = refl
 
 e8_areas : areas (graph_of fan fan_tops) fan_walks ≡ p 2 ∷ p 2 ∷ p 100 ∷ []

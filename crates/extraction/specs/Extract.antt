@@ -39,17 +39,13 @@ zeroed b =
     buffers b.state (replicate (length b.points) (pos 0)) (replicate (length b.first) 0) (replicate (length b.len) 0)
     (replicate (length b.kind) 0)
 
--- the points and the table of the walks that are kept, and the states after all walks. "After success every entry past the last one written is zero."
-abbrev pub after_kept : Graph → (ks ws : List Walk) → Buffers → Buffers
-after_kept g ks ws b =
-    buffers (states_after ws b.state) (padded (pos 0) (coordinates (all_points g ks)) (length b.points))
-    (padded 0 (firsts 0 (lens ks)) (length b.first))
-    (padded 0 (lens ks) (length b.len))
-    (padded 0 (kinds ks) (length b.kind))
-
--- by rule 6
+-- the kept walks' points and table, and the states after all walks. "After success every entry past the last one written is zero."
 abbrev pub after_walks : Graph → ℕ → List Walk → Buffers → Buffers
-after_walks g minimum ws b = after_kept g (kept g minimum ws) ws b
+after_walks g minimum ws b =
+    buffers (states_after ws b.state) (padded (pos 0) (coordinates (all_points g (kept g minimum ws))) (length b.points))
+    (padded 0 (firsts 0 (lens (kept g minimum ws))) (length b.first))
+    (padded 0 (lens (kept g minimum ws)) (length b.len))
+    (padded 0 (kinds (kept g minimum ws)) (length b.kind))
 
 abbrev pub after_scan : Graph → ℕ → Buffers → Scanned → Extracted
 after_scan g minimum b (stopped number place) = refusal number place (zeroed b)

@@ -2,6 +2,5 @@
 pub mod Extract
 pub mod Promises
 pub mod Lends
-pub mod Finishing
 pub mod Theorems
 pub mod Examples

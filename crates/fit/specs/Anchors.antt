@@ -17,10 +17,10 @@ use Rattle.next.specs.Next.{is_unvisited, unvisited, only_unvisited, next_link, 
 use Rattle.next.specs.States.{unvisited_below}
 use Rattle.next.specs.Topmost.{first_at_bridge, first_at_cross, first_among}
 use Rattle.walk.specs.Walk.{Step, Walk, Walked, stuck, done, cons_step, on_next, walk_on, walk_from, marked, mark_of}
-use Rattle.scan.specs.Scan.{sense_of, walk_of, Scanned, stopped, walks, cons_walk, after_walk, scan_at, lowest_unvisited, scan_by, scan_on}
+use Rattle.scan.specs.Scan.{sense_of, walk_of, Scanned, stopped, walks, cons_walk, after_walk, scan_at, lowest_unvisited, scan_on}
 use Rattle.walk.specs.Named.{LinkUnvisited, first_is_unvisited}
 use Rattle.walk.specs.Visits.{Visits, from_visits}
-use Rattle.scan.specs.Visits.{marked_length}
+use Rattle.outlines.specs.Grid.{marked_length}
 
 -- ---- rule 1 names an entry of the node
 module _ (g : Graph) (st : List ℕ) (k : ℕ) (m : Memᴰ k (g.entries (g.a_node k))) where
@@ -49,8 +49,8 @@ module _ (g : Graph) (st : List ℕ) (k : ℕ) (m : Memᴰ k (g.entries (g.a_nod
       no : (n : ℕ) → suc (suc (suc n)) ≡ 2 → ⊥
       no n h = omega arith
 
-  pub first_in_lem : (s : ℕ) → first_link g st k ≡ Link s → Memᴰ s (g.entries (g.a_node k))
-  first_in_lem s e = elim (ℕ_discrete (length (g.entries (g.a_node k))) 2) [ yes h ↦ by_list (g.entries (g.a_node k)) refl s e h | no n ↦ cross n ]
+  pub first_in : (s : ℕ) → first_link g st k ≡ Link s → Memᴰ s (g.entries (g.a_node k))
+  first_in s e = elim (ℕ_discrete (length (g.entries (g.a_node k))) 2) [ yes h ↦ by_list (g.entries (g.a_node k)) refl s e h | no n ↦ cross n ]
     where
       cross : (length (g.entries (g.a_node k)) ≡ 2 → ⊥) → Memᴰ s (g.entries (g.a_node k))
       cross n =
@@ -127,7 +127,7 @@ module _ (g : Lent) (top st₀ : List ℕ) (r : Room) (f : FineGraph g top st₀
     pub begins : (s : ℕ) → first_link G st k ≡ Link s → (j : ℕ) → is_unvisited st j ≡ true → before (G.a j) (G.a s) ≡ false
     begins s e j oj =
         let os : is_unvisited st s ≡ true = subst (LinkUnvisited st) e (first_is_unvisited G st k o) in
-        subst (λ u. before (G.a j) u ≡ false) (sym (same_a s os (first_in_lem G st k (f.lists.at_a k (in_graph k o)) s e))) (not_before j oj)
+        subst (λ u. before (G.a j) u ≡ false) (sym (same_a s os (first_in G st k (f.lists.at_a k (in_graph k o)) s e))) (not_before j oj)
 
   abbrev pub Led : List ℕ → Scanned → Type 0
   Led st (stopped number place) = Unit {0}
@@ -157,7 +157,7 @@ module _ (g : Lent) (top st₀ : List ℕ) (r : Room) (f : FineGraph g top st₀
       (from_visits G (not (sense_of G cw s)) (sense_of G cw s) (mark_of (G.top s)) st s os) h
 
   pub scan_begins : (fuel : ℕ) (st : List ℕ) → length st ≡ G.n → Led st (scan_on fuel G cw st)
-  unfolding scan_by
+  unfolding scan_on
   scan_begins zero st long = tt
   scan_begins (suc fuel) st long =
       pick_ind (ltb (lowest_unvisited st) (length st)) _ (walks [] st) (Led st)

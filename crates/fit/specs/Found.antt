@@ -1,6 +1,6 @@
 -- After extraction and binding have succeeded, a lookup finds every contour, with the kind and the owner that were written.
-use Rattle.std.specs.Prelude.{ℕ, ◌+◌, ◌-◌, ◌≤◌, ◌<◌, ◌≡◌, Bool, true, false, ◌&&◌, List, length, take, drop, replicate, eqb, ltb}
-use Rattle.std.proofs.Common.{arith, sym, ap, ◌∙◌, length-append, length-drop, eq-eqb, eqb-true, lt-ltb}
+use Rattle.std.specs.Prelude.{ℕ, ◌+◌, ◌-◌, ◌≤◌, ◌<◌, ◌≡◌, Bool, true, false, ◌&&◌, List, [], ◌∷◌, length, set, take, drop, replicate, eqb, ltb}
+use Rattle.std.proofs.Common.{arith, sym, ap, ◌∙◌, length-set, length-append, length-drop, get_or-set_other, eq-eqb, eqb-true, lt-ltb}
 use Rattle.std.proofs.Math.Path.{refl}
 use Rattle.std.proofs.Math.ListN.{get_or, get_or-append}
 use Rattle.std.proofs.lemmas.List.{length-replicate, get_or-replicate}
@@ -19,15 +19,47 @@ use Rattle.lookup.specs.Lookups.{owner_right, record_of, looked_up}
 use Rattle.lookup.specs.LookupLaws.{found_record_lem}
 use Rattle.lookup.specs.declared.records.Lookup.TheVariants.{Found}
 use Rattle.bind.specs.declared.Binding.TheVariants as binding
-use Rattle.owners.specs.declared.Given.TheVariants.{All}
-use Rattle.owners.specs.Owners.{owned, first_owner, searched_owners, owners_of, contour_below}
-use Rattle.bind.specs.Outcome.{Outcome, outcome, handed, bound_after, bound}
+use Rattle.owners.specs.declared.Given.{Given}
+use Rattle.owners.specs.declared.Given.TheVariants.{All, Stuck}
+use Rattle.owners.specs.Owners.{Owned, owned, given, give_each, first_owner, searched_owners, owners_of, contour_below}
+use Rattle.bind.specs.Outcome.{Outcome, outcome, handed, handed_by, bound_after, bound}
 use Rattle.order.specs.HoleOrder.{binding_order}
 use Rattle.order.specs.OrderLaws.{each_once}
-use Rattle.owners.specs.GivingLaws.{zero_one, split, Left, left, Whole, given_whole, hulls_whole}
 use Rattle.owners.specs.OwnerLaws.{owners_below}
-use Rattle.bind.specs.Handing.{handed_bound}
 use Rattle.laws.specs.Count.{count, count_more, count_most}
+
+-- ---- giving leaves the owners of contours that are not gone through
+split : {x y : List ℕ} {r q : Given} → owned r x ≡ owned q y → (r ≡ q) × (x ≡ y)
+split e = (ap (λ (w : Owned). w.answer) e, ap (λ (w : Owned). w.owners) e)
+
+zero_one : ◌≡◌ {A = ℕ} 0 1 → ⊥
+zero_one x = omega arith
+
+pub record Left (l old new : List ℕ) : Type 0 where
+  pub long : length new ≡ length old
+  pub same : (c : ℕ) → count c l ≡ 0 → get_or new c 0 ≡ get_or old c 0
+
+left : (under : ℕ → ℕ) (l old new : List ℕ) → give_each under l old ≡ owned All new → Left l old new
+unfolding give_each count
+left under [] old new e = let q = split e in record { long = ap length (sym q.1); same = λ c h. ap (λ (x : List ℕ). get_or x c 0) (sym q.1) }
+left under (d ∷ l) old new e = go (eqb (given (under d) old) dropped_owner) e (left under l (set old d (given (under d) old)) new)
+  where
+    parent : ℕ
+    parent = given (under d) old
+
+    joined : Left l (set old d (given (under d) old)) new → Left (d ∷ l) old new
+    joined r = record {
+      long = r.long ∙ length-set old d (given (under d) old);
+      same = λ c h. r.same c (omega arith) ∙ get_or-set_other old d c (given (under d) old) 0 (λ q. omega (arith, one c q));
+    }
+      where
+        one : (c : ℕ) → c ≡ d → ◌≡◌ {A = ℕ} (pick (eqb d c) 1 0) 1
+        one c q = rw (eq-eqb d c (sym q))
+
+    go : (b : Bool) → pick b (owned (Stuck d) old) (give_each under l (set old d (given (under d) old))) ≡ owned All new
+        → (give_each under l (set old d (given (under d) old)) ≡ owned All new → Left l (set old d (given (under d) old)) new) → Left (d ∷ l) old new
+    go true q r = let z : Stuck d ≡ All = (split q).0 in let x : ◌≡◌ {A = ℕ} 0 1 = cc in absurd (zero_one x)
+    go false q r = joined (r q)
 
 -- ---- the owners that binding works out
 pub record Right (t : Table) (l : List ℕ) : Type 0 where
@@ -109,10 +141,26 @@ module _ (t : Table) (s : Sound t) (cw : Bool) (l : List ℕ) where
           positive : (hull_count t ≡ 0 → ⊥) → 0 < hull_count t
           positive j = omega arith
 
+-- ---- the number and the place of what was given are those of its case
+abbrev Whole : Owned → Type 0
+Whole w = w ≡ owned w.answer w.owners
+
+whole_pick : (b : Bool) (x y : Owned) → Whole x → Whole y → Whole (pick b x y)
+whole_pick true x y p q = p
+whole_pick false x y p q = q
+
+given_whole : (under : ℕ → ℕ) (l owners : List ℕ) → Whole (give_each under l owners)
+unfolding give_each
+given_whole under [] owners = refl
+given_whole under (c ∷ l) owners =
+    whole_pick (eqb (given (under c) owners) dropped_owner) _ _ refl (given_whole under l (set owners c (given (under c) owners)))
+
 owners_whole : (t : Table) (cw : Bool) → Whole (owners_of t cw)
 unfolding owners_of
 owners_whole t cw =
-    hulls_whole t (searched_owners t cw) (given_whole (contour_below t cw) (binding_order t cw) (tabulate (first_owner t.kind) (contour_count t)))
+    whole_pick (eqb (hull_count t) 0) _ _ refl
+    (whole_pick (eqb (hull_count t) 1) _ _ refl
+    (given_whole (contour_below t cw) (binding_order t cw) (tabulate (first_owner t.kind) (contour_count t))))
 
 -- ---- binding
 module _ (t : Table) (cw : Bool) (buffer owner : List ℕ) (shapes dropped : ℕ) where
@@ -121,6 +169,14 @@ module _ (t : Table) (cw : Bool) (buffer owner : List ℕ) (shapes dropped : ℕ
   by_checked (Refused number place) q h = let z = ap (λ (x : Outcome). x.answer) h in let x : ◌≡◌ {A = ℕ} 0 1 = cc in absurd (zero_one x)
   by_checked Fine q h = (q, h)
 
+  by_given : (w : Owned) → outcome (binding.Bound shapes dropped) owner ≡ handed t w buffer → (w.answer ≡ All) × (owner ≡ over_front w.owners buffer)
+  by_given w h = go w.answer refl h
+    where
+      go : (a : Given) → w.answer ≡ a → outcome (binding.Bound shapes dropped) owner ≡ handed_by t a w.owners buffer → (w.answer ≡ All)
+          × (owner ≡ over_front w.owners buffer)
+      go All q h = (q, ap (λ (x : Outcome). x.owner) h)
+      go (Stuck c) q h = let z = ap (λ (x : Outcome). x.answer) h in let x : ◌≡◌ {A = ℕ} 0 1 = cc in absurd (zero_one x)
+
   -- The theorem: where binding answers Bound, a lookup finds every contour below the count, and its record has the kind and the owner that were written.
   pub every_found : outcome (binding.Bound shapes dropped) owner ≡ bound t cw buffer → (c : ℕ) → c < contour_count t → looked_up t owner c
       ≡ Found (record_of t owner c)
@@ -128,7 +184,7 @@ module _ (t : Table) (cw : Bool) (buffer owner : List ℕ) (shapes dropped : ℕ
       let q = by_checked (both_checked t (length buffer) cw) refl h in
       let ten : table_checked t (length buffer) ≡ Fine = first_fine (table_checked t (length buffer)) (anchors_checked t cw) q.0 in
       let p = (passes_sound t (length buffer)).to ten in
-      let w = handed_bound t (owners_of t cw) buffer owner shapes dropped q.1 in
+      let w = by_given (owners_of t cw) q.1 in
       let r : Right t (owners_of t cw).owners = owners_right t p.0 cw (owners_of t cw).owners
       (owners_whole t cw ∙ ap (λ a. owned a (owners_of t cw).owners) w.0) in
       let n : length owner ≡ length buffer = long (owners_of t cw).owners w.1 r.long p.1 in

@@ -22,7 +22,7 @@ use Rattle.tour.specs.Statement.{Line}
 use Rattle.fit.specs.Places.{walk_at, no_walk}
 use Rattle.straighten.specs.Reread.{origin}
 use Rattle.fit.specs.Rounds.{Links, meets}
-use Rattle.outlines.specs.Grid.{kept_of_lem}
+use Rattle.outlines.specs.Grid.{kept_of}
 use Rattle.fit.specs.Anchors.{Begins, AllBegin}
 
 -- the first link of a walk
@@ -123,7 +123,7 @@ module _ (g : Lent) (top st₀ : List ℕ) (r : Room) (f : FineGraph g top st₀
   kept_ordered minimum (w ∷ ws) o = by_keep (keeps G minimum w) (kept_ordered minimum ws o.1)
     where
       by_keep : (b : Bool) → Ordered (kept G minimum ws) → Ordered (pick b (w ∷ kept G minimum ws) (kept G minimum ws))
-      by_keep true h = (λ v m. o.0 v (kept_of_lem G minimum ws v m), h)
+      by_keep true h = (λ v m. o.0 v (kept_of G minimum ws v m), h)
       by_keep false h = h
 
   pub ordered_at : (ks : List Walk) → Ordered ks → (c d : ℕ) → c < d → d < length ks → before (G.a (lead (walk_at ks d).steps))

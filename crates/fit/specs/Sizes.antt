@@ -16,7 +16,7 @@ use Rattle.walk.specs.Walk.{Step, Walk, left, points}
 use Rattle.scan.specs.Scan.{walks, scan}
 use Rattle.keep.specs.Outcome.{kept, lens, firsts, kinds, all_points, coordinates, sum}
 use Rattle.keep.specs.Ledger.{coordinates_length, all_points_length, firsts_length}
-use Rattle.scan.specs.Visits.{walked_below, scanned}
+use Rattle.scan.specs.Visits.{scanned}
 use Rattle.tour.specs.Statement.{Line}
 use Rattle.tour.specs.ThreePoints.{finished}
 use Rattle.table.specs.Table.{Table, first_of, range_end, len_of, contour_count, point_count, point, next}
@@ -27,7 +27,7 @@ use Rattle.fit.specs.Places.{table_of, walk_at, no_walk, firsts_follow, firsts_e
 use Rattle.fit.specs.Places.{lens_length, point_at_lem}
 use Rattle.fit.specs.Rounds.{left_grid, line_next, line_last}
 use Rattle.straighten.specs.Reread.{origin}
-use Rattle.outlines.specs.Grid.{kept_of_lem, kept_sum, points_on_grid}
+use Rattle.outlines.specs.Grid.{walked_below, kept_of, kept_sum, points_on_grid}
 use Rattle.walk.specs.States.{unvisited_some}
 
 -- points on the grid, written as x and y in turn
@@ -56,7 +56,7 @@ module _ (g : Lent) (top st : List ℕ) (r : Room) (e : checked g top st r ≡ F
 
   -- ---- each contour
   pub at_walks : (c : ℕ) → c < length ks → Memᴰ (walk_at ks c) ws
-  at_walks c h = kept_of_lem G minimum ws (walk_at ks c) (member no_walk ks c h)
+  at_walks c h = kept_of G minimum ws (walk_at ks c) (member no_walk ks c h)
 
   pub three : (c : ℕ) → c < length ks → 3 ≤ length (walk_at ks c).steps
   three c h = (finished g top st r cw e ws after s (walk_at ks c) (at_walks c h)).three
@@ -81,7 +81,7 @@ module _ (g : Lent) (top st : List ℕ) (r : Room) (e : checked g top st r ≡ F
       last (p ∷ l) a v n q = line_last g top st r f (p ∷ l) v v a n p (a p (Memᴰ.head refl)) n.0 i q
 
   grid_all : (q : Point) → Memᴰ q (all_points G ks) → OnGrid q
-  grid_all = points_on_grid G G.n (left_grid g top st r f) ks (λ w m. links_in w (kept_of_lem G minimum ws w m))
+  grid_all = points_on_grid G G.n (left_grid g top st r f) ks (λ w m. links_in w (kept_of G minimum ws w m))
 
   abbrev t : Table
   t = table_of G ks

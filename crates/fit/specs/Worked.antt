@@ -8,10 +8,10 @@ use Rattle.next.specs.Next.{next_link, first_link}
 use Rattle.walk.specs.Walk.{Walk, walk_on, walk_from}
 use Rattle.keep.specs.Outcome.{areas, rejected}
 use Rattle.scan.specs.declared.Extraction.TheVariants.{Done, Refused}
-use Rattle.scan.specs.Scan.{Scanned, stopped, walks, scan_by, scan}
+use Rattle.scan.specs.Scan.{Scanned, stopped, walks, scan_on, scan}
 use Rattle.extraction.specs.Extract.{Extracted, extracted_as, extracted}
 use Rattle.finish.specs.Finish.{Buffers, buffers}
-use Rattle.extraction.specs.Examples.{tally, nines, fan, fan_tops, e1, e2, e3, e4, e5, e6, e6_rejected, e7, e8}
+use Rattle.extraction.specs.Examples.{nines, fan, fan_tops, e1, e2, e3, e4, e5, e6, e6_rejected, e7, e8}
 use Rattle.table.specs.Table.{Table}
 use Rattle.table.specs.Examples.{e9, e10, e10_one}
 use Rattle.anchor.specs.AnchorChecks.{hole_before}
@@ -67,7 +67,7 @@ triangle =
 
 -- one hull (0,4) (0,0) (4,0) (4,4), doubled area 32
 abbrev hull : Extracted
-hull = extracted_as (Done (tally 1 4 0 4 (p 32) (p 0)))
+hull = extracted_as (Done (record { contours = 1; points = 4; rejected = 0; walked = 4; left_out = 0; kept_area = p 32; rejected_area = p 0 }))
     (buffers (3 ∷ 3 ∷ 3 ∷ 3 ∷ []) (p 0 ∷ p 4 ∷ p 0 ∷ p 0 ∷ p 4 ∷ p 0 ∷ p 4 ∷ p 4 ∷ p 0 ∷ p 0 ∷ []) none (4 ∷ 0 ∷ []) none)
 
 -- The buffers that are lent hold nines, with room to spare, and the owners sevens.
@@ -75,33 +75,33 @@ abbrev pub rows : List Row
 rows =
     -- E1: no links, no nodes: done, nothing found
     extraction (lent [] [] [] [] [] [] (0 ∷ []) []) [] false 0 (nines [] 1 1)
-    (extracted_as (Done (tally 0 0 0 0 (p 0) (p 0)))
+    (extracted_as (Done (record { contours = 0; points = 0; rejected = 0; walked = 0; left_out = 0; kept_area = p 0; rejected_area = p 0 }))
     (buffers [] (p 0 ∷ p 0 ∷ []) (0 ∷ []) (0 ∷ []) (0 ∷ [])))
     -- E2: the square, counterclockwise, minimum 0
     ∷ extraction square tops false 0 (nines unvisited 5 2) hull
     -- E3: E2 clockwise: (0,0) (0,4) (4,4) (4,0)
     ∷ extraction square tops true 0 (nines unvisited 5 2)
-    (extracted_as (Done (tally 1 4 0 4 (m 32) (p 0)))
+    (extracted_as (Done (record { contours = 1; points = 4; rejected = 0; walked = 4; left_out = 0; kept_area = m 32; rejected_area = p 0 }))
     (buffers (3 ∷ 3 ∷ 3 ∷ 3 ∷ []) (p 0 ∷ p 0 ∷ p 0 ∷ p 4 ∷ p 4 ∷ p 4 ∷ p 4 ∷ p 0 ∷ p 0 ∷ p 0 ∷ []) none (4 ∷ 0 ∷ []) none))
     -- E4: E2 with minimum 16 kept
     ∷ extraction square tops false 16 (nines unvisited 5 2) hull
     -- E5: 17 rejected, links walked 4
     ∷ extraction square tops false 17 (nines unvisited 5 2)
-    (extracted_as (Done (tally 0 0 1 4 (p 0) (p 32)))
+    (extracted_as (Done (record { contours = 0; points = 0; rejected = 1; walked = 4; left_out = 0; kept_area = p 0; rejected_area = p 32 }))
     (buffers (3 ∷ 3 ∷ 3 ∷ 3 ∷ []) (replicate 10 (p 0)) none none none))
     -- E6: the triangle of doubled area 1: minimum 0 keeps, 1 rejects
     ∷ extraction triangle (0 ∷ 1 ∷ 0 ∷ []) false 0 (nines (0 ∷ 0 ∷ 0 ∷ []) 3 1)
-    (extracted_as (Done (tally 1 3 0 3 (p 1) (p 0)))
+    (extracted_as (Done (record { contours = 1; points = 3; rejected = 0; walked = 3; left_out = 0; kept_area = p 1; rejected_area = p 0 }))
     (buffers (3 ∷ 3 ∷ 3 ∷ []) (p 0 ∷ p 1 ∷ p 0 ∷ p 0 ∷ p 1 ∷ p 0 ∷ []) (0 ∷ []) (3 ∷ []) (0 ∷ [])))
     ∷ extraction triangle (0 ∷ 1 ∷ 0 ∷ []) false 1 (nines (0 ∷ 0 ∷ 0 ∷ []) 3 1)
-    (extracted_as (Done (tally 0 0 1 3 (p 0) (p 1)))
+    (extracted_as (Done (record { contours = 0; points = 0; rejected = 1; walked = 3; left_out = 0; kept_area = p 0; rejected_area = p 1 }))
     (buffers (3 ∷ 3 ∷ 3 ∷ []) (replicate 6 (p 0)) (0 ∷ []) (0 ∷ []) (0 ∷ [])))
     -- E7: E2 with link 0 skipped: 8 at 1
     ∷ extraction square tops false 0 (nines (1 ∷ 0 ∷ 0 ∷ 0 ∷ []) 5 2)
     (extracted_as (Refused 8 1) (buffers (1 ∷ 0 ∷ 0 ∷ 0 ∷ []) (replicate 10 (p 0)) none none none))
     -- E8: two walks of doubled area 2 rejected; one hull (10,-10) (0,0) (10,-20), doubled 100
     ∷ extraction fan fan_tops false 2 (nines (replicate 9 0) 9 3)
-    (extracted_as (Done (tally 1 3 2 9 (p 100) (p 4)))
+    (extracted_as (Done (record { contours = 1; points = 3; rejected = 2; walked = 9; left_out = 0; kept_area = p 100; rejected_area = p 4 }))
     (buffers (replicate 9 3) (p 10 ∷ m 10 ∷ p 0 ∷ p 0 ∷ p 10 ∷ m 20 ∷ replicate 12 (p 0)) (0 ∷ 0 ∷ 0 ∷ []) (3 ∷ 0 ∷ 0 ∷ []) (0 ∷ 0 ∷ 0 ∷ [])))
     ∷ rejections fan fan_tops false 2 (replicate 9 0) (p 2 ∷ p 2 ∷ [])
     -- E9: both holes get shape 1, the first from the hull, contour 1, the second through the first, contour 2
@@ -114,7 +114,7 @@ rows =
     ∷ []
 
 e8_rejects : Holds (rejections fan fan_tops false 2 (replicate 9 0) (p 2 ∷ p 2 ∷ []))
-unfolding scan_by walk_on walk_from next_link first_link lowest
+unfolding scan_on walk_on walk_from next_link first_link lowest
 e8_rejects = refl
 
 e9_first : Holds (through e9 false 2 1)

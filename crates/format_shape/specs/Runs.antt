@@ -13,14 +13,14 @@ use Rattle.format_shape.specs.declared.RunEnd.TheVariants as end
 
 -- ---- the loop that looks for a run's end
 
-end_with_lem : (b : List ℕ) (t : RunBodies) → run_end_of (with b t) ≡ run_end_of t
-end_with_lem b (ran r bs) = refl
-end_with_lem b (fault e) = refl
+end_with : (b : List ℕ) (t : RunBodies) → run_end_of (with b t) ≡ run_end_of t
+end_with b (ran r bs) = refl
+end_with b (fault e) = refl
 
 module _ (kind : ℕ) (s : List ℕ) (n : ℕ) (r : Run) where
   end_next : (x : Run) → step_at kind s r ≡ Next x → run_end_of (run_from (suc n) kind s r) ≡ run_end_of (run_from n kind s x)
   unfolding run_from
-  end_next x e = rw e (end_with_lem (body_at s r.at) (run_from n kind s x))
+  end_next x e = rw e (end_with (body_at s r.at) (run_from n kind s x))
 
   end_other : step_at kind s r ≡ Other → run_end_of (run_from (suc n) kind s r) ≡ end.To r
   unfolding run_from

@@ -1,6 +1,6 @@
 -- The structs that cross the boundary hold document 01's numbers and values for each case of each answer, as extraction, binding, lookup and
 -- reports set them out.
-use Rattle.std.specs.Prelude.{ℕ, false, List}
+use Rattle.std.specs.Prelude.{ℕ, List}
 use Rattle.contour.specs.declared.Settings.{Settings}
 use Rattle.scan.specs.declared.Extraction.{Extraction}
 use Rattle.scan.specs.Values.{Values, values_of}
@@ -24,7 +24,7 @@ use Rattle.guovdamas.specs.declared.GuovdamasReports.{GuovdamasReports}
 
 -- ---- extraction
 abbrev pub settings_of : GuovdamasSettings → Settings
-settings_of s = record { clockwise = s.clockwise; minimum = s.minimum; drop_straight = s.drop_straight; ogc = false }
+settings_of s = record { clockwise = s.clockwise; minimum = s.minimum; drop_straight = s.drop_straight }
 
 abbrev pub extraction_with : Values → GuovdamasExtraction
 extraction_with v = record {

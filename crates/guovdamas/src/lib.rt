@@ -93,7 +93,6 @@ fn settings_of(settings: GuovdamasSettings) -> Settings
         clockwise: settings.clockwise,
         minimum: settings.minimum,
         drop_straight: settings.drop_straight,
-        ogc: false,
     }
 }
 

@@ -12,11 +12,10 @@ use Rattle.turn.specs.Area.{points_of}
 use Rattle.turn.specs.Size.{is_kept}
 use Rattle.graph.specs.Graph.{Graph}
 use Rattle.walk.specs.Walk.{Walk, points, left}
-use Rattle.keep.specs.Outcome.{area_of, Judged, kept_of, rejected_of, judged_by, kept, rejected, lens, firsts, kinds, all_points, coordinates, sum, total}
-use Rattle.keep.specs.Outcome.{areas, counts_from}
+use Rattle.keep.specs.Outcome.{area_of, kept, rejected, lens, firsts, kinds, all_points, coordinates, sum, total, areas, counts_of}
 use Rattle.leave.specs.Points.{put}
 use Rattle.walk.specs.Code.{paste}
-use Rattle.keep.specs.Tables.{Tables, tables, enter_kept, enter_rejected, with_points, noted_as, all_judged, all_noted, no_counts}
+use Rattle.keep.specs.Tables.{Tables, tables, enter_kept, enter_rejected, with_points, all_noted, no_counts}
 
 -- ---- points that are pasted
 pub coordinates_length : (l : List Point) → length (coordinates l) ≡ length l * 2
@@ -74,7 +73,6 @@ pub record Entered (g : Graph) (t : Tables) (ks rs ws : List Walk) (t' : Tables)
   pub rejects : t'.counts.rejected ≡ t.counts.rejected + length rs
   pub walked : t'.counts.walked ≡ t.counts.walked + sum (lens ws)
   pub left_out_lem : t'.counts.left_out ≡ t.counts.left_out
-  pub free : t.counts.first_free ≡ t.counts.contours → t'.counts.first_free ≡ t'.counts.contours
   pub kept_total : t'.counts.kept_area ≡ t.counts.kept_area +ℤ total (areas g ks)
   pub rejected_total : t'.counts.rejected_area ≡ t.counts.rejected_area +ℤ total (areas g rs)
   pub points_are : take (t'.counts.points * 2) t'.points ≡ take (t.counts.points * 2) t.points ++ coordinates (all_points g ks)
@@ -104,7 +102,6 @@ none_entered g t = record {
   rejects = add_zero' t.counts.rejected;
   walked = add_zero' t.counts.walked;
   left_out_lem = refl;
-  free = λ e. e;
   kept_total = sym (+ℤ_idr t.counts.kept_area);
   rejected_total = sym (+ℤ_idr t.counts.rejected_area);
   points_are = sym (append-nil (take (t.counts.points * 2) t.points));
@@ -118,7 +115,7 @@ none_entered g t = record {
 }
 
 -- one contour more, then the others
-module _ (g : Graph) (t : Tables) (w : Walk) (ks rs ws : List Walk) where
+module _ (g : Graph) (minimum : ℕ) (t : Tables) (w : Walk) (ks rs ws : List Walk) where
   abbrev size : ℕ
   size = length w.steps
 
@@ -131,9 +128,10 @@ module _ (g : Graph) (t : Tables) (w : Walk) (ks rs ws : List Walk) where
   one_more : {A : Type 0} (l : List A) (i : ℕ) (a : A) → i < length l → take (i + 1) (set l i a) ≡ take i l ++ (a ∷ [])
   one_more l i a h = rw (add-one i) (take-suc-set l i a h)
 
-  kept_entered : (t' : Tables) → 3 ≤ size → Fits t (w ∷ ws)
+  kept_entered : (t' : Tables) → is_kept size (area_of g w) minimum ≡ true → Fits t (w ∷ ws)
       → Entered g (enter_kept w.hole size (area_of g w) pasted) ks rs ws t' → Entered g t (w ∷ ks) rs (w ∷ ws) t'
-  kept_entered t' three f h =
+  kept_entered t' e f h =
+      let three : 3 ≤ size = kept_three size (area_of g w) minimum e in
       let n : length (points g w) ≡ size = points_many in
       let i : t.counts.contours < length t.first = omega (arith, three, f.threes, f.first_fit) in
       let room : (t.counts.points + length (points g w)) * 2 ≤ length t.points = omega (arith, n, f.points_fit) in
@@ -148,7 +146,6 @@ module _ (g : Graph) (t : Tables) (w : Walk) (ks rs ws : List Walk) where
         rejects = h.rejects;
         walked = omega (arith, h.walked);
         left_out_lem = h.left_out_lem;
-        free = λ _. h.free refl;
         kept_total = h.kept_total ∙ +ℤ_assoc t.counts.kept_area (area_of g w) _;
         rejected_total = h.rejected_total;
         points_are =
@@ -177,7 +174,6 @@ module _ (g : Graph) (t : Tables) (w : Walk) (ks rs ws : List Walk) where
     rejects = omega (arith, h.rejects);
     walked = omega (arith, h.walked);
     left_out_lem = h.left_out_lem;
-    free = h.free;
     kept_total = h.kept_total;
     rejected_total = h.rejected_total ∙ +ℤ_assoc t.counts.rejected_area (area_of g w) _;
     points_are = h.points_are ∙ ap (λ (r : List ℤ). r ++ coordinates (all_points g ks)) (paste_past t.points t.counts.points (points g w));
@@ -190,8 +186,9 @@ module _ (g : Graph) (t : Tables) (w : Walk) (ks rs ws : List Walk) where
     kind_length = h.kind_length;
   }
 
-  kept_fits : 3 ≤ size → Fits t (w ∷ ws) → Fits (enter_kept w.hole size (area_of g w) pasted) ws
-  kept_fits three f =
+  kept_fits : is_kept size (area_of g w) minimum ≡ true → Fits t (w ∷ ws) → Fits (enter_kept w.hole size (area_of g w) pasted) ws
+  kept_fits e f =
+      let three : 3 ≤ size = kept_three size (area_of g w) minimum e in
       record {
         points_fit = rw (paste_length t.points t.counts.points (points g w)) (omega (arith, f.points_fit));
         threes = omega (arith, three, f.threes);
@@ -209,42 +206,19 @@ module _ (g : Graph) (t : Tables) (w : Walk) (ks rs ws : List Walk) where
     kind_fit = f.kind_fit;
   }
 
--- a walk that is kept has 3 points or more
-abbrev pub AllThree : List Judged → Type 0
-AllThree [] = Unit {0}
-AllThree (j ∷ js) = (j.kept ≡ true → 3 ≤ length j.walk.steps) × AllThree js
+by_size : (g : Graph) (minimum : ℕ) (t : Tables) (w : Walk) (ws : List Walk)
+    → ((t' : Tables) → Fits t' ws → Entered g t' (kept g minimum ws) (rejected g minimum ws) ws (all_noted g minimum t' ws))
+    → Fits t (w ∷ ws) → (b : Bool) → is_kept (length w.steps) (area_of g w) minimum ≡ b
+    → Entered g t (pick b (w ∷ kept g minimum ws) (kept g minimum ws)) (pick b (rejected g minimum ws) (w ∷ rejected g minimum ws)) (w ∷ ws)
+    (all_noted g minimum (pick b (enter_kept w.hole (length w.steps) (area_of g w) (with_points t (paste t.points t.counts.points (points g w))))
+    (enter_rejected (length w.steps) (area_of g w) (with_points t (paste t.points t.counts.points (points g w))))) ws)
+by_size g minimum t w ws h f true e = kept_entered g minimum t w _ _ ws _ e f (h _ (kept_fits g minimum t w [] [] ws e f))
+by_size g minimum t w ws h f false e = rejected_entered g minimum t w _ _ ws _ (h _ (rejected_fits g minimum t w [] [] ws f))
 
-abbrev pub walks_in : List Judged → List Walk
-walks_in = map (λ j. j.walk)
-
-by_verdict : (g : Graph) (t : Tables) (w : Walk) (js : List Judged)
-    → ((t' : Tables) → Fits t' (walks_in js) → Entered g t' (kept_of js) (rejected_of js) (walks_in js) (all_judged g t' js))
-    → Fits t (w ∷ walks_in js) → (b : Bool) → (b ≡ true → 3 ≤ length w.steps)
-    → Entered g t (pick b (w ∷ kept_of js) (kept_of js)) (pick b (rejected_of js) (w ∷ rejected_of js)) (w ∷ walks_in js) (all_judged g (noted_as g b t w) js)
-by_verdict g t w js h f true three =
-    kept_entered g t w _ _ (walks_in js) _ (three refl) f (h _ (kept_fits g t w [] [] (walks_in js) (three refl) f))
-by_verdict g t w js h f false three = rejected_entered g t w _ _ (walks_in js) _ (h _ (rejected_fits g t w [] [] (walks_in js) f))
-
-pub entered : (g : Graph) (t : Tables) (js : List Judged) → AllThree js → Fits t (walks_in js)
-    → Entered g t (kept_of js) (rejected_of js) (walks_in js) (all_judged g t js)
-entered g t [] a f = none_entered g t
-entered g t (j ∷ js) a f = by_verdict g t j.walk js (λ t'. entered g t' js a.1) f j.kept a.0
-
--- by rule 6
-pub all_three : (g : Graph) (minimum : ℕ) (ws : List Walk) → AllThree (judged_by g minimum ws)
-all_three g minimum [] = tt
-all_three g minimum (w ∷ ws) = (kept_three (length w.steps) (area_of g w) minimum, all_three g minimum ws)
-
-pub walks_judged : (g : Graph) (minimum : ℕ) (ws : List Walk) → walks_in (judged_by g minimum ws) ≡ ws
-walks_judged g minimum [] = refl
-walks_judged g minimum (w ∷ ws) = ap (λ (l : List Walk). w ∷ l) (walks_judged g minimum ws)
-
-pub entered_kept : (g : Graph) (minimum : ℕ) (t : Tables) (ws : List Walk) → Fits t ws
-    → Entered g t (kept g minimum ws) (rejected g minimum ws) ws (all_noted g minimum t ws)
-entered_kept g minimum t ws f =
-    let e : walks_in (judged_by g minimum ws) ≡ ws = walks_judged g minimum ws in
-    subst (λ l. Entered g t (kept g minimum ws) (rejected g minimum ws) l (all_noted g minimum t ws)) e
-    (entered g t (judged_by g minimum ws) (all_three g minimum ws) (subst (Fits t) (sym e) f))
+pub entered : (g : Graph) (minimum : ℕ) (t : Tables) (ws : List Walk) → Fits t ws → Entered g t (kept g minimum ws) (rejected g minimum ws) ws
+    (all_noted g minimum t ws)
+entered g minimum t [] f = none_entered g t
+entered g minimum t (w ∷ ws) f = by_size g minimum t w ws (λ t'. entered g minimum t' ws) f (is_kept (length w.steps) (area_of g w) minimum) refl
 
 -- ---- from nothing, with zeros past what was written
 module _ {A : Type 0} (z : A) where
@@ -261,39 +235,36 @@ pub all_points_length : (g : Graph) (ws : List Walk) → length (all_points g ws
 all_points_length g [] = refl
 all_points_length g (w ∷ ws) = length-append (points g w) (all_points g ws) ∙ ap₂ ◌+◌ (length-map w.steps (left g)) (all_points_length g ws)
 
--- what tables of some walks come to, of which some are kept and the others rejected
-pub record Finished (g : Graph) (ks rs ws : List Walk) (pts : List ℤ) (first len kind : List ℕ) (t : Tables) : Type 0 where
-  pub counts_are : t.counts ≡ counts_from g ks rs ws (length ks)
-  pub points_are : map_from (λ _. pos 0) (t.counts.points * 2) t.points ≡ padded (pos 0) (coordinates (all_points g ks)) (length pts)
-  pub first_are : map_from (λ _. 0) t.counts.contours t.first ≡ padded 0 (firsts 0 (lens ks)) (length first)
-  pub len_are : map_from (λ _. 0) t.counts.contours t.len ≡ padded 0 (lens ks) (length len)
-  pub kind_are : map_from (λ _. 0) t.counts.contours t.kind ≡ padded 0 (kinds ks) (length kind)
+-- what the scan's tables come to
+pub record Finished (g : Graph) (minimum : ℕ) (ws : List Walk) (pts : List ℤ) (first len kind : List ℕ) (t : Tables) : Type 0 where
+  pub counts_are : t.counts ≡ counts_of g minimum ws
+  pub points_are : map_from (λ _. pos 0) (t.counts.points * 2) t.points ≡ padded (pos 0) (coordinates (all_points g (kept g minimum ws))) (length pts)
+  pub first_are : map_from (λ _. 0) t.counts.contours t.first ≡ padded 0 (firsts 0 (lens (kept g minimum ws))) (length first)
+  pub len_are : map_from (λ _. 0) t.counts.contours t.len ≡ padded 0 (lens (kept g minimum ws)) (length len)
+  pub kind_are : map_from (λ _. 0) t.counts.contours t.kind ≡ padded 0 (kinds (kept g minimum ws)) (length kind)
 
-module _ (g : Graph) (js : List Judged) (pts : List ℤ) (first len kind : List ℕ) (a : AllThree js)
-    (f : Fits (tables pts first len kind no_counts) (walks_in js)) where
+module _ (g : Graph) (minimum : ℕ) (ws : List Walk) (pts : List ℤ) (first len kind : List ℕ) (f : Fits (tables pts first len kind no_counts) ws) where
   abbrev ks : List Walk
-  ks = kept_of js
-
-  abbrev rs : List Walk
-  rs = rejected_of js
+  ks = kept g minimum ws
 
   abbrev t : Tables
-  t = all_judged g (tables pts first len kind no_counts) js
+  t = all_noted g minimum (tables pts first len kind no_counts) ws
 
-  abbrev h : Entered g (tables pts first len kind no_counts) ks rs (walks_in js) t
-  h = entered g (tables pts first len kind no_counts) js a f
+  abbrev h : Entered g (tables pts first len kind no_counts) ks (rejected g minimum ws) ws t
+  h = entered g minimum (tables pts first len kind no_counts) ws f
 
   nought : (n : ℕ) → 0 + n ≡ n
   nought n = omega arith
 
-  pub finished_judged : Finished g ks rs (walks_in js) pts first len kind t
-  finished_judged =
+  pub finished : Finished g minimum ws pts first len kind t
+  finished =
       let contours : t.counts.contours ≡ length ks = h.contours ∙ nought (length ks) in
       let count : t.counts.points ≡ sum (lens ks) = h.count ∙ nought (sum (lens ks)) in
-      let rejects : t.counts.rejected ≡ length rs = h.rejects ∙ nought (length rs) in
-      let walked : t.counts.walked ≡ sum (lens (walks_in js)) = h.walked ∙ nought (sum (lens (walks_in js))) in
+      let rejects : t.counts.rejected ≡ length (rejected g minimum ws) = h.rejects ∙ nought (length (rejected g minimum ws)) in
+      let walked : t.counts.walked ≡ sum (lens ws) = h.walked ∙ nought (sum (lens ws)) in
       let kept_total : t.counts.kept_area ≡ total (areas g ks) = h.kept_total ∙ +ℤ_idl (total (areas g ks)) in
-      let rejected_total : t.counts.rejected_area ≡ total (areas g rs) = h.rejected_total ∙ +ℤ_idl (total (areas g rs)) in
+      let rejected_total : t.counts.rejected_area ≡ total (areas g (rejected g minimum ws)) = h.rejected_total
+      ∙ +ℤ_idl (total (areas g (rejected g minimum ws))) in
       let many : length (lens ks) ≡ length ks = length-map ks (λ w. length w.steps) in
       record {
         counts_are =
@@ -303,7 +274,6 @@ module _ (g : Graph) (js : List Judged) (pts : List ℤ) (first len kind : List 
               rejected = rejects i;
               walked = walked i;
               left_out = h.left_out_lem i;
-              first_free = (h.free refl ∙ contours) i;
               kept_area = kept_total i;
               rejected_area = rejected_total i;
             };
@@ -318,11 +288,3 @@ module _ (g : Graph) (js : List Judged) (pts : List ℤ) (first len kind : List 
             padded_is 0 t.counts.contours t.kind (kinds ks) (length kind) h.kind_are
             (length-map ks (λ w. pick w.hole 1 0) ∙ sym contours) h.kind_length;
       }
-
--- by rule 6
-pub finished : (g : Graph) (minimum : ℕ) (ws : List Walk) (pts : List ℤ) (first len kind : List ℕ) → Fits (tables pts first len kind no_counts) ws
-    → Finished g (kept g minimum ws) (rejected g minimum ws) ws pts first len kind (all_noted g minimum (tables pts first len kind no_counts) ws)
-finished g minimum ws pts first len kind f =
-    let e : walks_in (judged_by g minimum ws) ≡ ws = walks_judged g minimum ws in
-    subst (λ l. Finished g (kept g minimum ws) (rejected g minimum ws) l pts first len kind (all_noted g minimum (tables pts first len kind no_counts) ws)) e
-    (finished_judged g (judged_by g minimum ws) pts first len kind (all_three g minimum ws) (subst (Fits (tables pts first len kind no_counts)) (sym e) f))

@@ -15,28 +15,13 @@ area_of g w = area (points g w)
 abbrev pub keeps : Graph → ℕ → Walk → Bool
 keeps g minimum w = is_kept (length w.steps) (area_of g w) minimum
 
--- walks, each with whether it is kept
-pub record Judged : Type 0 where
-  pub kept : Bool
-  pub walk : Walk
-
-abbrev pub kept_of : List Judged → List Walk
-kept_of [] = []
-kept_of (j ∷ js) = pick j.kept (j.walk ∷ kept_of js) (kept_of js)
-
-abbrev pub rejected_of : List Judged → List Walk
-rejected_of [] = []
-rejected_of (j ∷ js) = pick j.kept (rejected_of js) (j.walk ∷ rejected_of js)
-
--- by rule 6
-abbrev pub judged_by : Graph → ℕ → List Walk → List Judged
-judged_by g minimum = map (λ w. record { kept = keeps g minimum w; walk = w })
-
 abbrev pub kept : Graph → ℕ → List Walk → List Walk
-kept g minimum ws = kept_of (judged_by g minimum ws)
+kept g minimum [] = []
+kept g minimum (w ∷ ws) = pick (keeps g minimum w) (w ∷ kept g minimum ws) (kept g minimum ws)
 
 abbrev pub rejected : Graph → ℕ → List Walk → List Walk
-rejected g minimum ws = rejected_of (judged_by g minimum ws)
+rejected g minimum [] = []
+rejected g minimum (w ∷ ws) = pick (keeps g minimum w) (rejected g minimum ws) (w ∷ rejected g minimum ws)
 
 -- ---- the visit states after the walks: 2 for the links of a hole, 3 for those of a hull
 abbrev pub states_after : List Walk → List ℕ → List ℕ
@@ -74,19 +59,13 @@ total (z ∷ zs) = z +ℤ total zs
 abbrev pub areas : Graph → List Walk → List ℤ
 areas g = map (area_of g)
 
--- of some walks, of which some are kept and the others rejected; and the first free hole's number
-abbrev pub counts_from : Graph → (ks rs ws : List Walk) → ℕ → Counts
-counts_from g ks rs ws free = record {
-  contours = length ks;
-  points = sum (lens ks);
-  rejected = length rs;
+abbrev pub counts_of : Graph → ℕ → List Walk → Counts
+counts_of g minimum ws = record {
+  contours = length (kept g minimum ws);
+  points = sum (lens (kept g minimum ws));
+  rejected = length (rejected g minimum ws);
   walked = sum (lens ws);
   left_out = 0;
-  first_free = free;
-  kept_area = total (areas g ks);
-  rejected_area = total (areas g rs);
+  kept_area = total (areas g (kept g minimum ws));
+  rejected_area = total (areas g (rejected g minimum ws));
 }
-
--- by rule 6; no hole is free, so that the number is the contour count
-abbrev pub counts_of : Graph → ℕ → List Walk → Counts
-counts_of g minimum ws = counts_from g (kept g minimum ws) (rejected g minimum ws) ws (length (kept g minimum ws))

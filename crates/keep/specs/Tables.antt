@@ -8,7 +8,7 @@ use Rattle.turn.specs.Area.{wedge_bound}
 use Rattle.graph.specs.Graph.{Graph}
 use Rattle.keep.specs.declared.Counts.{Counts}
 use Rattle.walk.specs.Walk.{Walk, points}
-use Rattle.keep.specs.Outcome.{area_of, keeps, Judged, judged_by}
+use Rattle.keep.specs.Outcome.{area_of}
 use Rattle.walk.specs.Code.{paste}
 
 -- ---- points, contour table and counts so far
@@ -34,7 +34,6 @@ enter_kept hole size area t = tables t.points
       rejected = t.counts.rejected;
       walked = t.counts.walked + size;
       left_out = t.counts.left_out;
-      first_free = t.counts.contours + 1;
       kept_area = t.counts.kept_area +ℤ area;
       rejected_area = t.counts.rejected_area;
     })
@@ -47,37 +46,28 @@ enter_rejected size area t = tables t.points t.first t.len t.kind
       rejected = t.counts.rejected + 1;
       walked = t.counts.walked + size;
       left_out = t.counts.left_out;
-      first_free = t.counts.first_free;
       kept_area = t.counts.kept_area;
       rejected_area = t.counts.rejected_area +ℤ area;
     })
 
-abbrev pub enter_as : Bool → Bool → ℕ → ℤ → Tables → Tables
-enter_as kept hole size area t = pick kept (enter_kept hole size area t) (enter_rejected size area t)
-
 abbrev pub enter : ℕ → Bool → ℕ → ℤ → Tables → Tables
-enter minimum hole size area t = enter_as (is_kept size area minimum) hole size area t
+enter minimum hole size area t = pick (is_kept size area minimum) (enter_kept hole size area t) (enter_rejected size area t)
 
 abbrev pub with_points : Tables → List ℤ → Tables
 with_points t pts = tables pts t.first t.len t.kind t.counts
 
--- one walk more, and all walks: judged anyhow, and by rule 6
-abbrev pub noted_as : Graph → Bool → Tables → Walk → Tables
-noted_as g kept t w = enter_as kept w.hole (length w.steps) (area_of g w) (with_points t (paste t.points t.counts.points (points g w)))
-
-abbrev pub all_judged : Graph → Tables → List Judged → Tables
-all_judged g t [] = t
-all_judged g t (j ∷ js) = all_judged g (noted_as g j.kept t j.walk) js
-
+-- one walk more, and all walks
 abbrev pub noted : Graph → ℕ → Tables → Walk → Tables
-noted g minimum t w = noted_as g (keeps g minimum w) t w
+noted g minimum t w =
+    enter minimum w.hole (length w.steps) (area_of g w) (with_points t (paste t.points t.counts.points (points g w)))
 
 abbrev pub all_noted : Graph → ℕ → Tables → List Walk → Tables
-all_noted g minimum t ws = all_judged g t (judged_by g minimum ws)
+all_noted g minimum t [] = t
+all_noted g minimum t (w ∷ ws) = all_noted g minimum (noted g minimum t w) ws
 
 -- before the first walk
 abbrev pub no_counts : Counts
-no_counts = record { contours = 0; points = 0; rejected = 0; walked = 0; left_out = 0; first_free = 0; kept_area = pos 0; rejected_area = pos 0 }
+no_counts = record { contours = 0; points = 0; rejected = 0; walked = 0; left_out = 0; kept_area = pos 0; rejected_area = pos 0 }
 
 -- what the counts stay within, for n links, so many of them unvisited
 pub record Within (n rest : ℕ) (c : Counts) : Type 0 where

@@ -6,7 +6,6 @@ ghost use Rattle.keep.specs.Tables.{tables, enter_kept, enter_rejected, Within};
 ghost use Rattle.keep.specs.Promises.{NoCountsSays, NoteWalkSays};
 
 // What extraction returns on success. `left_out` counts the contours of which dropping points on a line left fewer than 3: the scan leaves none out.
-// `first_free` is the contour number of the first free hole: the contour count, but for the OGC profile.
 // `kept_area` and `rejected_area` are the signed doubled totals of kept and of rejected walks.
 #[derive(Drop)]
 pub struct Counts {
@@ -15,7 +14,6 @@ pub struct Counts {
     pub rejected: usize,
     pub walked: usize,
     pub left_out: usize,
-    pub first_free: usize,
     pub kept_area: i64,
     pub rejected_area: i64,
 }
@@ -30,7 +28,6 @@ pub fn no_counts() -> Counts
         rejected: 0,
         walked: 0,
         left_out: 0,
-        first_free: 0,
         kept_area: 0,
         rejected_area: 0,
     }
@@ -49,7 +46,6 @@ fn kept_counts(size: usize, area: i64, c: Counts) -> Counts
         rejected: c.rejected,
         walked: c.walked + size,
         left_out: c.left_out,
-        first_free: c.contours + 1,
         kept_area: kept_area,
         rejected_area: rejected_area,
     }
@@ -68,7 +64,6 @@ fn rejected_counts(size: usize, area: i64, c: Counts) -> Counts
         rejected: c.rejected + 1,
         walked: c.walked + size,
         left_out: c.left_out,
-        first_free: c.first_free,
         kept_area: kept_area,
         rejected_area: rejected_area,
     }

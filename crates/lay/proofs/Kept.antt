@@ -19,13 +19,13 @@ use Rattle.rings.specs.Linking.{linked_kept}
 use Rattle.rings.specs.Field.{cross_mark, wrap_mark, wraps_at, named, LaidBridge, LaidCross, Laid, end_node, ElseKept, OthersKept}
 
 -- a test that tells the members of a list alike tells the last alike
-last_kept_lem : (s t : ℕ → Bool) (p : ℕ) (l : List ℕ) → ((x : ℕ) → Mem x (p ∷ l) → t x ≡ s x) → LastAlone s p l → LastAlone t p l
-last_kept_lem s t p [] f h = f p (Memᴰ.head refl) ∙ h
-last_kept_lem s t p (x ∷ l) f h = (f p (Memᴰ.head refl) ∙ h.0, last_kept_lem s t x l (λ y m. f y (Memᴰ.tail m)) h.1)
+last_kept : (s t : ℕ → Bool) (p : ℕ) (l : List ℕ) → ((x : ℕ) → Mem x (p ∷ l) → t x ≡ s x) → LastAlone s p l → LastAlone t p l
+last_kept s t p [] f h = f p (Memᴰ.head refl) ∙ h
+last_kept s t p (x ∷ l) f h = (f p (Memᴰ.head refl) ∙ h.0, last_kept s t x l (λ y m. f y (Memᴰ.tail m)) h.1)
 
 at_last_kept : (s t : ℕ → Bool) (l : List ℕ) → ((x : ℕ) → Mem x l → t x ≡ s x) → AtLast s l → AtLast t l
 at_last_kept s t [] f h = tt
-at_last_kept s t (x ∷ l) f h = last_kept_lem s t x l f h
+at_last_kept s t (x ∷ l) f h = last_kept s t x l f h
 
 -- ---- node u, while the lists stay as they are at its ends
 module _ (lists : Lent) (top state : List ℕ) (u : ℕ)

@@ -4,4 +4,3 @@ pub mod Straightening
 pub mod Grid
 pub mod Checking
 pub mod Promises
-pub mod Standing

@@ -50,39 +50,26 @@ outline_points [] = []
 outline_points (o ∷ os) = o.points ++ outline_points os
 
 -- ---- what extraction leaves: kept or not, links walked, rejected walks, states and both totals are those of the walks before removal
-abbrev pub outlines_from : Graph → (ks : List Walk) → List Outline
-outlines_from g ks = map (straightened g) ks
+abbrev pub outlines_of : Graph → ℕ → List Walk → List Outline
+outlines_of g minimum ws = map (straightened g) (kept g minimum ws)
 
--- of some walks, of which some are kept and the others rejected; and the first free hole's number
-abbrev pub straight_counts_from : Graph → (ks rs ws : List Walk) → ℕ → Counts
-straight_counts_from g ks rs ws free = record {
-  contours = length (whole (outlines_from g ks));
-  points = sum (outline_sizes (whole (outlines_from g ks)));
-  rejected = length rs;
+abbrev pub straight_counts : Graph → ℕ → List Walk → Counts
+straight_counts g minimum ws = record {
+  contours = length (whole (outlines_of g minimum ws));
+  points = sum (outline_sizes (whole (outlines_of g minimum ws)));
+  rejected = length (rejected g minimum ws);
   walked = sum (lens ws);
-  left_out = left_out (outlines_from g ks);
-  first_free = free;
-  kept_area = total (areas g ks);
-  rejected_area = total (areas g rs);
+  left_out = left_out (outlines_of g minimum ws);
+  kept_area = total (areas g (kept g minimum ws));
+  rejected_area = total (areas g (rejected g minimum ws));
 }
 
-abbrev pub after_straight_kept : Graph → (ks ws : List Walk) → Buffers → Buffers
-after_straight_kept g ks ws b = let os : List Outline = whole (outlines_from g ks) in
+abbrev pub after_straight : Graph → ℕ → List Walk → Buffers → Buffers
+after_straight g minimum ws b = let os : List Outline = whole (outlines_of g minimum ws) in
     buffers (states_after ws b.state) (padded (pos 0) (coordinates (outline_points os)) (length b.points))
     (padded 0 (firsts 0 (outline_sizes os)) (length b.first))
     (padded 0 (outline_sizes os) (length b.len))
     (padded 0 (outline_kinds os) (length b.kind))
-
--- by rule 6; no hole is free, so that the number is the contour count
-abbrev pub outlines_of : Graph → ℕ → List Walk → List Outline
-outlines_of g minimum ws = outlines_from g (kept g minimum ws)
-
-abbrev pub straight_counts : Graph → ℕ → List Walk → Counts
-straight_counts g minimum ws =
-    straight_counts_from g (kept g minimum ws) (rejected g minimum ws) ws (length (whole (outlines_of g minimum ws)))
-
-abbrev pub after_straight : Graph → ℕ → List Walk → Buffers → Buffers
-after_straight g minimum ws b = after_straight_kept g (kept g minimum ws) ws b
 
 -- a refusal is what it was
 abbrev pub straight_scan : Graph → ℕ → Buffers → Scanned → Extracted

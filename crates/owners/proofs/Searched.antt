@@ -1,11 +1,11 @@
 -- The search over the gathered holes and in their order is that of the definition.
-use Prim.Native.Nat.{ℕ, ◌≤◌, ◌<◌}
-use mathlib.Core.Path.{◌≡◌, sym, ap, ap₂, ◌∙◌, subst}
+use Prim.Native.Nat.{ℕ, zero, suc, ◌≤◌, ◌<◌}
+use mathlib.Core.Path.{◌≡◌, refl, sym, ap, ap₂, ◌∙◌, subst}
 use mathlib.Core.Bool.{Bool, true, false}
 use mathlib.Core.List.{List}
 use native.Mathlib.Omega.{arith}
 use native.Mathlib.Decide.{ℕ_discrete}
-use lib.ListN.{length, get_or, take}
+use lib.ListN.{length, get_or, take, replicate}
 use lib.Seq.{length-take-le, get_or-take}
 use lib.IntN.{pos}
 use lib.Signed.{lt_z, ◌≤ℤ◌, ≤ℤ_refl}
@@ -23,16 +23,28 @@ use Rattle.anchor.specs.Anchors.{Anchors, listed_anchor, AnchorsOnGrid, less_roo
 use Rattle.anchor.specs.AnchorPositions.{anchor_on_grid, end_on_grid}
 use Rattle.candidates.specs.Candidates.{rightward}
 use Rattle.nearest.specs.Search.{search_under}
-use Rattle.nearest.specs.SearchLists.{SortedAnchors}
+use Rattle.nearest.specs.SearchLists.{giving, SortedAnchors}
 use Rattle.nearest.specs.Least.{under_few}
 use Rattle.precede.specs.Precedence.{goes_before}
 use Rattle.order.specs.HoleOrder.{precedes, sorted, holes, hole, binding_order}
 use Rattle.order.specs.HoleLaws.{Rising, holes_rising, holes_are}
 use Rattle.order.specs.HoleLists.{Room, Gathered, Bounded, by_anchor, Ordered}
 use Rattle.order.specs.Insertion.{sorted_length, sorted_image, entries}
-use Rattle.owners.specs.Owners.{contour_below_among, searched_among}
+use Rattle.owners.specs.Owners.{every_contour, contour_below, give_each}
 use Rattle.owners.specs.Giving.{give_listed, Listed}
 use Rattle.owners.proofs.Gives.{give_same}
+
+-- ---- no contour is mute
+zeros : (n c : ℕ) → get_or {A = ℕ} (replicate n 0) c 0 ≡ 0
+zeros zero c = refl
+zeros (suc n) zero = refl
+zeros (suc n) (suc c) = zeros n c
+
+every_gives : (n : ℕ) → giving (replicate n 0) ≡ every_contour
+every_gives n = λ i c. here c i
+  where
+    here : (c : ℕ) → giving (replicate n 0) c ≡ true
+    here c = rw (zeros n c)
 
 -- ---- the search with the gathered holes
 -- one point is not before another, so not left of it
@@ -81,10 +93,12 @@ module _ (t : Table) (s : Sound t) (cw : Bool) (a : Anchored t cw) (m : ℕ) (wh
     pub sorted_anchors : SortedAnchors h m
     sorted_anchors = record { on_grid = on_grid; sorted = in_order }
 
-  module _ (gives : ℕ → Bool) (under ord own : List ℕ) (u : (j : ℕ) → j < m → get_or under j 0 ≡ search_under t true cw gives (listed_anchor h j))
+  module _ (under ord own : List ℕ) (u : (j : ℕ) → j < m → get_or under j 0 ≡ search_under t true cw (giving (replicate max_contours 0)) (listed_anchor h j))
       (o : Ordered h who m ord) where
-    under_is : (j : ℕ) → j < m → get_or under j 0 ≡ contour_below_among t cw gives (hole t j)
-    under_is j l = u j l ∙ ap (search_under t true cw gives) (g.at j l)
+    under_is : (j : ℕ) → j < m → get_or under j 0 ≡ contour_below t cw (hole t j)
+    under_is j l =
+        u j l ∙ ap (λ (e : ℕ → Bool). search_under t true cw e (listed_anchor h j)) (every_gives max_contours)
+        ∙ ap (search_under t true cw every_contour) (g.at j l)
 
     low : (i : ℕ) → i < m → get_or ord i 0 < m
     low i l = rw (o i l) (entries (λ k. k < m) (by_anchor h who) (λ k. k) m (λ k n. n) i l)
@@ -97,7 +111,7 @@ module _ (t : Table) (s : Sound t) (cw : Bool) (a : Anchored t cw) (m : ℕ) (wh
       who_room = omega (arith, few_holes);
       who_below = λ j l. rw (g.who_is j l, e) (hole_below j l);
       under_room = omega (arith, few_holes);
-      under_below = λ j l. rw (under_is j l, e) (under_few t s (rightward true cw) gives (anchor_edge t cw (hole t j)));
+      under_below = λ j l. rw (under_is j l, e) (under_few t s (rightward true cw) every_contour (anchor_edge t cw (hole t j)));
     }
 
     -- the order of the places is the order of the holes
@@ -106,9 +120,9 @@ module _ (t : Table) (s : Sound t) (cw : Bool) (a : Anchored t cw) (m : ℕ) (wh
         sym (ap₂ (λ (p q : Anchor). goes_before p q (get_or who i 0) (get_or who j 0)) (g.at i l) (g.at j n)
         ∙ ap₂ (goes_before (anchor_edge t cw (hole t i)) (anchor_edge t cw (hole t j))) (g.who_is i l) (g.who_is j n))
 
-    pub gave : max_contours ≤ length ord → give_listed who under (take m ord) own ≡ searched_among t cw gives own
+    pub gave : max_contours ≤ length ord → give_listed who under (take m ord) own ≡ give_each (contour_below t cw) (binding_order t cw) own
     gave p =
-        give_same (contour_below_among t cw gives) (hole t) who under m g.who_is under_is (binding_order t cw) (take m ord) own
+        give_same (contour_below t cw) (hole t) who under m g.who_is under_is (binding_order t cw) (take m ord) own
         (sorted_length (precedes t cw) (hole t) (length (holes t)) ∙ sym g.all ∙ sym taken)
         (λ i l. pair i (rw taken at l)) (λ i l. let k : i < m = rw taken at l in rw (get_or-take m ord i 0 k) (low i k))
       where

@@ -1,6 +1,5 @@
 -- The definitions that the contracts cite, then the laws of them.
 pub mod Owners
 pub mod Giving
-pub mod GivingLaws
 pub mod OwnerLaws
 pub mod Promises

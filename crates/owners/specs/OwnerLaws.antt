@@ -14,14 +14,14 @@ use Rattle.table.specs.Table.{Table, contour_count, kind_of, hulls, hull_count, 
 use Rattle.table.specs.Sound.{Sound}
 use Rattle.order.specs.HoleOrder.{binding_order}
 use Rattle.order.specs.OrderLaws.{each_once}
+use Rattle.owners.specs.declared.Given.{Given}
 use Rattle.owners.specs.declared.Given.TheVariants.{All, Stuck}
-use Rattle.owners.specs.GivingLaws.{split}
 use Rattle.owners.specs.Owners.{Owned, owned, given, first_owner, give_each, contour_below, searched_owners, owners_of}
 
 -- ---- giving keeps owners below a bound
 module _ (under : ℕ → ℕ) (n : ℕ) (some : 0 < n) where
   -- below the bound, or none
-  abbrev pub Held : List ℕ → Type 0
+  abbrev Held : List ℕ → Type 0
   Held l = (c : ℕ) → (get_or l c 0 < n) ⊎ (get_or l c 0 ≡ dropped_owner)
 
   parent_held : (u : ℕ) (l : List ℕ) → Held l → (given u l ≡ dropped_owner → ⊥) → given u l < n
@@ -61,11 +61,14 @@ module _ (under : ℕ → ℕ) (n : ℕ) (some : 0 < n) where
         go (no k) = let m : length l ≤ c = omega arith in rw (set_out l c v m, get_or-eq_default l 0 m) some
 
   -- what all holes' parents found leaves below the bound: what was, and the holes gone through
-  pub record Below (l old new' : List ℕ) : Type 0 where
-    pub kept : (d : ℕ) → get_or old d 0 < n → get_or new' d 0 < n
-    pub gone : (i : ℕ) → i < length l → get_or new' (get_or l i 0) 0 < n
+  record Below (l old new' : List ℕ) : Type 0 where
+    kept : (d : ℕ) → get_or old d 0 < n → get_or new' d 0 < n
+    gone : (i : ℕ) → i < length l → get_or new' (get_or l i 0) 0 < n
 
-  pub all_given : (l old new' : List ℕ) → Held old → give_each under l old ≡ owned All new' → Below l old new'
+  split : {x y : List ℕ} {r q : Given} → owned r x ≡ owned q y → (r ≡ q) × (x ≡ y)
+  split e = (ap (λ (w : Owned). w.answer) e, ap (λ (w : Owned). w.owners) e)
+
+  all_given : (l old new' : List ℕ) → Held old → give_each under l old ≡ owned All new' → Below l old new'
   unfolding give_each
   all_given [] old new' h e = let q = split e in record { kept = λ d k. rw (← q.1) k; gone = λ i k. absurd (not-suc-le-zero k) }
   all_given (c ∷ l) old new' h e = go (eqb (given (under c) old) dropped_owner) refl e (λ k. all_given l (set old c (given (under c) old)) new' k)
@@ -95,7 +98,7 @@ hull_below kinds c l e =
     let m : hulls (take (c + 1) kinds) ≡ hulls (take c kinds) + 1 = count_more 0 kinds c l ∙ rw (eq-eqb _ _ e) in
     rw (eq-eqb _ _ e) (omega (arith, m, count_most 0 (c + 1) kinds))
 
-pub hole_none : (kinds : List ℕ) (c : ℕ) → (get_or kinds c 0 ≡ 0 → ⊥) → first_owner kinds c ≡ dropped_owner
+hole_none : (kinds : List ℕ) (c : ℕ) → (get_or kinds c 0 ≡ 0 → ⊥) → first_owner kinds c ≡ dropped_owner
 hole_none kinds c e = rw (ne_eqb _ _ e)
 
 module _ (t : Table) (s : Sound t) (some : 0 < hull_count t) where

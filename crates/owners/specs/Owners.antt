@@ -16,12 +16,9 @@ every_contour c = true
 abbrev pub with_fill_above : Bool
 with_fill_above = true
 
--- the contour of the nearest edge under hole c's anchor, and 1, where some contours give edges; 0 where no edge of theirs lies under
-abbrev pub contour_below_among : Table → Bool → (ℕ → Bool) → ℕ → ℕ
-contour_below_among t cw gives c = search_under t with_fill_above cw gives (anchor_edge t cw c)
-
+-- the contour of the nearest edge under hole c's anchor, and 1; 0 where no edge lies under
 abbrev pub contour_below : Table → Bool → ℕ → ℕ
-contour_below t cw = contour_below_among t cw every_contour
+contour_below t cw c = search_under t with_fill_above cw every_contour (anchor_edge t cw c)
 
 -- ---- two hulls or more
 -- "A hull's owner is its own number", and a hole has no parent yet: 65,535, which is no shape's number
@@ -59,19 +56,13 @@ give_each under (c ∷ l) owners =
     let rest = give_each under l (set owners c parent) in
     pick (eqb parent dropped_owner) (owned (Stuck c) owners) rest
 
--- the search over the contours that give edges, from the first owners on
-abbrev pub searched_among : Table → Bool → (ℕ → Bool) → List ℕ → Owned
-searched_among t cw gives owners = give_each (contour_below_among t cw gives) (binding_order t cw) owners
-
 abbrev pub searched_owners : Table → Bool → Owned
-searched_owners t cw = searched_among t cw every_contour (tabulate (first_owner t.kind) (contour_count t))
+searched_owners t cw = give_each (contour_below t cw) (binding_order t cw) (tabulate (first_owner t.kind) (contour_count t))
 
 -- ---- the owners of every contour
 -- "With no hulls, holes are dropped and counted. With one hull, every hole gets it without a search."
-abbrev pub by_hulls : Table → Owned → Owned
-by_hulls t searched =
+unfoldable pub owners_of : Table → Bool → Owned
+owners_of t cw =
+    let searched = searched_owners t cw in
     pick (eqb (hull_count t) 0) (owned All (replicate (contour_count t) dropped_owner))
     (pick (eqb (hull_count t) 1) (owned All (replicate (contour_count t) 0)) searched)
-
-unfoldable pub owners_of : Table → Bool → Owned
-owners_of t cw = let searched = searched_owners t cw in by_hulls t searched

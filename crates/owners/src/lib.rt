@@ -64,20 +64,19 @@ fn give_owners(ord: &[u32], who: &[u32], under: &[u32], m: usize, own: &mut [u16
     Given::All
 }
 
-// The search with two hulls or more, in arrays of its own. Edges come from the contours that are not mute.
+// The search with two hulls or more, in arrays of its own.
 pub fn search_owners(
     points: &[i32],
     first: &[u32],
     len: &[u32],
     kind: &[u8],
     clockwise: bool,
-    mute: &[u8],
     own: &mut [u16],
 ) -> Given
     requires { (let t : Table = table points.now first.now len.now kind.now in
-        (Sound t) × (Anchored t clockwise) × (length first.now ≤ length mute.now) × (length own.old ≡ length first.now)) }
+        (Sound t) × (Anchored t clockwise) × (length own.old ≡ length first.now)) }
     ensures { (let t : Table = table points.now first.now len.now kind.now in
-        SearchOwnersSays t clockwise mute.now own.old result own.new) }
+        SearchOwnersSays t clockwise own.old result own.new) }
 {
     let mut who = [0u32; table::MAX_CONTOURS];
     let mut x = [0i32; table::MAX_CONTOURS];
@@ -87,9 +86,10 @@ pub fn search_owners(
     let m = order::gather_holes(
         points, first, len, kind, clockwise, &mut who, &mut x, &mut y, &mut to_x, &mut to_y,
     );
+    let mute = [0u8; table::MAX_CONTOURS];
     let mut under = [0u32; table::MAX_CONTOURS];
     nearest::contours_under(
-        points, first, len, kind, true, clockwise, mute, &x, &y, &to_x, &to_y, m, &mut under,
+        points, first, len, kind, true, clockwise, &mute, &x, &y, &to_x, &to_y, m, &mut under,
     );
     let mut ord = [0u32; table::MAX_CONTOURS];
     order::order_holes(&who, &x, &y, &to_x, &to_y, m, &mut ord);

@@ -220,9 +220,9 @@ settled_apart (p ∷ l) h e k m = round_apart p l (bent (last_or p l) p (p ∷ l
     (sym (pick_false (p ∷ l) (remove_lowest (p ∷ l)) (le-ltb (length (p ∷ l)) 3 h)) ∙ e)) k m
 
 -- what is left was there
-kept_of_lem : (prev home : Point) (l : List Point) (q : Point) → Memᴰ q (corners prev home l) → Memᴰ q l
-kept_of_lem prev home [] q m = m
-kept_of_lem prev home (p ∷ l) q m = by (on_line prev p (head_or home l)) m (λ n. kept_of_lem p home l q n)
+kept_of : (prev home : Point) (l : List Point) (q : Point) → Memᴰ q (corners prev home l) → Memᴰ q l
+kept_of prev home [] q m = m
+kept_of prev home (p ∷ l) q m = by (on_line prev p (head_or home l)) m (λ n. kept_of p home l q n)
   where
     by : (b : Bool) → Memᴰ q (pick b (corners p home l) (p ∷ corners p home l)) → (Memᴰ q (corners p home l) → Memᴰ q l) → Memᴰ q (p ∷ l)
     by true n r = Memᴰ.tail (r n)
@@ -230,7 +230,7 @@ kept_of_lem prev home (p ∷ l) q m = by (on_line prev p (head_or home l)) m (λ
 
 corners_of_lem : (l : List Point) (q : Point) → Memᴰ q (all_corners l) → Memᴰ q l
 corners_of_lem [] q m = m
-corners_of_lem (p ∷ l) q m = kept_of_lem (last_or p l) p (p ∷ l) q m
+corners_of_lem (p ∷ l) q m = kept_of (last_or p l) p (p ∷ l) q m
 
 -- The theorem: a contour without a spike, as extraction writes it without its straight points, is reported by itself.
 pub straight_reported : (l : List Point) → Spikeless l → 3 ≤ length l → length l ≤ max_links → AllOn l

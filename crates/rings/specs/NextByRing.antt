@@ -44,9 +44,9 @@ module _ (st : List ℕ) (lt : ℕ → ℕ → Bool) (irr : (x : ℕ) → Is (lt
       by (yes q) = q
       by (no d) = absurd (is_first.1 x m (true_is (h f is_first.0 d)))
 
-  first_in_lem : (o l : List ℕ) → Sorted (λ x y. lt x y ≡ true) l → Open st o l → first_met lt o ≡ first_unvisited st l
-  first_in_lem o [] s h = none o (λ x m. Memᴰ.not-nil (h.of x m).0)
-  first_in_lem o (x ∷ l) s h = at (is_unvisited st x) refl (first_in_lem o l s.1)
+  first_in : (o l : List ℕ) → Sorted (λ x y. lt x y ≡ true) l → Open st o l → first_met lt o ≡ first_unvisited st l
+  first_in o [] s h = none o (λ x m. Memᴰ.not-nil (h.of x m).0)
+  first_in o (x ∷ l) s h = at (is_unvisited st x) refl (first_in o l s.1)
     where
       head_met : is_unvisited st x ≡ true → first_met lt o ≡ Link x
       head_met t = one o x (h.into x (Memᴰ.head refl) t)
@@ -85,7 +85,7 @@ pub next_by_ring : {g : Graph} {state : List ℕ} {v : ℕ} → Spread g state v
     → (st : List ℕ) → Marked g state v st → (e : ℕ) → Mem e l → is_unvisited st e ≡ false
     → (sense : Bool) → next_link g sense st v e ≡ first_unvisited st (round_from sense e l)
 next_by_ring {g} {state} {v} sp {l} r cross st marked e m n sense =
-    next_met g sense st v e cross ∙ first_in_lem st (met_first g sense v e)
+    next_met g sense st v e cross ∙ first_in st (met_first g sense v e)
     (λ x. irreflexive sense (away_from g v e) (away_from g v x))
     (λ x y z. transitive sense (away_from g v e) (away_from g v x) (away_from g v y) (away_from g v z))
     (unvisited_in st (g.entries v)) (round_from sense e l) (round_met sp r e m sense) links

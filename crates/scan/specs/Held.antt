@@ -69,7 +69,7 @@ module _ {ax ay bx by : List ℤ} {top nxt prv lead st : List ℕ} {k held : ℕ
       }
 
 -- ---- a walk visits its first link
-abbrev pub Shuts : ℕ → Walked → Type 0
+abbrev Shuts : ℕ → Walked → Type 0
 Shuts s (stuck number) = Unit {0}
 Shuts s (done l after) = is_unvisited after s ≡ false
 
@@ -90,7 +90,7 @@ shuts_leaves m s st n c (done l after) h =
     none_of (is_unvisited after s)
     (omega (arith, fresh_times s m st l n h.1, ap one c, ap (λ (a : List ℕ). one (is_unvisited a s)) h.0))
 
-pub shuts_from : (g : Graph) (forward sense : Bool) (mark : ℕ) (st : List ℕ) (s : ℕ) → Mark mark → Unvisited st s
+shuts_from : (g : Graph) (forward sense : Bool) (mark : ℕ) (st : List ℕ) (s : ℕ) → Mark mark → Unvisited st s
     → Shuts s (walk_from g forward sense mark st s)
 unfolding walk_from
 shuts_from g forward sense mark st s n o = by (next_link g (not sense) (set st s mark) (pick forward (g.a_node s) (g.b_node s)) s)

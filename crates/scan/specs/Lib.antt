@@ -3,7 +3,6 @@ pub mod Scan
 pub mod Notes
 pub mod Visits
 pub mod Enough
-pub mod Moves
 pub mod Fields
 pub mod Held
 pub mod Values

@@ -19,32 +19,7 @@ sense_of g cw s = beq (g.top s) cw
 abbrev pub walk_of : Graph → Bool → List ℕ → ℕ → Walked
 walk_of g cw st s = walk_from g (not (sense_of g cw s)) (sense_of g cw s) (mark_of (g.top s)) st s
 
--- ---- the scan, whatever is done with a walk
-
--- the lowest unvisited link, or the number of links
-abbrev pub lowest_unvisited : List ℕ → ℕ
-lowest_unvisited st = lowest (is_unvisited st) (length st)
-
--- how a walk is begun and judged: from the states, the link k that the scan stands at and the first link s, and with what the scan comes to after it
-abbrev pub Judging : Type 0 → Type 0
-Judging A = List ℕ → ℕ → ℕ → (List ℕ → A) → A
-
--- what a scan comes to: with a refusal's number and place, with the states at its end, and walk by walk
-module _ {A : Type 0} (refused : ℕ → ℕ → A) (ended : List ℕ → A) (judged : Judging A) where
-  -- at link k, with the first link that rule 1 names. A refusal's place is the link the scan stands at.
-  abbrev pub start_at : (List ℕ → A) → List ℕ → ℕ → Next → A
-  start_at go st k Nothing = refused 8 k
-  start_at go st k (Link s) = judged st k s go
-
-  -- "The scan takes the lowest unvisited link k." Rule 7: it "moves on only when link k is visited".
-  unfoldable pub scan_by : ℕ → Graph → List ℕ → A
-  scan_by zero g st = ended st
-  scan_by (suc fuel) g st =
-      pick (ltb (lowest_unvisited st) (length st))
-      (start_at (λ after. scan_by fuel g after) st (lowest_unvisited st) (first_link g st (lowest_unvisited st)))
-      (ended st)
-
--- ---- the scan that lists its walks
+-- ---- the scan
 
 pub data Scanned : Type 0 where
   stopped : ℕ → ℕ → Scanned
@@ -58,15 +33,22 @@ abbrev pub after_walk : ℕ → Bool → (List ℕ → Scanned) → Walked → S
 after_walk k hole go (stuck number) = stopped number k
 after_walk k hole go (done l st) = cons_walk (record { hole = hole; steps = l }) (go st)
 
-abbrev pub listing : Graph → Bool → Judging Scanned
-listing g cw st k s go = after_walk k (g.top s) go (walk_of g cw st s)
-
 -- the walk that the scan starts at link k, and the scan after it
 abbrev pub scan_at : Graph → Bool → (List ℕ → Scanned) → List ℕ → ℕ → Next → Scanned
-scan_at g cw go st k n = start_at stopped (walks []) (listing g cw) go st k n
+scan_at g cw go st k Nothing = stopped 8 k
+scan_at g cw go st k (Link s) = after_walk k (g.top s) go (walk_of g cw st s)
 
-abbrev pub scan_on : ℕ → Graph → Bool → List ℕ → Scanned
-scan_on fuel g cw st = scan_by stopped (walks []) (listing g cw) fuel g st
+-- the lowest unvisited link, or the number of links
+abbrev pub lowest_unvisited : List ℕ → ℕ
+lowest_unvisited st = lowest (is_unvisited st) (length st)
+
+-- "The scan takes the lowest unvisited link k." Rule 7: it "moves on only when link k is visited". A refusal's place is the link the scan stands at.
+unfoldable pub scan_on : ℕ → Graph → Bool → List ℕ → Scanned
+scan_on zero g cw st = walks [] st
+scan_on (suc fuel) g cw st =
+    pick (ltb (lowest_unvisited st) (length st))
+    (scan_at g cw (λ after. scan_on fuel g cw after) st (lowest_unvisited st) (first_link g st (lowest_unvisited st)))
+    (walks [] st)
 
 -- the fuel is above the number of walks, each of which visits a link or more
 abbrev pub scan : Graph → Bool → List ℕ → Scanned

@@ -2,10 +2,9 @@
 -- and it has walked each link that was unvisited once, and no other.
 use Prim.Native.Nat.{ℕ, zero, suc, ◌+◌, ◌<◌}
 use native.Mathlib.Omega.{arith}
-use Rattle.std.specs.Prelude.{◌≡◌, refl, Bool, true, false, not, length, set, ltb}
-use Rattle.std.proofs.Common.{ap, ◌∙◌, subst, ⊎_elim, length-set}
-use mathlib.Core.List.Memᴰ
-use mathlib.Core.List.{List, [], ◌∷◌, Memᴰ}
+use Rattle.std.specs.Prelude.{◌≡◌, refl, Bool, true, false, not, length, ltb}
+use Rattle.std.proofs.Common.{ap, subst}
+use mathlib.Core.List.{List, [], ◌∷◌}
 use Rattle.laws.specs.Test.{pick, pick_ind, true≢false, not_true}
 use Rattle.laws.specs.Lowest.{some_of, none_of}
 use Rattle.graph.specs.Graph.{Graph}
@@ -13,8 +12,8 @@ use Rattle.next.specs.declared.Next.{Next}
 use Rattle.next.specs.declared.Next.TheVariants.{Link, Nothing}
 use Rattle.next.specs.Next.{is_unvisited, unvisited, first_link}
 use Rattle.next.specs.States.{unvisited_below}
-use Rattle.walk.specs.Walk.{Step, Walk, Walked, stuck, done, marked, mark_of}
-use Rattle.scan.specs.Scan.{sense_of, walk_of, Scanned, stopped, walks, cons_walk, after_walk, scan_at, lowest_unvisited, scan_by, scan_on, scan}
+use Rattle.walk.specs.Walk.{Walk, Walked, stuck, done, marked, mark_of}
+use Rattle.scan.specs.Scan.{sense_of, walk_of, Scanned, stopped, walks, cons_walk, after_walk, scan_at, lowest_unvisited, scan_on, scan}
 use Rattle.keep.specs.Outcome.{states_after, lens, sum}
 use Rattle.walk.specs.States.{Unvisited, NoneUnvisited, none_unvisited}
 use Rattle.walk.specs.Named.{LinkUnvisited, first_is_unvisited}
@@ -41,24 +40,6 @@ walks_times k st [] f = omega arith
 walks_times k st (w ∷ ws) f =
     let m : ℕ = mark_of w.hole in
     omega (arith, fresh_times k m st w.steps (mark_of_lem w.hole) f.0, walks_times k (marked m w.steps st) ws f.1)
-
--- ---- the links walked are among those that there are
-pub marked_length : (m : ℕ) (l : List Step) (st : List ℕ) → length (marked m l st) ≡ length st
-marked_length m [] st = refl
-marked_length m (s ∷ l) st = marked_length m l (set st s.link m) ∙ length-set st s.link m
-
-pub fresh_below : (m : ℕ) (st : List ℕ) (l : List Step) → Fresh m st l → (p : Step) → Memᴰ p l → p.link < length st
-fresh_below m st [] f p i = absurd (Memᴰ.not-nil i)
-fresh_below m st (s ∷ l) f p i =
-    ⊎_elim (λ (e : p ≡ s). rw e (unvisited_below st s.link f.0))
-    (λ k. rw (length-set st s.link m) at (fresh_below m (set st s.link m) l f.1 p k)) (Memᴰ.cases_cons i)
-
-pub walked_below : (st : List ℕ) (ws : List Walk) → AllFresh st ws → (w : Walk) → Memᴰ w ws → (p : Step) → Memᴰ p w.steps → p.link < length st
-walked_below st [] f w m p i = absurd (Memᴰ.not-nil m)
-walked_below st (v ∷ ws) f w m p i =
-    ⊎_elim (λ (e : w ≡ v). fresh_below (mark_of v.hole) st v.steps f.0 p (subst (λ (x : Walk). Memᴰ p x.steps) e i))
-    (λ k. rw (marked_length (mark_of v.hole) v.steps st) at (walked_below (marked (mark_of v.hole) v.steps st) ws f.1 w k p i))
-    (Memᴰ.cases_cons m)
 
 -- ---- the scan
 pub lowest_unvisited_lem : (st : List ℕ) → ltb (lowest_unvisited st) (length st) ≡ true → Unvisited st (lowest_unvisited st)
@@ -91,7 +72,7 @@ module _ (g : Graph) (cw : Bool) where
       after_walk_lem go st k (g.top s) (walk_of g cw st s) (from_visits g (not (sense_of g cw s)) (sense_of g cw s) (mark_of (g.top s)) st s i) h
 
   pub scan_leaves : (fuel : ℕ) (st : List ℕ) → unvisited st < fuel → LeavesAll st (scan_on fuel g cw st)
-  unfolding scan_by
+  unfolding scan_on
   scan_leaves zero st h = absurd (few st h)
     where
       few : (st : List ℕ) → unvisited st < 0 → ⊥

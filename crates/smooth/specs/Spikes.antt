@@ -1,6 +1,7 @@
 -- By check 7 no contour of a graph that passes its checks has a spike: where a walk goes on at a node, it does so along another link, and no two links run
--- from a node in the same direction.
-use Rattle.std.specs.Prelude.{ℕ, suc, ◌≤◌, ◌≡◌, refl, ◌⊎◌, Bool, true, false, length, set}
+-- from a
+-- node in the same direction.
+use Rattle.std.specs.Prelude.{ℕ, ◌≤◌, ◌≡◌, refl, ◌⊎◌, Bool, true, false, length, set}
 use Rattle.std.proofs.Common.{arith, sym, ap, ◌∙◌, subst, inl, inr, ⊎_elim}
 use mathlib.Core.List.Memᴰ
 use mathlib.Core.List.{List, [], ◌∷◌, map, Memᴰ}
@@ -12,18 +13,16 @@ use Rattle.turn.specs.Points.{from_to}
 use Rattle.turn.specs.Angle.{same_direction, nonzero}
 use Rattle.graph.specs.Graph.{Lent, Graph, graph_of}
 use Rattle.graph.specs.Checks.{Room, checked, away_from}
-use Rattle.next.specs.Next.{unvisited}
-use Rattle.walk.specs.Walk.{Step, Walk, Walked, stuck, done, walk_from, left, points, marked, mark_of}
+use Rattle.walk.specs.Walk.{Step, Walk, left, points, marked, mark_of}
 use Rattle.walk.specs.States.{Unvisited, Mark, set_of}
-use Rattle.walk.specs.Visits.{Fresh, Visits, from_visits, mark_of_lem}
+use Rattle.walk.specs.Visits.{Fresh, mark_of_lem}
 use Rattle.scan.specs.Scan.{walks}
 use Rattle.scan.specs.Visits.{AllFresh, scanned}
 use Rattle.tour.specs.Statement.{node_left, node_reached, Line, reached}
 use Rattle.tour.specs.Sums.{meet}
 use Rattle.tour.specs.Sound.{Sound, below}
 use Rattle.tour.specs.Passing.{sound}
-use Rattle.tour.specs.ThreePoints.{Round, Rounds, from_rounds, AllRounds, scan_rounds, away_left, away_reached, at_node, three_steps}
-use Rattle.tour.specs.ThreePoints.{unvisited_before, all_three}
+use Rattle.tour.specs.ThreePoints.{away_left, away_reached, at_node, unvisited_before, finished}
 use Rattle.straight.specs.Straight.{last_or}
 use Rattle.straight.specs.Bends.{spike, no_spike}
 use Rattle.straight.specs.Corners.{Smooth, Spikeless}
@@ -136,33 +135,8 @@ module _ (g : Graph) (st : List ℕ) (ok : Sound g st) where
             (λ j o. sub j (unvisited_before g st ok m now w.steps (mark_of_lem w.hole) f.0 j o)) (λ y i. c y (Memᴰ.tail i)),
       )
 
-  -- closed walks with a step at least
-  pub rounds_smooth : (now : List ℕ) (ws : List Walk) → AllFresh now ws → ((k : ℕ) → Unvisited now k → Unvisited st k)
-      → ((w : Walk) → Memᴰ w ws → Round g ok.lists w.steps) → AllSpikeless g ws
-  rounds_smooth now ws f sub c = all_smooth now ws f sub (λ w m. ((c w m).0, all_three g st ok now ws f sub c w m))
-
-  -- ---- one walk by the rules, in either sense, from states in which no link is unvisited that was not
-  abbrev pub WalkSmooth : Walked → Type 0
-  WalkSmooth (stuck number) = Unit {0}
-  WalkSmooth (done l after) = (Spikeless (map (left g) l)) × (3 ≤ length (map (left g) l))
-
-  walked_smooth : (m : ℕ) (now : List ℕ) → Mark m → ((k : ℕ) → Unvisited now k → Unvisited st k) → (o : Walked) → Visits m now o → Rounds g ok.lists o
-      → WalkSmooth o
-  walked_smooth m now n sub (stuck number) v r = tt
-  walked_smooth m now n sub (done l after) v r =
-      let three : 3 ≤ length l = three_steps g st ok m now l n v.1 sub r.0 r.1 in
-      (walk_smooth m now l n v.1 sub r.0.0 r.0.1 three, subst (λ k. 3 ≤ k) (sym (length-map l (left g))) three)
-
-  pub from_smooth : (forward sense : Bool) (m : ℕ) (now : List ℕ) (s : ℕ) → Mark m → ((k : ℕ) → Unvisited now k → Unvisited st k) → Unvisited now s
-      → WalkSmooth (walk_from g forward sense m now s)
-  from_smooth forward sense m now s n sub o =
-      walked_smooth m now n sub (walk_from g forward sense m now s) (from_visits g forward sense m now s o)
-      (from_rounds g ok.lists forward sense m now s)
-
 -- ---- of what is lent
 pub spikeless : (g : Lent) (top st : List ℕ) (r : Room) (cw : Bool) → checked g top st r ≡ Fine → SpikelessScan (graph_of g top) cw st
 spikeless g top st r cw e ws after s =
-    let G : Graph = graph_of g top in
-    let ok = sound g top st r e in
-    rounds_smooth G st ok st ws (scanned G cw st ws after s).fresh (λ k o. o)
-    (subst (AllRounds G ok.lists cw) s (scan_rounds G ok.lists cw (suc (unvisited st)) st))
+    all_smooth (graph_of g top) st (sound g top st r e) st ws (scanned (graph_of g top) cw st ws after s).fresh (λ k o. o)
+    (λ w m. let f = finished g top st r cw e ws after s w m in (f.closed, f.three))

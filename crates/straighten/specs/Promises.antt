@@ -17,7 +17,6 @@ with_points c n = record {
   rejected = c.rejected;
   walked = c.walked;
   left_out = c.left_out;
-  first_free = c.first_free;
   kept_area = c.kept_area;
   rejected_area = c.rejected_area;
 }

@@ -94,7 +94,6 @@ pub fn drop_straight(points: &mut [i32], first: &mut [u32], len: &mut [u32], c: 
         rejected: c.rejected,
         walked: c.walked,
         left_out: c.left_out,
-        first_free: c.first_free,
         kept_area: kept_area,
         rejected_area: rejected_area,
     }

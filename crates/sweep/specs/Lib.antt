@@ -1,3 +1,2 @@
--- What the public function promises, then the laws of a scan's loop.
+-- What the public function promises.
 pub mod Promises
-pub mod Scans

@@ -26,7 +26,7 @@ pub record SameScan (r s : Extraction) (st st' : List ℕ) (pts pts' : List ℤ)
   pub answer : r ≡ s
   pub buffers : (c : Counts) → r ≡ Done c → (st ≡ st') × (pts ≡ pts') × (f ≡ f') × (l ≡ l') × (k ≡ k')
 
-pub leaves_once : (g : Graph) (minimum : ℕ) (t : Tables) (o : Scanned) (r s : Extraction) (st st' : List ℕ) (pts pts' : List ℤ) (f f' l l' k k' : List ℕ)
+leaves_once : (g : Graph) (minimum : ℕ) (t : Tables) (o : Scanned) (r s : Extraction) (st st' : List ℕ) (pts pts' : List ℤ) (f f' l l' k k' : List ℕ)
     → ScanLeaves g minimum t o r st pts f l k → ScanLeaves g minimum t o s st' pts' f' l' k' → SameScan r s st st' pts pts' f f' l l' k k'
 leaves_once g minimum t (stopped number place) r s st st' pts pts' f f' l l' k k' p q = record {
   answer = p ∙ sym q;

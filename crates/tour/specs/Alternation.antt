@@ -1,6 +1,7 @@
--- Alternation of ends round nodes, over an abstract cyclic order: neighbours of different sorts are pairs, and what is left in whole pairs still alternates.
+-- Alternation of ends round nodes, over an abstract cyclic order: it is kept when two neighbours of different sorts go, and it names the next end's sort.
 use Rattle.std.specs.Prelude.{◌≡◌, refl, ◌⊎◌, Bool, true, false, not, ℕ}
 use Rattle.std.proofs.Common.{sym, ap, ◌∙◌, subst, inl, inr, ⊎_elim, true≢false}
+use Rattle.std.proofs.Math.Bool.{not-not}
 use Rattle.std.proofs.lemmas.Bool.{false≢true}
 
 -- `B x y z`: turning from x, y is met strictly before z (x itself after a full turn). The laws are their own mirror
@@ -24,22 +25,6 @@ mirror c = record {
   total' = λ v x y z sx sy sz nx ny nz d. ⊎_elim inr inl (c.total v z x y sz sx sy nz nx ny d);
 }
 
--- an order of turning clockwise, and of turning the other way
-abbrev pub Sensed : {E : Type 0} → Bool → (E → E → E → Type 0) → E → E → E → Type 0
-Sensed true B x y z = B x y z
-Sensed false B x y z = B z y x
-
--- of fewer ends
-pub cyc_of : {E : Type 0} {node : E → ℕ} {S S' : E → Type 0} {B : E → E → E → Type 0} → ((x : E) → S' x → S x) → Cyc E node S B → Cyc E node S' B
-cyc_of f c = record {
-  irr = c.irr;
-  irr' = c.irr';
-  trans = c.trans;
-  trans' = c.trans';
-  total = λ v x y z sx sy sz. c.total v x y z (f x sx) (f y sy) (f z sz);
-  total' = λ v x y z sx sy sz. c.total' v x y z (f x sx) (f y sy) (f z sz);
-}
-
 -- By turns: turning from an end to one of its own sort (to itself: a full turn), one of the other sort is met before.
 abbrev pub Alt : (E : Type 0) → (E → ℕ) → (E → Bool) → (E → E → E → Type 0) → (E → Type 0) → Type 0
 Alt E node sort B W = (v : ℕ) (x y : E) → W x → W y → node x ≡ v → node y ≡ v → sort x ≡ sort y
@@ -61,111 +46,119 @@ module _ {E : Type 0} {node : E → ℕ} {sort : E → Bool} {B : E → E → E 
       let r = a v y x wy wx ny nx (sym s) in
       (r.0, r.1, r.2, r.3 ∙ ap not (sym s), r.4)
 
--- ---- pairs: among the ends of U, an end that arrives and the next one, turning from it, which leaves
-module _ {E : Type 0} (node : E → ℕ) (sort : E → Bool) (B : E → E → E → Type 0) (U : E → Type 0) where
-  pub record Pair (x z : E) : Type 0 where
-    pub ux : U x
-    pub uz : U z
-    pub arriving : sort x ≡ true
-    pub leaving : sort z ≡ false
-    pub here : node z ≡ node x
-    pub none : (u : E) → U u → node u ≡ node x → B x u z → ⊥
+  pub alt_ext : {W W' : E → Type 0} → ((x : E) → W x → W' x) → ((x : E) → W' x → W x) → Alt E node sort B W → Alt E node sort B W'
+  alt_ext f g a v x y wx wy nx ny s =
+      let r = a v x y (g x wx) (g y wy) nx ny s in
+      (r.0, f r.0 r.1, r.2, r.3, r.4)
 
-  -- every end is of a pair
-  pub record Partners : Type 0 where
-    pub next : (x : E) → U x → sort x ≡ true → (z : E) × Pair x z
-    pub previous : (z : E) → U z → sort z ≡ false → (x : E) × Pair x z
+module _ {E : Type 0} (dec : (x y : E) → Dec (x ≡ y)) {node : E → ℕ} (sort : E → Bool) {S : E → Type 0} {B : E → E → E → Type 0} (c : Cyc E node S B)
+    {W : E → Type 0} (sub : (x : E) → W x → S x) (alt : Alt E node sort B W) where
+  -- a, and b next to it, of the other sort, go
+  module _ (u : ℕ) (a b : E) (wa : W a) (wb : W b) (na : node a ≡ u) (nb : node b ≡ u) (sab : sort b ≡ not (sort a))
+      (adj : (x : E) → W x → node x ≡ u → B a x b → ⊥) where
+    abbrev Left : E → Type 0
+    Left x = W x × (x ≡ a → ⊥) × (x ≡ b → ⊥)
 
-  -- some of the ends of U, in whole pairs
-  pub record Whole (W : E → Type 0) : Type 0 where
-    pub sub : (x : E) → W x → U x
-    pub on : (x z : E) → Pair x z → W x → W z
-    pub back : (x z : E) → Pair x z → W z → W x
+    abbrev Met : E → E → Type 0
+    Met x y = (z : E) × Left z × (node z ≡ u) × (sort z ≡ not (sort x)) × B x z y
 
-  -- ---- all of them, or none; the same said otherwise; two such sets joined, and one without the other
-  pub whole_all : Whole U
-  whole_all = record { sub = λ x u. u; on = λ x z p u. p.uz; back = λ x z p u. p.ux }
+    by_a : (x y : E) → Left x → Left y → node x ≡ u → node y ≡ u → sort x ≡ sort y → sort a ≡ not (sort x) → B x a y → Met x y
+    by_a x y wx wy nx ny s sa h =
+        let sb : sort b ≡ sort x = sab ∙ ap not sa ∙ not-not (sort x) in
+        let r = alt u b y wb wy.0 nb ny (sb ∙ s) in
+        let aby : B a b y = ⊎_elim (λ k. k) (λ k. absurd (adj y wy.0 ny k))
+        (c.total u a b y (sub a wa) (sub b wb) (sub y wy.0) na nb ny (λ q. wy.2 (sym q))) in (
+          r.0,
+          (
+            r.1,
+            λ q. c.irr' a y (c.trans' a b a y aby (subst (λ t. B b t y) q r.4)),
+            λ q. c.irr' b y (subst (λ t. B b t y) q r.4),
+          ),
+          r.2,
+          r.3 ∙ ap not sb,
+          c.trans' x b r.0 y (c.trans' x a b y h aby) r.4,
+        )
 
-  pub whole_none : {W : E → Type 0} → ((x : E) → W x → ⊥) → Whole W
-  whole_none n = record { sub = λ x w. absurd (n x w); on = λ x z p w. absurd (n x w); back = λ x z p w. absurd (n z w) }
+    by_b : (x y : E) → Left x → Left y → node x ≡ u → node y ≡ u → sort x ≡ sort y → sort b ≡ not (sort x) → B x b y → Met x y
+    by_b x y wx wy nx ny s sb h =
+        let sa : sort x ≡ sort a = sym (not-not (sort x)) ∙ ap not (sym sb ∙ sab) ∙ not-not (sort a) in
+        let r = alt u x a wx.0 wa nx na sa in
+        let xab : B x a b = ⊎_elim (λ k. k) (λ k. absurd (adj x wx.0 nx k))
+        (c.total' u x a b (sub x wx.0) (sub a wa) (sub b wb) nx na nb (λ q. wx.1 q)) in (
+          r.0,
+          (
+            r.1,
+            λ q. c.irr x a (subst (λ t. B x t a) q r.4),
+            λ q. c.irr x b (c.trans x b a b (subst (λ t. B x t a) q r.4) xab),
+          ),
+          r.2,
+          r.3,
+          c.trans x r.0 b y (c.trans x r.0 a b r.4 xab) h,
+        )
 
-  pub whole_same : {W X : E → Type 0} → ((x : E) → W x → X x) → ((x : E) → X x → W x) → Whole W → Whole X
-  whole_same f g h = record {
-    sub = λ x v. h.sub x (g x v);
-    on = λ x z p v. f z (h.on x z p (g x v));
-    back = λ x z p v. f x (h.back x z p (g z v));
-  }
-
-  pub whole_either : {W X : E → Type 0} → Whole W → Whole X → Whole (λ x. W x ⊎ X x)
-  whole_either h k = record {
-    sub = λ x. ⊎_elim (h.sub x) (k.sub x);
-    on = λ x z p. ⊎_elim (λ w. inl (h.on x z p w)) (λ v. inr (k.on x z p v));
-    back = λ x z p. ⊎_elim (λ w. inl (h.back x z p w)) (λ v. inr (k.back x z p v));
-  }
-
-  pub whole_without : {W X : E → Type 0} → Whole W → Whole X → Whole (λ x. W x × (X x → ⊥))
-  whole_without h k = record {
-    sub = λ x m. h.sub x m.0;
-    on = λ x z p m. (h.on x z p m.0, λ v. m.1 (k.back x z p v));
-    back = λ x z p m. (h.back x z p m.0, λ v. m.1 (k.on x z p v));
-  }
-
-module _ {E : Type 0} {node : E → ℕ} (sort : E → Bool) {U : E → Type 0} {B : E → E → E → Type 0} (c : Cyc E node U B) where
-  -- whole pairs alternate
-  pub whole_turns : {W : E → Type 0} → Partners node sort B U → Whole node sort B U W → Alt E node sort B W
-  whole_turns {W} partners h v x y wx wy nx ny s = by (sort x) refl
-    where
-      Met : Type 0
-      Met = (z : E) × W z × (node z ≡ v) × (sort z ≡ not (sort x)) × B x z y
-
-      by : (b : Bool) → sort x ≡ b → Met
-      by true e =
-          let r = partners.next x (h.sub x wx) e in
-          let z = r.0 in
-          let p = r.1 in
-          let between : B x z y = ⊎_elim (λ k. k) (λ k. absurd (p.none y (h.sub y wy) (ny ∙ sym nx) k))
-          (c.total v x z y p.ux p.uz (h.sub y wy) nx (p.here ∙ nx) ny (λ q. true≢false (sym e ∙ s ∙ ap sort (sym q) ∙ p.leaving))) in
-          (z, h.on x z p wx, p.here ∙ nx, p.leaving ∙ ap not (sym e), between)
-      by false e =
-          let r = partners.previous y (h.sub y wy) (sym s ∙ e) in
-          let z = r.0 in
-          let p = r.1 in
-          let nz : node z ≡ v = sym p.here ∙ ny in
-          let between : B x z y = ⊎_elim (λ k. k) (λ k. absurd (p.none x (h.sub x wx) (nx ∙ sym nz) k))
-          (c.total' v x z y (h.sub x wx) p.ux p.uz nx nz ny (λ q. true≢false (sym p.arriving ∙ ap sort (sym q) ∙ e))) in
-          (z, h.back z y p wy, nz, p.arriving ∙ ap not (sym e), between)
-
-  -- an end is of one pair only
-  module _ (dec : (x y : E) → Dec (x ≡ y)) where
-    pub one_next : (x z z' : E) → Pair node sort B U x z → Pair node sort B U x z' → z ≡ z'
-    one_next x z z' p q = by (dec z z')
+    pub remove : Alt E node sort B Left
+    remove v x y wx wy nx ny s = go (alt v x y wx.0 wy.0 nx ny s)
       where
-        by : Dec (z ≡ z') → z ≡ z'
-        by (yes e) = e
-        by (no d) = absurd (⊎_elim (λ k. q.none z p.uz p.here k) (λ k. p.none z' q.uz q.here k)
-            (c.total (node x) x z z' p.ux p.uz q.uz refl p.here q.here d))
+        Got : Type 0
+        Got = (z : E) × W z × (node z ≡ v) × (sort z ≡ not (sort x)) × B x z y
 
-    pub one_previous : (x x' z : E) → Pair node sort B U x z → Pair node sort B U x' z → x ≡ x'
-    one_previous x x' z p q = by (dec x x')
+        Aim : ℕ → Type 0
+        Aim w = (z : E) × Left z × (node z ≡ w) × (sort z ≡ not (sort x)) × B x z y
+
+        pick : (r : Got) → Dec (r.0 ≡ a) → Dec (r.0 ≡ b) → Aim v
+        pick r (yes p) d =
+            let e : u ≡ v = sym na ∙ ap node (sym p) ∙ r.2 in
+            subst Aim e (by_a x y wx wy (nx ∙ sym e) (ny ∙ sym e) s (ap sort (sym p) ∙ r.3) (subst (λ t. B x t y) p r.4))
+        pick r (no n) (yes p) =
+            let e : u ≡ v = sym nb ∙ ap node (sym p) ∙ r.2 in
+            subst Aim e (by_b x y wx wy (nx ∙ sym e) (ny ∙ sym e) s (ap sort (sym p) ∙ r.3) (subst (λ t. B x t y) p r.4))
+        pick r (no n) (no m) = (r.0, (r.1, n, m), r.2, r.3, r.4)
+
+        go : Got → Aim v
+        go r = pick r (dec r.0 a) (dec r.0 b)
+
+  -- the next end from e, where s is gone and t, its neighbour, is still there: e is not t
+  module _ (e s t : E) (we : W e) (ws : W s) (wt : W t) (nst : node t ≡ node s) (ets : sort e ≡ sort t) (es : sort s ≡ not (sort e))
+      (et : e ≡ t → ⊥) (adj : (x : E) → W x → node x ≡ node s → B t x s → ⊥) where
+    -- t is met before s
+    t_before : node s ≡ node e → B e t s
+    t_before n = ⊎_elim (λ k. k) (λ k. absurd (adj e we (sym n) k))
+        (c.total' (node e) e t s (sub e we) (sub t wt) (sub s ws) refl (nst ∙ n) n et)
+
+    t≢s : t ≡ s → ⊥
+    t≢s q = no_not (sort e) (ets ∙ ap sort q ∙ es)
+
+    pub some_next : (z : E) × W z × (node z ≡ node e) × (sort z ≡ not (sort e)) × (z ≡ s → ⊥)
+    some_next = go (alt (node e) e e we we refl refl refl)
       where
-        by : Dec (x ≡ x') → x ≡ x'
-        by (yes e) = e
-        by (no d) = absurd (⊎_elim (λ k. p.none x' q.ux (sym q.here ∙ p.here) k) (λ k. q.none x p.ux (sym p.here ∙ q.here) k)
-            (c.total' (node z) x x' z p.ux q.ux p.uz (sym p.here) (sym q.here) refl d))
+        Got : E → Type 0
+        Got y = (z : E) × W z × (node z ≡ node e) × (sort z ≡ not (sort e)) × B e z y
 
-    -- a pair goes
-    pub whole_less : {W : E → Type 0} (a b : E) → Pair node sort B U a b → Whole node sort B U W
-        → Whole node sort B U (λ x. W x × (x ≡ a → ⊥) × (x ≡ b → ⊥))
-    whole_less a b r h = record {
-      sub = λ x m. h.sub x m.0;
-      on = λ x z p m. (
-        h.on x z p m.0,
-        λ q. true≢false (sym r.arriving ∙ ap sort (sym q) ∙ p.leaving),
-        λ q. m.1 (one_previous x a b (subst (Pair node sort B U x) q p) r),
-      );
-      back = λ x z p m. (
-        h.back x z p m.0,
-        λ q. m.2 (one_next a z b (subst (λ y. Pair node sort B U y z) q p) r),
-        λ q. true≢false (sym p.arriving ∙ ap sort q ∙ r.leaving),
-      );
-    }
+        Aim : Type 0
+        Aim = (z : E) × W z × (node z ≡ node e) × (sort z ≡ not (sort e)) × (z ≡ s → ⊥)
+
+        pick : (r : Got e) → Dec (r.0 ≡ s) → Aim
+        pick r (yes p) =
+            let n : node s ≡ node e = ap node (sym p) ∙ r.2 in
+            let q = alt (node e) e t we wt refl (nst ∙ n) ets in
+            (q.0, q.1, q.2, q.3, λ k. c.irr e s (c.trans e s t s (subst (λ w. B e w t) k q.4) (t_before n)))
+        pick r (no n) = (r.0, r.1, r.2, r.3, n)
+
+        go : Got e → Aim
+        go r = pick r (dec r.0 s)
+
+    module _ (f : E) (wf : W f) (nf : node f ≡ node e) (first : (x : E) → W x → node x ≡ node e → (x ≡ e → ⊥) → (x ≡ s → ⊥) → B e x f → ⊥) where
+      pub none_before : (x : E) → W x → node x ≡ node e → B e x f → ⊥
+      none_before x wx nx h = go (dec x e) (dec x s)
+        where
+          go : Dec (x ≡ e) → Dec (x ≡ s) → ⊥
+          go (yes p) d = c.irr' e f (subst (λ w. B e w f) p h)
+          go (no n) (yes p) =
+              let k : node s ≡ node e = ap node (sym p) ∙ nx in
+              first t wt (nst ∙ k) (λ q. et (sym q)) t≢s (c.trans e t s f (t_before k) (subst (λ w. B e w f) p h))
+          go (no n) (no m) = first x wx nx n m h
+
+      pub next_sort : sort f ≡ not (sort e)
+      next_sort =
+          ⊎_elim (λ q. absurd (let r = alt (node e) e f we wf refl nf (sym q) in none_before r.0 r.1 r.2 r.4)) (λ q. q)
+          (dicho (sort f) (sort e))

@@ -9,8 +9,9 @@ use Rattle.next.specs.Next.{met_first}
 use Rattle.graph.specs.Checks.{away_from}
 use Rattle.next.specs.Choice.{Mem}
 use Rattle.walk.specs.States.{Unvisited}
-use Rattle.tour.specs.Alternation.{Cyc, Sensed}
+use Rattle.tour.specs.Alternation.{Cyc}
 use Rattle.tour.specs.Ends.{End, link, node, UnvisitedEnd}
+use Rattle.tour.specs.AllWalks.{Sensed}
 
 -- ---- the rules' test, for any links
 pub met_irr : (g : Graph) (w : Bool) (v e x : ℕ) → met_first g w v e x x ≡ true → ⊥

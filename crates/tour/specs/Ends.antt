@@ -23,7 +23,7 @@ abbrev pub arrives : End → Bool
 arrives (hd k) = true
 arrives (tl k) = false
 
--- the way in which link k is walked: forward, from its a to its b, or backward; with its filled side on the left, or where cw is true on the right
+-- the way in which link k is walked: forward, from its a to its b, or backward
 abbrev pub way_of : Graph → Bool → ℕ → Bool
 way_of g cw k = not (sense_of g cw k)
 

@@ -9,7 +9,7 @@ use Rattle.laws.specs.Count.{count}
 use Rattle.graph.specs.Checks.{room, nodes_checked, each_checked, links_checked, checked}
 use Rattle.next.specs.Next.{unvisited_in, next_link, first_link}
 use Rattle.walk.specs.Walk.{Step, walk_on, walk_from}
-use Rattle.scan.specs.Scan.{stopped, walks, scan_by, scan}
+use Rattle.scan.specs.Scan.{stopped, walks, scan_on, scan}
 use Rattle.tour.specs.Statement.{leaves, how_many, ComesByTurns, link_total, Toured}
 use Rattle.tour.specs.Demand.{third_demand}
 use Rattle.tour.specs.Decide.{comes_by_turns, comes_exactly}
@@ -76,7 +76,7 @@ island_walks : scan island_graph false island_states ≡ walks
     ∷ (record { hole = true; steps = fw 5 ∷ bw 10 ∷ bw 6 ∷ [] })
     ∷ (record { hole = false; steps = bw 8 ∷ fw 7 ∷ fw 9 ∷ [] })
     ∷ []) (3 ∷ 3 ∷ 3 ∷ 3 ∷ 3 ∷ 2 ∷ 2 ∷ 3 ∷ 3 ∷ 3 ∷ 2 ∷ 3 ∷ [])
-unfolding scan_by walk_on walk_from next_link first_link lowest
+unfolding scan_on walk_on walk_from next_link first_link lowest
 island_walks = refl
 
 -- ---- triangles (0,0) (4,3) (5,-1) and (0,0) (5,1) (4,-3): at the cross (0,0) two links that leave come after two that arrive; as many, but not by turns
@@ -120,7 +120,7 @@ pub crossed_not_by_turns : ComesByTurns crossed_graph crossed_states → ⊥
 crossed_not_by_turns t = true≢false ((comes_exactly crossed crossed_tops crossed_states (room 12 2 2 2) crossed_fine).from t) crossed_test
 
 pub crossed_refused : scan crossed_graph false crossed_states ≡ stopped 9 0
-unfolding scan_by walk_on walk_from next_link first_link lowest
+unfolding scan_on walk_on walk_from next_link first_link lowest
 crossed_refused = refl
 
 -- ---- E7: the square with link 0 skipped; at two nodes one link is left
@@ -149,5 +149,5 @@ pub square_not_by_turns : ComesByTurns square_graph square_states → ⊥
 square_not_by_turns t = true≢false ((comes_exactly square square_tops square_states (room 8 1 1 1) square_fine).from t) square_test
 
 pub square_refused : scan square_graph false square_states ≡ stopped 8 1
-unfolding scan_by walk_on walk_from next_link first_link lowest
+unfolding scan_on walk_on walk_from next_link first_link lowest
 square_refused = refl

@@ -71,17 +71,17 @@ Paired g st = (v x y k : ℕ) → g.entries v ≡ x ∷ (y ∷ []) → Mem k (x 
 abbrev pub NamesUnvisitedAt : List ℕ → Next → Type 0
 NamesUnvisitedAt st o = (s : ℕ) × (o ≡ Link s) × Unvisited st s
 
-first_in_lem : (g : Graph) (st : List ℕ) (k : ℕ) (l : List ℕ) → ((x y : ℕ) → l ≡ x ∷ (y ∷ []) → Unvisited st x × Unvisited st y) → Unvisited st k
+first_in : (g : Graph) (st : List ℕ) (k : ℕ) (l : List ℕ) → ((x y : ℕ) → l ≡ x ∷ (y ∷ []) → Unvisited st x × Unvisited st y) → Unvisited st k
     → NamesUnvisitedAt st (first_at g st k (node_of l))
-first_in_lem g st k [] p o = (k, refl, o)
-first_in_lem g st k (x ∷ []) p o = (topmost g st k k (x ∷ []), refl, topmost_unvisited g st k k (x ∷ []) o)
-first_in_lem g st k (x ∷ (y ∷ [])) p o =
+first_in g st k [] p o = (k, refl, o)
+first_in g st k (x ∷ []) p o = (topmost g st k k (x ∷ []), refl, topmost_unvisited g st k k (x ∷ []) o)
+first_in g st k (x ∷ (y ∷ [])) p o =
     let h = p x y refl in
     let t : Bool = clockwise (g.a x) (g.b x) (g.b y) in
     let q : Unvisited st (pick t x y) = pick_ind t x y (Unvisited st) (λ t. h.0) (λ n. h.1) in
     (pick t x y, pick_true (Link (pick t x y)) Nothing q, q)
-first_in_lem g st k (x ∷ (y ∷ (z ∷ l))) p o = (topmost g st k k (x ∷ (y ∷ (z ∷ l))), refl, topmost_unvisited g st k k (x ∷ (y ∷ (z ∷ l))) o)
+first_in g st k (x ∷ (y ∷ (z ∷ l))) p o = (topmost g st k k (x ∷ (y ∷ (z ∷ l))), refl, topmost_unvisited g st k k (x ∷ (y ∷ (z ∷ l))) o)
 
 pub first_ok : (g : Graph) (st : List ℕ) (k : ℕ) → Paired g st → Mem k (g.entries (g.a_node k)) → Unvisited st k → NamesUnvisitedAt st (first_link g st k)
 unfolding first_link
-first_ok g st k p m o = first_in_lem g st k (g.entries (g.a_node k)) (λ x y e. p (g.a_node k) x y k e (subst (Mem k) e m) o) o
+first_ok g st k p m o = first_in g st k (g.entries (g.a_node k)) (λ x y e. p (g.a_node k) x y k e (subst (Mem k) e m) o) o

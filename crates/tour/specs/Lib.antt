@@ -1,17 +1,15 @@
 -- The statement and its proof, leaves first.
 pub mod Statement
--- ends round a node by turns; a walk among them, in either sense, with the fill or against it
+-- ends round a node by turns, and a walk among them
 pub mod Alternation
 pub mod First
 pub mod Ends
-pub mod Around
-pub mod Sound
-pub mod Neighbours
 pub mod OneWalk
 pub mod AllWalks
-pub mod Against
+pub mod Around
 pub mod Sums
 -- the theorem, and the two forms of its condition
+pub mod Sound
 pub mod Theorem
 pub mod Round
 -- for what is lent

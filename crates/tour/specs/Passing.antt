@@ -1,8 +1,6 @@
 -- A graph that passes checks 1 to 7 has what the third demand uses.
-use Rattle.std.specs.Prelude.{ℕ, zero, suc, ◌≤◌, ◌<◌, ◌≡◌, refl, true, false, List, [], ◌∷◌, length, get_or, eqb}
+use Rattle.std.specs.Prelude.{ℕ, zero, suc, ◌<◌, ◌≡◌, refl, true, false, List, [], ◌∷◌, get_or, eqb}
 use Rattle.std.proofs.Common.{arith, ◌∙◌, subst, eqb-true}
-use Rattle.std.proofs.Math.Decide.{dec_le}
-use Rattle.std.proofs.Math.ListN.{get_or-eq_default}
 use Rattle.laws.specs.Test.{Is, pick_ind, is_true, true≢false}
 use Rattle.turn.specs.Points.{from_to}
 use Rattle.turn.specs.Angle.{nonzero}
@@ -41,11 +39,3 @@ sound_fine g top st r h =
 
 pub sound : (g : Lent) (top st : List ℕ) (r : Room) → checked g top st r ≡ Fine → Sound (graph_of g top) st
 sound g top st r e = sound_fine g top st r (fine g top st r e)
-
--- no state is above 1, past the end neither
-pub state_flags : (g : Lent) (top st : List ℕ) (r : Room) → FineGraph g top st r → (k : ℕ) → get_or st k 0 ≤ 1
-state_flags g top st r h k = flag (dec_le (length st) k)
-  where
-    flag : Dec (length st ≤ k) → get_or st k 0 ≤ 1
-    flag (yes l) = omega (arith, get_or-eq_default st 0 l)
-    flag (no n) = h.band.state_flag k (subst (λ m. k < m) h.band.state_long (omega arith))

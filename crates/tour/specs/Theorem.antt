@@ -4,10 +4,10 @@ use Rattle.std.proofs.Common.{arith, sym, ap, ◌∙◌, subst, ⊎_elim, true�
 use Rattle.std.specs.Bool.{beq}
 use Rattle.std.proofs.lemmas.Bool.{false≢true}
 use mathlib.Core.List.Memᴰ
-use mathlib.Core.List.{List, [], ◌∷◌, map, Memᴰ}
+use mathlib.Core.List.{List, [], ◌∷◌, ◌++◌, map, Memᴰ}
 use Rattle.laws.specs.Test.{pick}
 use Rattle.graph.specs.Graph.{Graph}
-use Rattle.laws.specs.Count.{count, count_append}
+use Rattle.laws.specs.Count.{count}
 use Rattle.next.specs.Next.{is_unvisited, met_first}
 use Rattle.next.specs.Choice.{Mem}
 use Rattle.walk.specs.Walk.{Step, Walk}
@@ -16,12 +16,11 @@ use Rattle.walk.specs.States.{Unvisited}
 use Rattle.walk.specs.Visits.{times_in}
 use Rattle.scan.specs.Visits.{times, scanned}
 use Rattle.tour.specs.Statement.{leaves, fill_on_left, Line, links_of, Toured}
-use Rattle.tour.specs.Alternation.{no_not}
-use Rattle.tour.specs.Ends.{End, hd, tl, link, arrives, head_n, node, UnvisitedEnd, end_at_lem}
-use Rattle.tour.specs.OneWalk.{Chain}
+use Rattle.tour.specs.Alternation.{Cyc, no_not}
+use Rattle.tour.specs.Ends.{End, hd, tl, link, arrives, head_n, node, UnvisitedEnd, end_at_lem, listed, same_end}
+use Rattle.tour.specs.OneWalk.{Chain, ByTurns}
 use Rattle.tour.specs.AllWalks.{Closed, Scans, all_ok}
-use Rattle.tour.specs.Around.{Met}
-use Rattle.tour.specs.Neighbours.{Turns, in_list_at, order}
+use Rattle.tour.specs.Around.{Met, met_irr, met_trans, cyc, seen}
 use Rattle.tour.specs.Sums.{areas_total}
 use Rattle.tour.specs.Sound.{Sound, below, At, NoneBetween, NextTurns}
 
@@ -76,26 +75,40 @@ module _ (g : Graph) (cw : Bool) where
       ⊎_elim (λ (e : w ≡ x). subst (λ y. (u : ℕ) × Chain g cw u y.steps u) (sym e) c.0) (λ k. in_closed ws c.1 w k) (Memᴰ.cases_cons m)
 
 -- ---- how often a link is walked, two ways to say it
+count_append : (k : ℕ) (l m : List ℕ) → count k (l ++ m) ≡ count k l + count k m
+unfolding count
+count_append k [] m = omega arith
+count_append k (x ∷ l) m = omega (arith, count_append k l m)
+
 times_in_lem : (k : ℕ) (l : List Step) → count k (map (λ s. s.link) l) ≡ times_in k l
 unfolding count
 times_in_lem k [] = refl
 times_in_lem k (s ∷ l) = ap (λ n. pick (eqb s.link k) 1 0 + n) (times_in_lem k l)
 
-pub times_of : (k : ℕ) (ws : List Walk) → count k (links_of ws) ≡ times k ws
+times_of : (k : ℕ) (ws : List Walk) → count k (links_of ws) ≡ times k ws
 unfolding count
 times_of k [] = refl
 times_of k (w ∷ ws) = omega (arith, count_append k (map (λ s. s.link) w.steps) (links_of ws), times_in_lem k w.steps, times_of k ws)
 
 -- ---- the theorem
 module _ (g : Graph) (st : List ℕ) (ok : Sound g st) (turns : NextTurns g st) (cw : Bool) where
+  one_end : (x y : End) → UnvisitedEnd st x → link x ≡ link y → node g cw x ≡ node g cw y → x ≡ y
+  one_end x y o = same_end g ok.lists cw x y (below g st ok (link x) o)
+
+  in_list : (x : End) → UnvisitedEnd st x → Mem (link x) (g.entries (node g cw x))
+  in_list x o = listed g ok.lists cw x (below g st ok (link x) o)
+
   by_end : (v : ℕ) (x : End) → UnvisitedEnd st x → node g cw x ≡ v → leaves g v (link x) ≡ beq (arrives x) cw
   by_end v (hd k) o n = leave_hd (g.top k) cw (g.a_node k) (g.b_node k) v (ok.lists.differ k (below g st ok k o)) n
   by_end v (tl k) o n = leave_tl (g.top k) cw (g.a_node k) (g.b_node k) v (ok.lists.differ k (below g st ok k o)) n
 
-  pub by_turns : Turns g cw st st
+  C : Cyc End (node g cw) (UnvisitedEnd st) (Met g cw st)
+  C = cyc g cw st ok.spread in_list one_end
+
+  by_turns : ByTurns g cw (Met g cw st) (UnvisitedEnd st)
   by_turns v x y ox oy nx ny s =
-      let mx : Mem (link x) (g.entries v) = in_list_at g st ok cw v x ox nx in
-      let my : Mem (link y) (g.entries v) = in_list_at g st ok cw v y oy ny in
+      let mx : Mem (link x) (g.entries v) = subst (λ u. Mem (link x) (g.entries u)) nx (in_list x ox) in
+      let my : Mem (link y) (g.entries v) = subst (λ u. Mem (link y) (g.entries u)) ny (in_list y oy) in
       let r = turns v (link x) (mx, ox) in
       ⊎_elim (λ p. found r my (tl r.0) refl p) (λ p. found r my (hd r.0) refl p) (end_at_lem g ok.lists cw v r.0 r.1.0.0)
     where
@@ -115,11 +128,11 @@ module _ (g : Graph) (st : List ℕ) (ok : Sound g st) (turns : NextTurns g st) 
                 (r.1.1 (link y) (my, oy)
                 (subst (λ k. met_first g true v (link x) (link y) k ≡ true) lz
                 (subst (λ u. met_first g true u (link x) (link y) (link ζ) ≡ true) nx h.is))))
-                ((order g st ok cw true).total v x ζ y ox oz oy nx nz ny (λ q. no_not (arrives x) (s ∙ ap arrives (sym q) ∙ sz))),
+                (C.total v x ζ y ox oz oy nx nz ny (λ q. no_not (arrives x) (s ∙ ap arrives (sym q) ∙ sz))),
           )
 
   scans : Scans g cw (scan g cw st)
-  scans = all_ok g st ok cw by_turns
+  scans = all_ok g ok.lists cw st ok.states C (seen g cw st ok.spread in_list one_end) (met_irr g) (met_trans g) by_turns
 
   pub tour : Toured g cw st
   tour =

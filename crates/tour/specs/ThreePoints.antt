@@ -18,7 +18,7 @@ use Rattle.next.specs.declared.Next.TheVariants.{Link, Nothing}
 use Rattle.next.specs.Next.{other, next_link, first_link, unvisited}
 use Rattle.next.specs.Choice.{Mem}
 use Rattle.walk.specs.Walk.{Step, Walk, Walked, stuck, done, cons_step, on_next, step_from, walk_on, walk_from, left, marked, mark_of}
-use Rattle.scan.specs.Scan.{sense_of, walk_of, Scanned, stopped, walks, cons_walk, after_walk, scan_at, lowest_unvisited, scan_by, scan_on, scan}
+use Rattle.scan.specs.Scan.{sense_of, walk_of, Scanned, stopped, walks, cons_walk, after_walk, scan_at, lowest_unvisited, scan_on, scan}
 use Rattle.keep.specs.Outcome.{area_of, keeps}
 use Rattle.walk.specs.States.{Unvisited, Mark, set_of}
 use Rattle.onward.specs.Named.{Among, next_among}
@@ -62,10 +62,10 @@ module _ (g : Graph) (ok : Listed g) where
         (λ n. runs_next (λ v e st. walk_on fuel g w home last mark v e st) v st (walk_runs fuel) (next_link g w st v e) (next_among g w st v e))
 
   -- closed, with a step at least
-  abbrev pub Round : List Step → Type 0
+  abbrev Round : List Step → Type 0
   Round l = ((v : ℕ) × Line g v l v) × (0 < length l)
 
-  abbrev pub Rounds : Walked → Type 0
+  abbrev Rounds : Walked → Type 0
   Rounds (stuck number) = Unit {0}
   Rounds (done l after) = Round l
 
@@ -73,7 +73,7 @@ module _ (g : Graph) (ok : Listed g) where
   rounds_cons h s (stuck number) e r = tt
   rounds_cons h s (done l after) e r = ((h, (e, r)), omega arith)
 
-  pub from_rounds : (forward sense : Bool) (mark : ℕ) (st : List ℕ) (s : ℕ) → Rounds (walk_from g forward sense mark st s)
+  from_rounds : (forward sense : Bool) (mark : ℕ) (st : List ℕ) (s : ℕ) → Rounds (walk_from g forward sense mark st s)
   unfolding walk_from
   from_rounds forward sense mark st s = by (next_link g (not sense) (set st s mark) (pick forward (g.a_node s) (g.b_node s)) s)
     where
@@ -94,7 +94,7 @@ module _ (g : Graph) (ok : Listed g) where
           (walk_runs sense home last mark (suc (unvisited (set st s mark))) ahead s (set st s mark))
 
   module _ (cw : Bool) where
-    abbrev pub AllRounds : Scanned → Type 0
+    abbrev AllRounds : Scanned → Type 0
     AllRounds (stopped number place) = Unit {0}
     AllRounds (walks ws after) = (w : Walk) → Memᴰ w ws → Round w.steps
 
@@ -114,8 +114,8 @@ module _ (g : Graph) (ok : Listed g) where
     none_there : (st : List ℕ) → AllRounds (walks [] st)
     none_there st w m = absurd (Memᴰ.not-nil m)
 
-    pub scan_rounds : (fuel : ℕ) (st : List ℕ) → AllRounds (scan_on fuel g cw st)
-    unfolding scan_by
+    scan_rounds : (fuel : ℕ) (st : List ℕ) → AllRounds (scan_on fuel g cw st)
+    unfolding scan_on
     scan_rounds zero st = none_there st
     scan_rounds (suc fuel) st = pick_ind (ltb (lowest_unvisited st) (length st)) _ (walks [] st) AllRounds
         (λ t. at_first (λ after. scan_on fuel g cw after) st (lowest_unvisited st) (first_link g st (lowest_unvisited st)) (scan_rounds fuel))
@@ -182,7 +182,7 @@ module _ (g : Graph) (st : List ℕ) (ok : Sound g st) where
       ok.spread.apart h s.link t.link os ot (at_node h s os (inl l.0)) (at_node h t ot (inr l.1.1)) (λ q. d (sym q))
       (subst (λ u. Is (same_direction (away_from g h s.link) u)) one (same_refl (away_from g h s.link) (ok.spread.long h s.link os)))
 
-  pub three_steps : (m : ℕ) (now : List ℕ) (l : List Step) → Mark m → Fresh m now l → ((k : ℕ) → Unvisited now k → Unvisited st k)
+  three_steps : (m : ℕ) (now : List ℕ) (l : List Step) → Mark m → Fresh m now l → ((k : ℕ) → Unvisited now k → Unvisited st k)
       → ((v : ℕ) × Line g v l v) → 0 < length l → 3 ≤ length l
   three_steps m now [] n f sub c z = absurd (none z)
     where
@@ -199,7 +199,7 @@ module _ (g : Graph) (st : List ℕ) (ok : Sound g st) where
   unvisited_before m now [] n f k o = o
   unvisited_before m now (s ∷ l) n f k o = (set_of now s.link m k f.0 n (unvisited_before m (set now s.link m) l n f.1 k o)).0
 
-  pub all_three : (now : List ℕ) (ws : List Walk) → AllFresh now ws → ((k : ℕ) → Unvisited now k → Unvisited st k)
+  all_three : (now : List ℕ) (ws : List Walk) → AllFresh now ws → ((k : ℕ) → Unvisited now k → Unvisited st k)
       → ((w : Walk) → Memᴰ w ws → ((v : ℕ) × Line g v w.steps v) × (0 < length w.steps)) → (w : Walk) → Memᴰ w ws → 3 ≤ length w.steps
   all_three now [] f sub c w i = absurd (Memᴰ.not-nil i)
   all_three now (x ∷ ws) f sub c w i =

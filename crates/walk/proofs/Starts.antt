@@ -25,10 +25,33 @@ use Rattle.walk.specs.Walk.{Step, Walked, stuck, done, cons_step, walk_on, walk_
 use Rattle.walk.specs.Code.{Marks, Summed}
 use Rattle.walk.specs.Code.{finished, RestLeaves, WalkLeaves, Counted, Sized, SizedFrom}
 use Rattle.walk.specs.States.{unvisited_some}
-use Rattle.walk.specs.Stands.{rest_from, from_nowhere, from_on}
+use Rattle.walk.proofs.Steps.{mark_arrived}
 use Rattle.walk.proofs.Walks.{rest_of}
 
 -- ---- a whole walk, from its first link
+-- the first link's two ends: where the walk begins, and where it arrives
+end_number_link : (s : ℕ) (t : Bool) → link_of (pick t (a_end s) (b_end s)) ≡ s
+end_number_link s true = a_link s
+end_number_link s false = b_link s
+
+pub end_number_at : (s : ℕ) (t : Bool) (h : ℕ) → h ≡ pick t (a_end s) (b_end s) → link_of h ≡ s
+end_number_at s t h e = ap link_of e ∙ end_number_link s t
+
+module _ (g : Graph) (s : ℕ) where
+  home_node : (forward : Bool) → node_of_end g (pick forward (a_end s) (b_end s)) ≡ pick forward (g.a_node s) (g.b_node s)
+  home_node true = a_node_lem g s
+  home_node false = b_node_lem g s
+
+  ahead_node : (forward : Bool) → node_of_end g (pick (not forward) (a_end s) (b_end s)) ≡ pick forward (g.b_node s) (g.a_node s)
+  ahead_node true = b_node_lem g s
+  ahead_node false = a_node_lem g s
+
+-- the walk stands there once the link is marked
+pub end_arrived : (st : List ℕ) (s mark : ℕ) (t : Bool) (h : ℕ) → h ≡ pick t (a_end s) (b_end s) → s < length st → Marks mark → Arrived (set st s mark) h
+end_arrived st s mark t h e l m =
+    let k : link_of h ≡ s = end_number_at s t h e in
+    subst (λ k. Arrived (set st k mark) h) k (mark_arrived st h mark (subst (λ k. k < length st) (sym k) l) m)
+
 -- no area yet
 pub summed_none : (st : List ℕ) → length st ≤ max_links → Summed st (pos 0)
 summed_none st h = omega (arith, unvisited_some st)
@@ -65,21 +88,37 @@ whole_cons g pts at r st' pts' s end (done l st) h = (
 
 module _ (g : Graph) (forward sense : Bool) (mark : ℕ) (st : List ℕ) (s : ℕ) (pts : List ℤ) (at home : ℕ) (r : Ended) (st' : List ℕ) (pts' : List ℤ)
     (h : home ≡ pick forward (a_end s) (b_end s)) where
+  node_is : node_of_end g home ≡ pick forward (g.a_node s) (g.b_node s)
+  node_is = ap (node_of_end g) h ∙ home_node g s forward
+
+  next_is : next_link g (not sense) (set st s mark) (pick forward (g.a_node s) (g.b_node s)) s
+      ≡ next_link g (not sense) (set st s mark) (node_of_end g home) (link_of home)
+  next_is = ap₂ (next_link g (not sense) (set st s mark)) (sym node_is) (sym (end_number_at s forward home h))
+
   pub starts_nowhere : GoesTo g (not sense) (set st s mark) home onward.Nowhere → r ≡ ended.Stuck 8
       → WalkLeaves g pts at (walk_from g forward sense mark st s) r st' pts'
-  starts_nowhere e q = rw (from_nowhere g forward sense mark st s home h e) q
+  unfolding walk_from
+  starts_nowhere e q = rw (next_is ∙ e) q
 
   pub starts_on : (ahead back : ℕ) (p : Point) (q : List ℤ) → GoesTo g (not sense) (set st s mark) home (onward.To back)
       → ahead ≡ pick (not forward) (a_end s) (b_end s) → p ≡ pick forward (g.a s) (g.b s) → q ≡ put pts at p
       → RestLeaves g p q (start_at ahead at p)
       (rest_of g sense (node_of_end g (far back)) (link_of back) mark (set st s mark) (start_at ahead at p)) r st' pts'
       → WalkLeaves g pts at (walk_from g forward sense mark st s) r st' pts'
+  unfolding walk_from
   starts_on ahead back p q e a b i w =
-      let rest : Walked = rest_from g sense (node_of_end g (far back)) (link_of back) mark (set st s mark) ahead in
-      rw (from_on g forward sense mark st s home h ahead back e a)
-      (whole_cons g pts at r st' pts' (record { link = s; forward = forward }) ahead rest
-      (subst (λ x. RestLeaves g x (put pts at x) (start_at ahead at x) rest r st' pts') b
-      (subst (λ l. RestLeaves g p l (start_at ahead at p) rest r st' pts') i w)))
+      let step : Step = record { link = s; forward = forward } in
+      let go : ℕ → ℕ → ℕ → Walked = λ x y z. walk_on (suc (unvisited (set st s mark))) g sense x (link_of back) mark y z (set st s mark) in
+      let same : go (node_of_end g (far back)) (node_of_end g ahead) (link_of ahead)
+      ≡ go (pick forward (g.a_node s) (g.b_node s)) (pick forward (g.b_node s) (g.a_node s)) s =
+      ap (λ x. go x (node_of_end g ahead) (link_of ahead)) (e.1 ∙ node_is)
+      ∙ ap₂ (go (pick forward (g.a_node s) (g.b_node s))) (ap (node_of_end g) a ∙ ahead_node g s forward)
+      (end_number_at s (not forward) ahead a) in
+      rw (next_is ∙ e.0)
+      (whole_cons g pts at r st' pts' step ahead (go (pick forward (g.a_node s) (g.b_node s)) (pick forward (g.b_node s) (g.a_node s)) s)
+      (subst (λ o. RestLeaves g (left g step) (put pts at (left g step)) (start_at ahead at (left g step)) o r st' pts') same
+      (subst (λ x. RestLeaves g x (put pts at x) (start_at ahead at x) (go (node_of_end g (far back)) (node_of_end g ahead) (link_of ahead)) r st' pts') b
+      (subst (λ l. RestLeaves g p l (start_at ahead at p) (go (node_of_end g (far back)) (node_of_end g ahead) (link_of ahead)) r st' pts') i w))))
 
 pub counted_on : (at : ℕ) (st st' st'' : List ℕ) (r : Ended) → unvisited st ≡ suc (unvisited st') → Counted (at + 1) (at + 1) st' st'' r
     → Counted (at + 1) at st st'' r

@@ -51,6 +51,13 @@ start_on {ax} {ay} {bx} {by} l h i =
     pick_ind (is_a h) (point_at bx by (link_of h)) (point_at ax ay (link_of h)) OnGrid (λ _. l.b_grid (link_of h) i)
     (λ _. l.a_grid (link_of h) i)
 
+-- an end of a link that was just marked is one where a walk stands
+pub mark_arrived : (st : List ℕ) (h mark : ℕ) → link_of h < length st → Marks mark → Arrived (set st (link_of h) mark) h
+mark_arrived st h mark l m = (
+  subst (λ n. link_of h < n) (sym (length-set st (link_of h) mark)) l,
+  subst (λ x. 2 ≤ x) (sym (get_or-set_same st (link_of h) mark 0 l)) m,
+)
+
 -- from end h a step leads to end `to`: of the link that is left at h's node
 module _ {g : Graph} {m : ℕ} (l : FineLinks g m) (v to : ℕ) (below : link_of to < g.n) (node : node_of_end g (far to) ≡ v) where
   starts : starts_at g v (link_of to) ≡ not (is_a to)

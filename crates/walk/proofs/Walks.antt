@@ -32,7 +32,6 @@ use Rattle.walk.specs.Code.{Kept, Summed, step_out, step_to, step_by, went_by, S
 use Rattle.walk.specs.Code.{finished, RestLeaves, SizedFrom}
 use Rattle.walk.specs.Marks.{kept_none, kept_then}
 use Rattle.walk.specs.Later.{kept_later, steers_later}
-use Rattle.walk.specs.Stands.{other_end, far_apart, rest_home, rest_away}
 
 -- ---- a walk: one step before it, and its three ends
 module _ (g : Graph) (begin : Point) (pts : List ℤ) (w : Walker) (r : Ended) (st' : List ℕ) (pts' : List ℤ) where
@@ -53,6 +52,33 @@ module _ (g : Graph) (begin : Point) (pts : List ℤ) (w : Walker) (r : Ended) (
     where
       longer : (m n : ℕ) → m + 1 + n ≡ m + suc n
       longer m n = omega arith
+
+-- ends of one link: the same, or one far from the other
+other_end : (x y : ℕ) → link_of x ≡ link_of y → (x ≡ y → ⊥) → x ≡ far y
+other_end x y e d = by (is_a y) refl
+  where
+    by : (t : Bool) → is_a y ≡ t → x ≡ far y
+    by true t = next (eqb-true (y % 2) 0 t) ∙ sym (pick_true (y + 1) (y - 1) t)
+      where
+        next : y % 2 ≡ 0 → x ≡ y + 1
+        next q = omega arith
+    by false t = next (eqb-false (y % 2) 0 t) ∙ sym (pick_false (y + 1) (y - 1) t)
+      where
+        next : (y % 2 ≡ 0 → ⊥) → x ≡ y - 1
+        next q = omega arith
+
+-- a link's two ends are at two nodes
+far_apart : {g : Graph} {m : ℕ} → FineLinks g m → (h : ℕ) → link_of h < g.n → node_of_end g h ≡ node_of_end g (far h) → ⊥
+far_apart {g} l h b e = by (is_a h) refl
+  where
+    k : ℕ
+    k = link_of h
+
+    by : (t : Bool) → is_a h ≡ t → ⊥
+    by true t = let q = is_a_lem h t in
+        l.two_nodes k b (sym (a_node_lem g k) ∙ ap (node_of_end g) (sym q) ∙ e ∙ ap (λ x. node_of_end g (far x)) q ∙ ap (node_of_end g) (far_a k) ∙ b_node_lem g k)
+    by false t = let q = is_b h t in
+        l.two_nodes k b (sym (sym (b_node_lem g k) ∙ ap (node_of_end g) (sym q) ∙ e ∙ ap (λ x. node_of_end g (far x)) q ∙ ap (node_of_end g) (far_b k) ∙ a_node_lem g k))
 
 -- what is left of the definition's walk
 abbrev pub rest_of : Graph → Bool → ℕ → ℕ → ℕ → List ℕ → Walker → Walked
@@ -75,15 +101,17 @@ module _ (g : Graph) (sense : Bool) (home last mark : ℕ) (begin : Point) (st :
   module _ (r : Ended) (s : List ℕ) (p : List ℤ) where
     ends_home : link ≡ last → node ≡ home → r ≡ ended.Done (finished w.written (w.area +ℤ wedge w.last begin)) → s ≡ st → p ≡ pts
         → RestLeaves g begin pts w (rest_of g sense home last mark st w) r s p
+    unfolding walk_on
     ends_home e h q i j =
-        rw (rest_home g sense home last mark st w.end e h)
+        rw (eq-eqb _ _ e, eq-eqb _ _ h)
         (q ∙ ap (λ n. ended.Done (finished n (w.area +ℤ wedge w.last begin))) (more w.written), i, j)
       where
         more : (n : ℕ) → n ≡ n + 0
         more n = omega arith
 
     ends_away : link ≡ last → (node ≡ home → ⊥) → r ≡ ended.Stuck 9 → RestLeaves g begin pts w (rest_of g sense home last mark st w) r s p
-    ends_away e h q = rw (rest_away g sense home last mark st w.end e h) q
+    unfolding walk_on
+    ends_away e h q = rw (eq-eqb _ _ e, ne_eqb _ _ h) q
 
     module _ (away : link ≡ last → ⊥) (st' : List ℕ) (pts' : List ℤ) where
       by_nowhere : (go : ℕ → Walked) (n : Next) → step_out Nowhere st' pts' ≡ step_to g mark st pts w n → r ≡ ended.Stuck 8

@@ -7,5 +7,4 @@ pub mod Visits
 pub mod Enough
 pub mod Marks
 pub mod Later
-pub mod Stands
 pub mod Promises

@@ -1,10 +1,9 @@
 -- Marks on unvisited links: what they leave as it was.
-use Rattle.std.specs.Prelude.{ℕ, suc, ◌≡◌, refl, Bool, true, false, List, get_or, set}
+use Rattle.std.specs.Prelude.{ℕ, suc, ◌≡◌, refl, false, List, get_or, set}
 use Rattle.std.proofs.Common.{sym, ap, ◌∙◌, arith, length-set, eq-eqb, ne_eqb}
 use Rattle.std.proofs.Math.Decide.{ℕ_discrete}
 use Rattle.std.proofs.Math.Seq.{map-set_same}
 use Rattle.next.specs.Next.{is_unvisited, unvisited}
-use Rattle.walk.specs.Walk.{mark_of}
 use Rattle.walk.specs.States.{Mark, set_same, set_other, unvisited_set}
 use Rattle.walk.specs.Code.{unmark, Kept, Marks}
 
@@ -13,10 +12,6 @@ is_mark m h = ne_eqb m 0 (λ e. absurd (l e))
   where
     l : m ≡ 0 → ⊥
     l e = omega arith
-
-pub marks_of : (hole : Bool) → Marks (mark_of hole)
-marks_of true = omega arith
-marks_of false = omega arith
 
 pub kept_mark : (st : List ℕ) (k m : ℕ) → Marks m → get_or st k 1 ≡ 0 → Kept st (set st k m)
 kept_mark st k m h e = record { len = length-set st k m; marks = map-set_same unmark st k m 1 (same ∙ ap unmark (sym e)); closed = stays }

@@ -1,10 +1,7 @@
 -- What each public function promises, written once: its contract names it, and any two outcomes that it allows are equal.
-use Rattle.std.specs.Prelude.{List, ◌≡◌, ℤ, ℕ, Bool}
+use Rattle.std.specs.Prelude.{List, ◌≡◌, ℤ, ℕ}
 use Rattle.std.proofs.Common.{sym, ◌∙◌, arith}
-use Rattle.laws.specs.Test.{pick}
-use Rattle.laws.specs.Unique.{Determines, by_equation}
 use Rattle.graph.specs.Graph.{Graph}
-use Rattle.rings.specs.Ends.{a_end, b_end}
 use Rattle.rings.specs.Field.{Steers, Reads}
 use Rattle.walk.specs.declared.Course.{Course}
 use Rattle.walk.specs.declared.Finished.{Finished}
@@ -12,13 +9,6 @@ use Rattle.walk.specs.declared.Ended.{Ended}
 use Rattle.walk.specs.declared.Ended.TheVariants.{Done, Stuck}
 use Rattle.walk.specs.Walk.{Walked, stuck, done, walk_from}
 use Rattle.walk.specs.Code.{WalkLeaves}
-
--- link k's a, or its b
-abbrev pub EndNumberSays : Bool → ℕ → ℕ → Type 0
-EndNumberSays a k r = r ≡ pick a (a_end k) (b_end k)
-
-pub end_number_once : (a : Bool) (k : ℕ) → Determines (EndNumberSays a k)
-end_number_once a k = by_equation (pick a (a_end k) (b_end k))
 
 -- for every graph whose field of ends and whose points the lists hold
 abbrev pub FindContourSays : (ax ay bx by : List ℤ) (nxt prv : List ℕ) (course : Course) (state : List ℕ) (points : List ℤ) (at s : ℕ)

@@ -1,17 +1,18 @@
 // One walk (document 01, "Walking", rules 3 to 5): from its first link to its last, each link marked and the point of each node left written.
 // The walk stands at an end of a link, the one where it arrived, and goes on from there as crate `onward` says.
 ghost use Rattle.std.specs.Prelude.{◌≡◌, suc, ◌+◌, ◌*◌, ◌<◌, ◌≤◌, length, get_or};
+ghost use Rattle.laws.specs.Test.{pick};
 ghost use Rattle.turn.specs.Points.{OnGrid};
 ghost use Rattle.graph.specs.Graph.{Graph};
 ghost use Rattle.next.specs.Next.{unvisited};
 ghost use Rattle.next.specs.Known.{Links};
-ghost use Rattle.rings.specs.Ends.{link_of, far, node_of_end};
+ghost use Rattle.rings.specs.Ends.{a_end, b_end, link_of, far, node_of_end};
 ghost use Rattle.rings.specs.Field.{cross_mark, Steers, Steered, Reads};
 ghost use Rattle.onward.specs.Goes.{Arrived};
 ghost use Rattle.walk.specs.Walk.{walk_on};
 ghost use Rattle.walk.specs.Code.{Kept, Marks, Summed, step_out, step_by, Goes};
 ghost use Rattle.walk.specs.Code.{RestLeaves, Counted, Sized, SizedFrom};
-ghost use Rattle.walk.specs.Promises.{EndNumberSays, FindContourSays};
+ghost use Rattle.walk.specs.Promises.{FindContourSays};
 
 use leave::{put_point, start_point};
 use onward::{Onward, next_end};
@@ -144,9 +145,9 @@ fn walk_on(
 }
 
 // Link k's a, or its b.
-pub fn end_number(a: bool, k: usize) -> usize
+fn end_number(a: bool, k: usize) -> usize
     requires { k < cross_mark }
-    ensures { EndNumberSays a k result }
+    ensures { result ≡ pick a (a_end k) (b_end k) }
 {
     if a { 2 * k } else { 2 * k + 1 }
 }

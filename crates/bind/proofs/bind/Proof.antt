@@ -4,7 +4,7 @@ use mathlib.Core.Path.{sym, ◌∙◌}
 use lib.ListN.{length}
 use borrow.Author.Rules.{rules}
 use Rattle.table.specs.Table.{Table, table}
-use Rattle.bind.specs.Places.{place_few}
+use Rattle.bind.proofs.Places.{place_few}
 use Rattle.bind.proofs.Whole.{checks, bound_fine, bound_at}
 use Rattle.bind.proofs.bind.Statement.{statement}
 use Rattle.bind.proofs.bind.Tie as tie

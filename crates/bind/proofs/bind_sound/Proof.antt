@@ -4,8 +4,7 @@ use mathlib.Core.Path.{◌∙◌}
 use borrow.Author.Rules.{rules}
 use Rattle.table.specs.Table.{Table, table}
 use Rattle.table.specs.Passing.{contours_few}
-use Rattle.owners.specs.Owners.{searched_owners}
-use Rattle.bind.specs.Handing.{hull_count_lem, handed_none, handed_one, handed_all, handed_stuck}
+use Rattle.bind.proofs.Whole.{hull_count_lem, bound_none, bound_one, bound_all, bound_stuck}
 use Rattle.bind.proofs.bind_sound.Statement.{statement}
 use Rattle.bind.proofs.bind_sound.Tie as tie
 
@@ -27,7 +26,7 @@ same_length c = search rules
 returns : tie.Need-returns
 returns c =
     let s = c.before.before.before.before.before.before.before.before.before.before in
-    handed_none (t s) (searched_owners (t s) s.args.clockwise) s.args.owner.now _
+    bound_none (t s) s.args.clockwise s.args.owner.now _
     (hull_count_lem (t s) s.requires.0 _ c.before.before.before.before.before.hulls-before.ensures.0
     ∙ c.before.before.before.before.if1.true) c.before.before.fill.ensures
 
@@ -40,7 +39,7 @@ same-length-2 c = search rules
 returns-2 : tie.Need-returns-2
 returns-2 c =
     let s = c.before.before.before.before.before.before.before.before.before.before.before in
-    handed_one (t s) (searched_owners (t s) s.args.clockwise) s.args.owner.now _
+    bound_one (t s) s.args.clockwise s.args.owner.now _
     (hull_count_lem (t s) s.requires.0 _ c.before.before.before.before.before.before.hulls-before.ensures.0
     ∙ c.before.before.before.before.if2.true) c.before.before.fill2.ensures
 
@@ -65,7 +64,7 @@ returns-3 : tie.Need-returns-3
 returns-3 c =
     let s = c.before.before.before.before.before.before.before.before.before.before.before.before.before in
     let o = c.before.before.before.before.bind-holes in
-    handed_all (t s) (searched_owners (t s) s.args.clockwise) s.args.owner.now _ _
+    bound_all (t s) s.args.clockwise s.args.owner.now _ _
     (hull_count_lem (t s) s.requires.0 _ c.before.before.before.before.before.before.before.before.hulls-before.ensures.0)
     c.before.before.before.before.before.before.before.if1.false c.before.before.before.before.before.before.if2.false
     o.result o.ensures c.enum_told.given.1
@@ -77,7 +76,7 @@ returns-4 : tie.Need-returns-4
 returns-4 c =
     let s = c.before.before.before.before.before.before.before.before.before.before.before.before.before.before in
     let o = c.before.before.before.before.before.bind-holes in
-    handed_stuck (t s) (searched_owners (t s) s.args.clockwise) s.args.owner.now _ _
+    bound_stuck (t s) s.args.clockwise s.args.owner.now _ _
     (hull_count_lem (t s) s.requires.0 _ c.before.before.before.before.before.before.before.before.before.hulls-before.ensures.0)
     c.before.before.before.before.before.before.before.before.if1.false
     c.before.before.before.before.before.before.before.if2.false o.result o.ensures _ c.before.c.given.1

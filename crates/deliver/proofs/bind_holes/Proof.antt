@@ -1,6 +1,6 @@
--- `bind_holes`: its arrays, the first all zero and the second cut to the number of contours.
+-- `bind_holes`: its array, cut to the number of contours.
 use native.Mathlib.Omega.{arith}
-use mathlib.Core.Path.{◌≡◌, refl, sym}
+use mathlib.Core.Path.{◌≡◌, sym}
 use Prim.Native.Nat.{ℕ}
 use lib.ListN.{length, take, replicate, length-replicate}
 use lib.Seq.{length-take-le}
@@ -16,17 +16,14 @@ t s = table s.args.points.now s.args.first.now s.args.len.now s.args.kind.now
 front : (s : tie.Start) → length {A = ℕ} (take (length s.args.first.now) (replicate max_contours 0)) ≡ length s.args.first.now
 front s = length-take-le (length s.args.first.now) (replicate max_contours 0) (rw (length-replicate {A = ℕ} max_contours 0) (contours_few (t s) s.requires.0))
 
-slice-aggregate-bind-in : tie.Need-slice-aggregate-bind-in
-slice-aggregate-bind-in c = search rules
-
 array-borrow-prefix-own : tie.Need-array-borrow-prefix-own
-array-borrow-prefix-own c = let s = c.before.before.before.before.before in omega (arith, contours_few (t s) s.requires.0)
+array-borrow-prefix-own c = let s = c.before.before.before.before in omega (arith, contours_few (t s) s.requires.0)
 
-slice-aggregate-bind-in-2 : tie.Need-slice-aggregate-bind-in-2
-slice-aggregate-bind-in-2 c = let s = c.before.before.before.before.before.before in sym (front s)
+slice-aggregate-bind-in : tie.Need-slice-aggregate-bind-in
+slice-aggregate-bind-in c = let s = c.before.before.before.before.before in sym (front s)
 
 bind-in-requires : tie.Need-bind-in-requires
-bind-in-requires c κs = let s = c.before.before.before.before.before.before.before in ((s.requires.0, s.requires.1), (refl, front s, s.requires.2))
+bind-in-requires c κs = let s = c.before.before.before.before.before.before in ((s.requires.0, s.requires.1), (front s, s.requires.2))
 
 same_length : tie.Need-same-length
 same_length c = search rules
@@ -35,5 +32,5 @@ returns : tie.Need-returns
 returns c = search rules
 
 pub bind_holes_spec : {M : Type 1} → statement M
-bind_holes_spec = tie.close (tie.spec slice-aggregate-bind-in array-borrow-prefix-own slice-aggregate-bind-in-2 bind-in-requires
-    same_length returns)
+bind_holes_spec = tie.close (tie.spec array-borrow-prefix-own slice-aggregate-bind-in bind-in-requires same_length
+    returns)

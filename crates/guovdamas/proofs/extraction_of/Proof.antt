@@ -21,10 +21,9 @@ returns c =
     let n = c.before.before.answer.given.0.0 in
     let g = c.struct_told.given in
     rw (
-      to_z-of_z w64 n.kept_area (record { sfits = g.1.1.1.1.1.1.0.1 }),
+      to_z-of_z w64 n.kept_area (record { sfits = g.1.1.1.1.1.0.1 }),
       to_z-of_z w64 n.rejected_area (record {
-        sfits =
-            g.1.1.1.1.1.1.1.0.1;
+        sfits = g.1.1.1.1.1.1.0.1;
       }),
     )
     (ap extraction_of (sym c.before.before.answer.given.1))

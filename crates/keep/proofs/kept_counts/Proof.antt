@@ -37,12 +37,9 @@ add-t7 c = search rules
 add-t8 : tie.Need-overflow-add-t8
 add-t8 c = search rules
 
-add-t9 : tie.Need-overflow-add-t9
-add-t9 c = search rules
-
 returns : tie.Need-returns
 returns c =
-    let s = c.before.before.before.before.before.before.before in
+    let s = c.before.before.before.before.before.before in
     rw (
       same64 s.args.c.kept_area (small s),
       same64 s.args.area (one s),
@@ -51,4 +48,4 @@ returns c =
     ) refl
 
 pub kept_counts_spec : {M : Type 1} → statement M
-kept_counts_spec = tie.close (tie.spec add-kept-area add-t6 add-t7 add-t8 add-t9 returns)
+kept_counts_spec = tie.close (tie.spec add-kept-area add-t6 add-t7 add-t8 returns)

@@ -5,8 +5,8 @@ use Prim.Native.Nat.{ℕ}
 use mathlib.Core.List.{List}
 use borrow.Author.Rules.{rules}
 use Rattle.table.specs.Table.{Table, table, max_contours}
+use Rattle.table.specs.Passing.{contours_few}
 use Rattle.anchor.specs.Anchors.{Anchors, anchors}
-use Rattle.nearest.specs.SearchLists.{giving}
 use Rattle.order.specs.HoleLists.{Room}
 use Rattle.owners.proofs.Searched.{few_holes, bounded, sorted_anchors, listed, gave}
 use Rattle.owners.proofs.search_owners.Statement.{statement}
@@ -54,7 +54,7 @@ slice-aggregate-gather-holes-5 c = search rules
 
 gather-holes-requires : tie.Need-gather-holes-requires
 gather-holes-requires c κs =
-    let s = c.before.before.before.before.before.before.before.before.before.before in (
+    let s = c.before.before.before.before.before.before.before.before.before in (
       s.requires.0,
       record {
         who_room = omega arith;
@@ -78,13 +78,17 @@ slice-aggregate-contours-under-4 c = search rules
 slice-aggregate-contours-under-5 : tie.Need-slice-aggregate-contours-under-5
 slice-aggregate-contours-under-5 c = search rules
 
+slice-aggregate-contours-under-6 : tie.Need-slice-aggregate-contours-under-6
+slice-aggregate-contours-under-6 c = search rules
+
 contours-under-requires : tie.Need-contours-under-requires
 contours-under-requires c κs =
-    let s = c.before.before.before.before.before.before.before.before.before.before.before.before.before.before.before.before.before.before.before.before.before in let g = c.before.before.before.before.before.before.before.before.before.before in let few =
+    let s = c.before.before.before.before.before.before.before.before.before.before.before.before.before.before.before.before.before.before.before.before.before in let g =
+    c.before.before.before.before.before.before.before.before.before.before.before in let few =
     few_holes (t s) s.pre.0 s.args.clockwise s.pre.1 g.gather-holes.result (who g) (h g) g.gather-holes.ensures.found in (
       s.pre.0,
       (
-        (s.pre.2, few, few),
+        (omega (arith, contours_few (t s) s.pre.0), few, few),
         sorted_anchors (t s) s.pre.0 s.args.clockwise s.pre.1
             g.gather-holes.result (who g) (h g) g.gather-holes.ensures.found (room g),
       ),
@@ -110,7 +114,8 @@ slice-aggregate-order-holes-6 c = search rules
 
 order-holes-requires : tie.Need-order-holes-requires
 order-holes-requires c κs =
-    let s = c.before.before.before.before.before.before.before.before.before.before.before.before.before.before.before.before.before.before.before.before.before.before.before.before.before.before.before.before.before in let g = c.before.before.before.before.before.before.before.before.before.before.before.before.before.before.before.before.before.before in let few =
+    let s = c.before.before.before.before.before.before.before.before.before.before.before.before.before.before.before.before.before.before.before.before.before.before.before.before.before.before.before.before.before in let g =
+    c.before.before.before.before.before.before.before.before.before.before.before.before.before.before.before.before.before.before.before in let few =
     few_holes (t s) s.pre.0 s.args.clockwise s.pre.1 g.gather-holes.result (who g) (h g) g.gather-holes.ensures.found in
     (bounded (t s) s.pre.0 s.args.clockwise s.pre.1 g.gather-holes.result (who g) (h g) g.gather-holes.ensures.found (room g), few, few)
 
@@ -125,28 +130,32 @@ slice-aggregate-give-owners-3 c = search rules
 
 give-owners-requires : tie.Need-give-owners-requires
 give-owners-requires c κs =
-    let s = c.before.before.before.before.before.before.before.before.before.before.before.before.before.before.before.before.before.before.before.before.before.before.before.before.before.before.before.before.before.before.before.before.before.before.before in let g = c.before.before.before.before.before.before.before.before.before.before.before.before.before.before.before.before.before.before.before.before.before.before.before.before in let u = c.before.before.before.before.before.before.before.before.before.before.before.before.before.contours-under in let o = c.before.before.before.before.before.order_holes in
+    let s = c.before.before.before.before.before.before.before.before.before.before.before.before.before.before.before.before.before.before.before.before.before.before.before.before.before.before.before.before.before.before.before.before.before.before.before in let g =
+    c.before.before.before.before.before.before.before.before.before.before.before.before.before.before.before.before.before.before.before.before.before.before.before.before.before in let u =
+    c.before.before.before.before.before.before.before.before.before.before.before.before.before.contours-under in let o =
+    c.before.before.before.before.before.order_holes in
     listed (t s) s.pre.0 s.args.clockwise s.pre.1 g.gather-holes.result (who g) (h g) g.gather-holes.ensures.found
-    (giving s.args.mute.now) u.last.1.1.1.1.1.1.1.1.1.1.1.1.0 o.new.1.1.1.1.1.1.0 s.args.own.now
-    u.ensures.0 o.ensures.done
-    (omega (arith, o.auto.1.1.1.1.1.1.0)) (room g).who_room (omega (arith, u.kept.1.1.1.1.1.1.1.1.1.1.1.1.0)) s.pre.3
+    u.last.1.1.1.1.1.1.1.1.1.1.1.1.0 o.last.1.1.1.1.1.1.0 s.args.own.now u.ensures.0 o.ensures.done
+    (omega (arith, o.kept.1.1.1.1.1.1.0)) (room g).who_room (omega (arith, u.kept.1.1.1.1.1.1.1.1.1.1.1.1.0)) s.pre.2
 
 same_length : tie.Need-same-length
 same_length c = search rules
 
 returns : tie.Need-returns
 returns c =
-    let s = c.before.before.before.before.before.before.before.before.before.before.before.before.before.before.before.before.before.before.before.before.before.before.before.before.before.before.before.before.before.before.before.before.before.before.before.before.before.before in let g = c.before.before.before.before.before.before.before.before.before.before.before.before.before.before.before.before.before.before.before.before.before.before.before.before.before.before.before in let u = c.before.before.before.before.before.before.before.before.before.before.before.before.before.before.before.before.contours-under in let o = c.before.before.before.before.before.before.before.before.order_holes in
+    let s = c.before.before.before.before.before.before.before.before.before.before.before.before.before.before.before.before.before.before.before.before.before.before.before.before.before.before.before.before.before.before.before.before.before.before.before.before.before.before in let g =
+    c.before.before.before.before.before.before.before.before.before.before.before.before.before.before.before.before.before.before.before.before.before.before.before.before.before.before.before.before in let u =
+    c.before.before.before.before.before.before.before.before.before.before.before.before.before.before.before.before.contours-under in let o = c.before.before.before.before.before.before.before.before.order_holes in
     c.before.before.give-owners.ensures
     ∙ gave (t s) s.pre.0 s.args.clockwise s.pre.1 g.gather-holes.result (who g) (h g) g.gather-holes.ensures.found
-    (giving s.args.mute.now) u.last.1.1.1.1.1.1.1.1.1.1.1.1.0 o.last.1.1.1.1.1.1.0 s.args.own.now
-    u.ensures.0 o.ensures.done (omega (arith, o.kept.1.1.1.1.1.1.0))
+    u.last.1.1.1.1.1.1.1.1.1.1.1.1.0 o.new.1.1.1.1.1.1.0 s.args.own.now u.ensures.0 o.ensures.done
+    (omega (arith, o.auto.1.1.1.1.1.1.0))
 
 pub search_owners_spec : {M : Type 1} → statement M
 search_owners_spec = tie.close (tie.spec slice-aggregate-gather-holes slice-aggregate-gather-holes-2
     slice-aggregate-gather-holes-3 slice-aggregate-gather-holes-4 slice-aggregate-gather-holes-5 gather-holes-requires
     slice-aggregate-contours-under slice-aggregate-contours-under-2 slice-aggregate-contours-under-3
-    slice-aggregate-contours-under-4 slice-aggregate-contours-under-5
+    slice-aggregate-contours-under-4 slice-aggregate-contours-under-5 slice-aggregate-contours-under-6
     contours-under-requires slice-aggregate-order-holes slice-aggregate-order-holes-2 slice-aggregate-order-holes-3
     slice-aggregate-order-holes-4 slice-aggregate-order-holes-5 slice-aggregate-order-holes-6 order-holes-requires
     slice-aggregate-give-owners slice-aggregate-give-owners-2 slice-aggregate-give-owners-3 give-owners-requires

@@ -54,10 +54,10 @@ returns c =
     let n = p.ensures.0 in
     let z = c.before.before.before.zero-points.ensures ∙ ap₂ (λ i l. map_from (λ _. pos 0) (i * 2) l) n p.ensures.1.0 in
     rw (
-      to_z-of_z w64 s.args.c.kept_area (record { sfits = told.1.1.1.1.1.1.0.1 }),
+      to_z-of_z w64 s.args.c.kept_area (record { sfits = told.1.1.1.1.1.0.1 }),
       to_z-of_z w64 s.args.c.rejected_area (record {
         sfits =
-            told.1.1.1.1.1.1.1.0.1;
+            told.1.1.1.1.1.1.0.1;
       }),
     )
     (λ i. record { counts = with_points s.args.c (n i); points = z i; first = p.ensures.1.1.0 i; len = p.ensures.1.1.1 i })

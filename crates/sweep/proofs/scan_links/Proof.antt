@@ -2,30 +2,26 @@
 -- and no link below k is unvisited (`Scanning`).
 -- The measure falls where link k is passed and where a walk marks links: the links left and the unvisited ones together.
 use Prim.Native.Nat.{◌+◌, ◌-◌, ◌<◌}
-use mathlib.Core.Path.{◌≡◌, refl, sym, ◌∙◌}
-use mathlib.Core.Bool.{false}
+use mathlib.Core.Path.{refl, sym, ◌∙◌}
 use native.Mathlib.Omega.{arith}
 use borrow.Author.Rules.{rules}
-use borrow.Author.Count.{below_more}
 use lib.ListN.{length}
 use Rattle.graph.specs.Graph.{Graph}
 use Rattle.rings.specs.Field.{Field}
-use Rattle.next.specs.Next.{is_unvisited, unvisited}
+use Rattle.next.specs.Next.{unvisited}
 use Rattle.next.specs.States.{read_unvisited, read_shut}
-use Rattle.sweep.specs.Scans.{Scanning, scan_moves, scan_refused, scan_again, scan_over, none_yet, none_below, none_counted, fewer_of}
+use Rattle.sweep.proofs.Scans.{Scanning, scan_moves, scan_refused, scan_again, scan_over, lowest_here, none_yet, fewer_of}
 use Rattle.sweep.proofs.scan_links.Statement.{statement}
 use Rattle.sweep.proofs.scan_links.Tie as tie
-use Rattle.keep.specs.Tables.{no_counts}
 use Rattle.contour.specs.Notes.{Roomy, within_less}
 use Rattle.scan.specs.Fields.{field_later}
-use Rattle.scan.specs.Moves.{lowest_from}
 use Rattle.walk.specs.Marks.{kept_then}
 use Rattle.walk.specs.Later.{kept_later}
 
 abbrev invariant-loop : tie.invariant-loop
 invariant-loop ax ay bx by nxt prv lead top settings state₀ points₀ first₀ len₀ kind₀ n k₀ held₀ c₀ state points first len kind k held c =
     Scanning (λ g. Field g ax ay bx by top nxt prv lead state₀) settings.clockwise settings.minimum n state₀ points₀ first₀ len₀ kind₀
-    no_counts k held c state points first len kind
+    k held c state points first len kind
 
 abbrev decreases-loop : tie.decreases-loop
 decreases-loop ax ay bx by nxt prv lead top settings state₀ points₀ first₀ len₀ kind₀ n k₀ held₀ c₀ state points first len kind k held c =
@@ -57,7 +53,7 @@ loop-holds c =
     let s = c.before.before.before.before.before.before.before.before.before in
     rw c.no-counts.ensures
     (none_yet (Of s) s.args.settings.clockwise s.args.settings.minimum s.args.state.now s.args.points.now s.args.first.now
-    s.args.len.now s.args.kind.now no_counts 0 (omega arith) (none_below s.args.state.now) (none_counted s.args.state.now))
+    s.args.len.now s.args.kind.now)
 
 slice-read-if1 : tie.Need-slice-read-if1 invariant-loop decreases-loop
 slice-read-if1 c = in_states c.before.before c.before.loop-test.true
@@ -73,10 +69,9 @@ loop-again c =
     let l = c.before.before.before in
     let s = at-start l in
     let t = c.before.before.loop-test.true in
-    scan_moves (Of s) s.args.settings.clockwise s.args.settings.minimum _ _ _ _ _ _ no_counts l.loop.k l.loop.held l.loop.c
-    l.loop.state l.loop.points l.loop.first l.loop.len l.loop.kind l.loop.invariant (l.loop.k + 1) (omega arith)
-    (below_more (λ j. is_unvisited l.loop.state j ≡ false) l.loop.k l.loop.invariant.passed
-    (read_shut l.loop.state l.loop.k (in_states l t) c.if1.true))
+    scan_moves (Of s) s.args.settings.clockwise s.args.settings.minimum _ _ _ _ _ _ l.loop.k l.loop.held l.loop.c
+    l.loop.state l.loop.points l.loop.first l.loop.len l.loop.kind l.loop.invariant t
+    (read_shut l.loop.state l.loop.k (in_states l t) c.if1.true)
 
 scan-walk-requires : tie.Need-scan-walk-requires invariant-loop decreases-loop
 scan-walk-requires c κs =
@@ -94,7 +89,8 @@ scan-walk-requires c κs =
           (
             read_unvisited l.loop.state l.loop.k (in_states l c.before.before.before.before.before.before.before.loop-test.true)
                 c.before.before.before.before.before.if1.false,
-            lowest_from l.loop.state l.loop.k i.passed,
+            lowest_here (Of s) s.args.settings.clockwise s.args.settings.minimum _ _ _ _ _ _ l.loop.k l.loop.held l.loop.c
+                l.loop.state l.loop.points l.loop.first l.loop.len l.loop.kind i,
             rw i.kept.len i.within,
           ),
         ),
@@ -140,7 +136,7 @@ returns c =
     let s = at-start l in
     let t = o.before.before.before.before.before.before.before.before.loop-test.true in
     let i = l.loop.invariant in (
-      λ g h. scan_refused (Of s) s.args.settings.clockwise s.args.settings.minimum _ _ _ _ _ _ no_counts l.loop.k l.loop.held l.loop.c
+      λ g h. scan_refused (Of s) s.args.settings.clockwise s.args.settings.minimum _ _ _ _ _ _ l.loop.k l.loop.held l.loop.c
           l.loop.state l.loop.points l.loop.first l.loop.len l.loop.kind i t
           (read_unvisited l.loop.state l.loop.k (in_states l t) o.before.before.before.before.before.before.if1.false) _ _ _ _ _ g h _ _
           c.before.number.given.1 (o.scan-walk.ensures.0 g (field_later h (kept_later i.kept)) (i.holds g h)) _ _ _ _ _ _ refl,
@@ -164,7 +160,7 @@ loop-again-2 c =
     let s = at-start l in
     let t = o.before.before.before.before.before.before.before.before.loop-test.true in
     let i = l.loop.invariant in
-    scan_again (Of s) s.args.settings.clockwise s.args.settings.minimum _ _ _ _ _ _ no_counts l.loop.k l.loop.held l.loop.c
+    scan_again (Of s) s.args.settings.clockwise s.args.settings.minimum _ _ _ _ _ _ l.loop.k l.loop.held l.loop.c
     l.loop.state l.loop.points l.loop.first l.loop.len l.loop.kind i t
     (read_unvisited l.loop.state l.loop.k (in_states l t) o.before.before.before.before.before.before.if1.false) _ _ _ _ _ _ _ _
     c.before.d.given.1 (λ g h. o.scan-walk.ensures.0 g (field_later h (kept_later i.kept)) (i.holds g h))
@@ -192,7 +188,7 @@ returns-2 c =
     let l = c.before in
     let s = at-start l in
     let i = l.loop.invariant in (
-      scan_over (Of s) s.args.settings.clockwise s.args.settings.minimum _ _ _ _ _ _ no_counts l.loop.k l.loop.held l.loop.c
+      scan_over (Of s) s.args.settings.clockwise s.args.settings.minimum _ _ _ _ _ _ l.loop.k l.loop.held l.loop.c
           l.loop.state l.loop.points l.loop.first l.loop.len l.loop.kind i c.loop-test.false,
       (within_less _ _ (unvisited l.loop.state) 0 l.loop.c i.within (omega arith) (omega arith), i.kept),
     )

@@ -10,7 +10,7 @@ use Rattle.turn.specs.Points.{OnGrid}
 use Rattle.next.specs.Next.{unvisited}
 use Rattle.rings.specs.Ends.{link_of}
 use Rattle.rings.specs.Field.{Steered}
-use Rattle.walk.proofs.Starts.{summed_none, begin_is, starts_nowhere, starts_on, counted_on, sized_on}
+use Rattle.walk.proofs.Starts.{end_number_at, end_arrived, summed_none, begin_is, starts_nowhere, starts_on, counted_on, sized_on}
 use Rattle.walk.proofs.Steps.{start_on}
 use Rattle.walk.proofs.find_contour.Statement.{statement}
 use Rattle.walk.proofs.find_contour.Tie as tie
@@ -18,7 +18,6 @@ use Rattle.onward.specs.Goes.{GoesTo}
 use Rattle.walk.specs.Code.{Kept}
 use Rattle.walk.specs.Later.{kept_later, steers_later, steered_later}
 use Rattle.walk.specs.Marks.{kept_mark, kept_then, fewer}
-use Rattle.walk.specs.Stands.{end_number_at, end_arrived}
 use borrow.Author.Rules.{rules}
 
 abbrev at-start : tie.After-put-point → tie.Start

@@ -9,12 +9,11 @@ use Rattle.laws.specs.Bounds.{abs_add}
 use Rattle.turn.specs.Points.{OnGrid}
 use Rattle.next.specs.Next.{unvisited}
 use Rattle.rings.specs.Ends.{link_of}
-use Rattle.walk.proofs.Steps.{sum_fits, sum_is, start_on, step_went, step_nowhere}
+use Rattle.walk.proofs.Steps.{sum_fits, sum_is, start_on, mark_arrived, step_went, step_nowhere}
 use Rattle.walk.proofs.one_step.Statement.{statement}
 use Rattle.walk.proofs.one_step.Tie as tie
 use Rattle.onward.specs.Goes.{GoesTo, EndsUnvisited}
 use Rattle.walk.specs.Marks.{kept_mark, kept_none, fewer}
-use Rattle.walk.specs.Stands.{mark_arrived}
 use borrow.Author.Rules.{rules}
 
 abbrev st : tie.Start → List ℕ
