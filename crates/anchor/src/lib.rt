@@ -1,4 +1,6 @@
 // A hole's anchor and its anchor edge, and anchors kept in parallel lists.
+#![tactic(auto)]
+
 ghost use Rattle.std.specs.Prelude.{◌≡◌, ℕ, suc, ◌+◌, ◌*◌, ◌^◌, ◌<◌, ◌≤◌, length};
 ghost use Rattle.turn.specs.Points.{Grid, OnGrid};
 ghost use Rattle.anchor.specs.Anchor.{anchor_position_in, lower_end, lowest_there};
@@ -9,7 +11,7 @@ ghost use Rattle.anchor.specs.Promises.{AnchorPointSays, LeftBottomSegmentFromSa
 use turn::Point;
 
 // A hole's anchor and the other end of its anchor edge.
-#[derive(Drop)]
+#[derive(Clone, Copy)]
 pub struct Anchor {
     pub at: Point,
     pub to: Point,

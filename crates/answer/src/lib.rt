@@ -1,4 +1,6 @@
 // What the program answers to a file: read, extracted, bound and printed, from one slice of bytes into another.
+#![tactic(auto)]
+
 ghost use Rattle.std.specs.Prelude.{◌≡◌, ◌≤◌, length};
 ghost use Rattle.print.specs.Room.{answer_bytes};
 ghost use Rattle.writing.specs.Write.{Wrote};

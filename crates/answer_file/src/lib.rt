@@ -1,4 +1,6 @@
 // What the program answers to a file, read into lent lists that have room for every graph.
+#![tactic(auto)]
+
 ghost use Rattle.std.specs.Prelude.{◌≤◌, length};
 ghost use Rattle.format.specs.File.{FileLists, file_lists, FileRoom};
 ghost use Rattle.print.specs.Room.{answer_bytes};

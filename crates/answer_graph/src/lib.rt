@@ -1,6 +1,8 @@
 // What the program answers to the lists of a graph: extracted, then answered into a slice of bytes.
 //
 // Each function has the arrays of its stage and makes one call with them; the stages below see slices only.
+#![tactic(auto)]
+
 ghost use Rattle.std.specs.Prelude.{◌≡◌, ◌≤◌, length};
 ghost use Rattle.graph.specs.Graph.{Lent, lent};
 ghost use Rattle.print.specs.Room.{answer_bytes};

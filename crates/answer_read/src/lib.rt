@@ -1,4 +1,6 @@
 // What the program answers to what reading gave: its refusal, or the answer to the graph in the lent lists.
+#![tactic(auto)]
+
 ghost use Rattle.std.specs.Prelude.{◌≡◌, ◌≤◌, length};
 ghost use Rattle.format.specs.File.{FileLists, file_lists};
 ghost use Rattle.print.specs.Room.{answer_bytes};

@@ -1,4 +1,6 @@
 // What the program answers to a contour table, and to what extraction gave: bound, and printed into a slice of bytes.
+#![tactic(auto)]
+
 ghost use Rattle.std.specs.Prelude.{◌≡◌, ℕ, ◌≤◌, length};
 ghost use Rattle.table.specs.Table.{Table, table};
 ghost use Rattle.print.specs.Room.{answer_bytes};

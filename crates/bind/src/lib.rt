@@ -1,4 +1,6 @@
 // Binding: checks 10 and 11, the cases by the number of hulls, and the lent owners written on success alone.
+#![tactic(auto)]
+
 ghost use Rattle.std.specs.Prelude.{◌≡◌, ℕ, ◌<◌, ◌≤◌, length};
 ghost use Rattle.table.specs.Table.{Table, table};
 ghost use Rattle.table.specs.Sound.{Sound};
@@ -11,7 +13,7 @@ use owners::Given;
 use turn::Checked;
 
 // What binding answers: how many shapes there are and how many holes were dropped, or the number and the place of a refusal.
-#[derive(Drop)]
+#[derive(Clone, Copy)]
 pub enum Binding {
     Bound { shapes: u32, dropped: u32 },
     Refused { number: u32, place: u32 },

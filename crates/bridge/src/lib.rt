@@ -1,4 +1,6 @@
 // A `Bridge`: checks 5 to 7 of it, where a walk goes on at its two ends, and which entry rule 1 names.
+#![tactic(auto)]
+
 ghost use Rattle.std.specs.Prelude.{◌≡◌, false, List, ℕ, ◌*◌, ◌<◌, ◌≤◌, length, get_or};
 ghost use Rattle.laws.specs.Test.{pick};
 ghost use Rattle.turn.specs.Limits.{max_links};

@@ -1,4 +1,6 @@
 // Candidate edges: every edge of a table, listed by its points, with its ends as candidates have them.
+#![tactic(auto)]
+
 ghost use Rattle.std.specs.Prelude.{ℕ, ◌<◌, ◌≤◌, length};
 ghost use Rattle.turn.specs.Limits.{max_links};
 ghost use Rattle.candidates.specs.EdgeLists.{EdgeLists, edge_lists, Fit, ContourListed, Ranges};

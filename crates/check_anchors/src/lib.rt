@@ -1,4 +1,6 @@
 // Check 11: each hole's anchor is its least point, and is not before that of the hole before it.
+#![tactic(auto)]
+
 ghost use Rattle.std.specs.Prelude.{◌≡◌, ℕ, ◌+◌, ◌*◌, ◌^◌, ◌<◌, ◌≤◌, eqb, length};
 ghost use Rattle.laws.specs.Test.{pick};
 ghost use Rattle.table.specs.Table.{Table, table};

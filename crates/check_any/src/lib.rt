@@ -1,4 +1,6 @@
 // Checks 1 to 7 of any graph. Where a `Cross` has many entries, they look at a copy of the list in which these stand in angular order.
+#![tactic(auto)]
+
 ghost use Rattle.std.specs.Prelude.{◌≡◌, ℕ, ◌≤◌, length, get_or};
 ghost use Rattle.turn.specs.Limits.{max_links};
 ghost use Rattle.turn.specs.declared.Checked.TheVariants.{Fine};

@@ -1,4 +1,6 @@
 // Checks 10 and 11 in their order.
+#![tactic(auto)]
+
 ghost use Rattle.table.specs.Table.{Table, table};
 ghost use Rattle.check_binding.specs.Promises.{CheckSays};
 

@@ -1,4 +1,6 @@
 // Checks 6 and 7: the ends at a node have one point, and no two unskipped links run from it in one direction.
+#![tactic(auto)]
+
 ghost use Rattle.std.specs.Prelude.{◌≡◌, ℕ, ◌-◌, ◌<◌, length};
 ghost use Rattle.laws.specs.Lowest.{lowest};
 ghost use Rattle.turn.specs.declared.Point.{Point};

@@ -1,5 +1,7 @@
 // Checks 1 to 7 together. Any graph may be lent: `check_graph` says that it is right, or the number and place of the check that refuses it, or it stops
 // at a `Cross` of many entries.
+#![tactic(auto)]
+
 ghost use Rattle.std.specs.Prelude.{◌≡◌, ◌-◌, ◌*◌, ◌≤◌, length};
 ghost use Rattle.turn.specs.Limits.{max_links};
 ghost use Rattle.graph.specs.Graph.{Lent, lent};
@@ -19,7 +21,7 @@ use starts::wrong_starts;
 use turn::Checked;
 
 // What is lent for the answer, by length: the points' buffer, two numbers to a point, and the three lists of the contour table.
-#[derive(Drop)]
+#[derive(Clone, Copy)]
 pub struct Room {
     pub points: usize,
     pub firsts: usize,
@@ -28,7 +30,7 @@ pub struct Room {
 }
 
 // What the checks find: nothing; what they refuse; or a `Cross` of more entries than they are to lay, where they stop.
-#[derive(Drop)]
+#[derive(Clone, Copy)]
 pub enum Looked {
     Right,
     Wrong { number: u32, place: usize },

@@ -1,4 +1,6 @@
 // Checks 1 to 4: how many links there are, the lengths of all that is lent, each link by itself, and the order of the links.
+#![tactic(auto)]
+
 ghost use Rattle.std.specs.Prelude.{◌≡◌, ◌≤◌, length};
 ghost use Rattle.graph.specs.Graph.{Lent, lent};
 ghost use Rattle.graph.specs.Checks.{room, each_checked};

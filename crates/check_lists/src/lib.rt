@@ -1,4 +1,6 @@
 // Check 5: the starts, and the nodes' lists, which hold each link exactly once at its a node and once at its b node, and nothing else.
+#![tactic(auto)]
+
 ghost use Rattle.std.specs.Prelude.{◌≡◌, ◌+◌, ◌-◌, ◌<◌, ◌≤◌, ltb, length};
 ghost use Rattle.laws.specs.Lowest.{some};
 ghost use Rattle.laws.specs.Count.{count};

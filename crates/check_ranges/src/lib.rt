@@ -1,4 +1,6 @@
 // Check 10, number by number: the lengths of a table's lists, and a contour's range, length and kind.
+#![tactic(auto)]
+
 ghost use Rattle.check_ranges.specs.Promises.{MisfitSays, RangeFaultSays};
 
 // Whether the lengths of the lists are wrong, with so much room for owners.

@@ -1,4 +1,6 @@
 // Check 2: the lengths of all that is lent.
+#![tactic(auto)]
+
 ghost use Rattle.std.specs.Prelude.{◌≡◌};
 ghost use Rattle.graph.specs.Graph.{Lent, lent};
 ghost use Rattle.graph.specs.Checks.{room, unlike, few_points, unlike_band, few_contours};

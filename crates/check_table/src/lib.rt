@@ -1,4 +1,6 @@
 // Check 10: the whole table, then the lowest contour that is wrong.
+#![tactic(auto)]
+
 ghost use Rattle.std.specs.Prelude.{◌≡◌, ◌+◌, ◌*◌, ◌≤◌, length};
 ghost use Rattle.laws.specs.Lowest.{lowest};
 ghost use Rattle.table.specs.Table.{Table, table};

@@ -1,4 +1,6 @@
 // The lent buffers cleared, or trimmed past what was written.
+#![tactic(auto)]
+
 ghost use Rattle.std.specs.Prelude.{◌*◌, ◌≤◌, length};
 ghost use Rattle.clear.specs.Promises.{ClearSays, TrimSays};
 

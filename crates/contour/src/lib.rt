@@ -1,4 +1,6 @@
 // One contour (rules 2 to 6): the walk that starts with a link, as a hole's or a hull's, entered in the table, counted as rejected, or refused.
+#![tactic(auto)]
+
 ghost use Rattle.std.specs.Prelude.{◌≡◌, ◌<◌, length, get_or};
 ghost use Rattle.std.specs.Bool.{beq};
 ghost use Rattle.next.specs.Next.{unvisited};
@@ -14,7 +16,7 @@ use keep::Counts;
 use walk::{Course, Ended};
 
 // How outlines are asked for: the output direction, the area below which a walk is rejected, and whether points on a straight line are dropped.
-#[derive(Drop)]
+#[derive(Clone, Copy)]
 pub struct Settings {
     pub clockwise: bool,
     pub minimum: u64,
@@ -22,7 +24,7 @@ pub struct Settings {
 }
 
 // What becomes of a walk of the scan: entered in the table or the counts, with its first link told, or refused with a number.
-#[derive(Drop)]
+#[derive(Clone, Copy)]
 pub enum Noted {
     Entered { counts: Counts, first: usize },
     Stuck(u32),

@@ -1,4 +1,6 @@
 // Runs the proved functions of `turn` and `size` at zero and at both extremes, a line for each input.
+#![tactic(auto)]
+
 ghost use Rattle.std.specs.Prelude.{◌≤◌};
 ghost use Rattle.turn.specs.Points.{Coord, Short};
 

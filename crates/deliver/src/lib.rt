@@ -1,4 +1,6 @@
 // The owner buffer: owners written over its front, and with two hulls or more where every hole has found its own.
+#![tactic(auto)]
+
 ghost use Rattle.std.specs.Prelude.{◌≡◌, ℕ, ◌<◌, ◌≤◌, length};
 ghost use Rattle.laws.specs.Lists.{over_front};
 ghost use Rattle.table.specs.Table.{Table, table};

@@ -1,4 +1,6 @@
 // Checks 3 and 4, link by link: each link by itself, and the lowest that is wrong or out of order.
+#![tactic(auto)]
+
 ghost use Rattle.std.specs.Prelude.{◌≡◌, ◌<◌, ◌≤◌, length};
 ghost use Rattle.graph.specs.Graph.{Lent, lent, point_at};
 ghost use Rattle.graph.specs.Checks.{misnamed, link_wrong};

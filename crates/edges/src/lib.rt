@@ -1,4 +1,6 @@
 // One edge and one anchor: whether the edge lies under, and which of two edges is nearer.
+#![tactic(auto)]
+
 ghost use Rattle.std.specs.Prelude.{◌≡◌, ℕ, ◌≤◌, nat_abs, ◌*ℤ◌};
 ghost use Rattle.turn.specs.Points.{Short, product_bound, span};
 ghost use Rattle.edges.specs.Edges.{height, wins_tie, On, gap_bound};
@@ -8,7 +10,7 @@ use anchor::Anchor;
 use turn::{Point, Vector};
 
 // An edge from its left end to its right end, with its contour's kind (0 hull, 1 hole) and number.
-#[derive(Drop)]
+#[derive(Clone, Copy)]
 pub struct Edge {
     pub left: Point,
     pub right: Point,

@@ -1,4 +1,6 @@
 // A contour's entry in the table: where its points begin, how many there are, hull or hole.
+#![tactic(auto)]
+
 ghost use Rattle.std.specs.Prelude.{◌≡◌, ◌<◌, ◌≤◌, length};
 ghost use Rattle.laws.specs.Test.{pick};
 ghost use Rattle.turn.specs.Limits.{max_links};

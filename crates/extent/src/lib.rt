@@ -1,4 +1,6 @@
 // The extent of a run of points in whole units: the least and the greatest x and y.
+#![tactic(auto)]
+
 ghost use Rattle.std.specs.Prelude.{◌≡◌, ◌≤◌, length};
 ghost use Rattle.extent.specs.Extent.{lesser, greater, alone, spread};
 ghost use Rattle.extent.specs.Promises.{ExtentOfSays};
@@ -7,7 +9,7 @@ use table::point_in;
 use turn::Point;
 
 // How far points reach: the least x and y are left and bottom, the greatest right and top.
-#[derive(Drop)]
+#[derive(Clone, Copy)]
 pub struct Extent {
     pub left: i32,
     pub bottom: i32,

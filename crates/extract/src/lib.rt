@@ -1,4 +1,6 @@
 // Extraction: the entry point, which makes the arrays that extraction works in.
+#![tactic(auto)]
+
 ghost use Rattle.graph.specs.Graph.{Lent, lent};
 ghost use Rattle.finish.specs.Finish.{Buffers, buffers};
 ghost use Rattle.extract.specs.Promises.{ExtractSays};

@@ -1,4 +1,6 @@
 // Extraction over lists lent to work in: checks 1 to 7, then the scan.
+#![tactic(auto)]
+
 ghost use Rattle.std.specs.Prelude.{◌≤◌, length};
 ghost use Rattle.turn.specs.Limits.{max_links};
 ghost use Rattle.graph.specs.Graph.{Lent, lent};

@@ -1,4 +1,6 @@
 // Extraction of a graph that passes its checks: the scan, and what each lent buffer then holds.
+#![tactic(auto)]
+
 ghost use Rattle.std.specs.Prelude.{◌≡◌, map, length};
 ghost use Rattle.next.specs.Known.{Links};
 ghost use Rattle.rings.specs.Field.{Fielded};

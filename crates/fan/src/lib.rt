@@ -1,5 +1,7 @@
 // A copy of the list of entries in which those of a node of many stand in the ring's order, so that each goes at the end of the ring as it is
 // laid. In what order they are laid decides time alone: what is proved of the sort is that it keeps the entries.
+#![tactic(auto)]
+
 ghost use Rattle.std.specs.Prelude.{◌≡◌, ℕ, ◌+◌, ◌-◌, ◌*◌, ◌<◌, ◌≤◌, leb, length, get_or};
 ghost use Rattle.laws.specs.Lowest.{some};
 ghost use Rattle.turn.specs.Limits.{max_links};

@@ -1,5 +1,7 @@
 // What extraction leaves once the scan has ended: after 8 and 9 the states as before and nothing written, after success zeros past
 // what was written.
+#![tactic(auto)]
+
 ghost use Rattle.finish.specs.Finish.{buffers, Holds};
 ghost use Rattle.finish.specs.Promises.{FinishSays};
 

@@ -1,4 +1,6 @@
 // Rule 1 (document 01, "Walking"): the first link of a walk, read off the field of ends.
+#![tactic(auto)]
+
 ghost use Rattle.std.specs.Prelude.{◌≡◌, true, ℕ, ◌<◌, ◌≤◌, length};
 ghost use Rattle.turn.specs.Points.{clockwise};
 ghost use Rattle.graph.specs.Graph.{point_at};

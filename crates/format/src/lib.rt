@@ -2,6 +2,8 @@
 //
 // The form of the whole file is looked at first, by its heads, so that a refusal leaves every lent list alone;
 // then the lists are filled.
+#![tactic(auto)]
+
 ghost use Rattle.format.specs.File.{FileLists, file_lists, FileRoom};
 ghost use Rattle.format.specs.Promises.{ReadGraphSays};
 
@@ -13,7 +15,7 @@ use turn::MAX_LINKS;
 pub const FILE_BYTES: usize = 15 + MAX_LINKS * 28 + MAX_NODES * 6 + MAX_ENTRIES * 2 + 6;
 
 // What a file holds.
-#[derive(Drop)]
+#[derive(Clone, Copy)]
 pub struct FileCounts {
     pub links: usize,
     pub nodes: usize,
@@ -23,7 +25,7 @@ pub struct FileCounts {
 }
 
 // What came of reading: a graph in the lent lists, or a refusal.
-#[derive(Drop)]
+#[derive(Clone, Copy)]
 pub enum FileRead {
     Graph(FileCounts),
     Refused(Refusal),

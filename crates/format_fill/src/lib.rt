@@ -1,4 +1,6 @@
 // A list filled in one loop with what stands at every so many bytes.
+#![tactic(auto)]
+
 ghost use Rattle.std.specs.Prelude.{ℕ, ◌+◌, ◌*◌, ◌<◌, ◌≤◌, length};
 ghost use Rattle.format_fill.specs.Promises.{FillI32Says, FillU16Says, FillU8Says};
 

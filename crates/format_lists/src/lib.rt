@@ -1,4 +1,6 @@
 // The lists of a graph, filled from where their bytes stand in a file of right form.
+#![tactic(auto)]
+
 ghost use Rattle.std.specs.Prelude.{ℕ, ◌+◌, ◌*◌, ◌<◌, ◌≤◌, length};
 ghost use Rattle.format_records.specs.Limits.{max_entries};
 ghost use Rattle.format_lists.specs.Columns.{Columns, columns, LinkRoom};

@@ -1,4 +1,6 @@
 // Numbers of the file, "all little-endian", read from a slice of bytes.
+#![tactic(auto)]
+
 ghost use Rattle.std.specs.Prelude.{◌+◌, ◌≤◌, length};
 ghost use Rattle.format_numbers.specs.Promises.{U16AtSays, U32AtSays, U64AtSays, FromBitsSays};
 

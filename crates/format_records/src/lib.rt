@@ -1,4 +1,6 @@
 // The file's records: what a head may say, and how a record is refused.
+#![tactic(auto)]
+
 ghost use Rattle.std.specs.Prelude.{◌+◌, ◌^◌, ◌<◌};
 ghost use Rattle.format_records.specs.Promises.{HeadNumberSays, refused_says};
 
@@ -10,14 +12,14 @@ pub const MAX_NODES: usize = 4096;
 pub const MAX_ENTRIES: usize = 8192;
 
 // Why a file is refused: document 01's number, and the place.
-#[derive(Drop)]
+#[derive(Clone, Copy)]
 pub struct Refusal {
     pub number: u32,
     pub place: usize,
 }
 
 // Records of one kind that come one after the other: the offset after them, how many, and the bytes of their bodies.
-#[derive(Drop)]
+#[derive(Clone, Copy)]
 pub struct Run {
     pub at: usize,
     pub count: usize,
@@ -25,7 +27,7 @@ pub struct Run {
 }
 
 // What stands at a run's end: one record more, something else, or a record of the kind that is at fault.
-#[derive(Drop)]
+#[derive(Clone, Copy)]
 pub enum RunStep {
     Next(Run),
     Other,

@@ -1,4 +1,6 @@
 // The form of the file, by the heads of its records: how many links, nodes and entries it has, or its first fault.
+#![tactic(auto)]
+
 ghost use Rattle.std.specs.Prelude.{◌≡◌, ℕ, ◌≤◌, List, length};
 ghost use Rattle.format_records.specs.Records.{run_at, nodes_after};
 ghost use Rattle.format_shape.specs.Shape.{run_end_of, file_shape_of};
@@ -8,14 +10,14 @@ use format_records::{Refusal, Run, RunStep};
 use format_steps::{settings_right, step_at};
 
 // A whole run, or the fault in it.
-#[derive(Drop)]
+#[derive(Clone, Copy)]
 pub enum RunEnd {
     To(Run),
     Fault(Refusal),
 }
 
 // The form of a file: how many links, nodes and list entries it has, or its first fault.
-#[derive(Drop)]
+#[derive(Clone, Copy)]
 pub enum FileShape {
     Right {
         links: usize,

@@ -1,4 +1,6 @@
 // The file's records, one by one: the settings, and one more record of a run, or its fault.
+#![tactic(auto)]
+
 ghost use Rattle.std.specs.Prelude.{◌≤◌, length};
 ghost use Rattle.format_records.specs.Limits.{max_records};
 ghost use Rattle.format_steps.specs.Promises.{SettingsRightSays, StepAtSays};

@@ -1,4 +1,6 @@
 // The lent graph as the checks read it: the points of a link's ends, and a node's part of the list.
+#![tactic(auto)]
+
 ghost use Rattle.std.specs.Prelude.{◌≡◌, ℕ, ◌-◌, ◌<◌, length};
 ghost use Rattle.turn.specs.declared.Point.{Point};
 ghost use Rattle.turn.specs.Points.{Short};

@@ -1,4 +1,6 @@
 // The static library: extraction, binding, lookup and reports, with numbers and slices only, for Rust and C. include/guovdamas.h is its header.
+#![tactic(auto)]
+
 ghost use Rattle.std.specs.Prelude.{◌≡◌};
 ghost use Rattle.graph.specs.Graph.{Lent, lent};
 ghost use Rattle.finish.specs.Finish.{Buffers, buffers};
@@ -18,7 +20,7 @@ use scan::Extraction;
 
 // How outlines are asked for: the area below which a walk is rejected, the output direction, and whether points on a straight line are dropped.
 #[repr(C)]
-#[derive(Drop)]
+#[derive(Clone, Copy)]
 pub struct GuovdamasSettings {
     pub minimum: u64,
     pub clockwise: bool,
@@ -27,7 +29,7 @@ pub struct GuovdamasSettings {
 
 // What extraction answers: document 01's number and place, 0 and 0 when done; the counts and the signed doubled totals, all 0 after a refusal.
 #[repr(C)]
-#[derive(Drop)]
+#[derive(Clone, Copy)]
 pub struct GuovdamasExtraction {
     pub number: u32,
     pub place: usize,
@@ -42,7 +44,7 @@ pub struct GuovdamasExtraction {
 
 // What binding answers: document 01's number and place, 0 and 0 when done; how many shapes there are and how many holes were dropped, 0 after a refusal.
 #[repr(C)]
-#[derive(Drop)]
+#[derive(Clone, Copy)]
 pub struct GuovdamasBinding {
     pub number: u32,
     pub place: u32,
@@ -53,7 +55,7 @@ pub struct GuovdamasBinding {
 // What a lookup answers: found 1; role 0 for a hull, 1 for a hole, 2 for a dropped hole; the owner's number, 65,535 for a dropped hole;
 // the first point's position and the number of points. All fields are 0 where the contour has no record.
 #[repr(C)]
-#[derive(Drop)]
+#[derive(Clone, Copy)]
 pub struct GuovdamasRecord {
     pub found: u32,
     pub role: u32,
@@ -65,7 +67,7 @@ pub struct GuovdamasRecord {
 // What a report answers: found 1; the signed area in square millimetres, and the frame's edges in millimetres. Where there is no such
 // contour found is 0, and no other field is a number.
 #[repr(C)]
-#[derive(Drop)]
+#[derive(Clone, Copy)]
 pub struct GuovdamasReport {
     pub found: u32,
     pub area: f64,
@@ -78,7 +80,7 @@ pub struct GuovdamasReport {
 // What the reports of a table answer: document 01's number and place, 0 and 0 when done; how many contours there are, and of how many of
 // them there is no report, 0 after a refusal.
 #[repr(C)]
-#[derive(Drop)]
+#[derive(Clone, Copy)]
 pub struct GuovdamasReports {
     pub number: u32,
     pub place: usize,

@@ -1,4 +1,6 @@
 // The ring of a `Cross`: where one more end goes, and how it is linked there.
+#![tactic(auto)]
+
 ghost use Rattle.std.specs.Prelude.{◌≡◌, List, ℕ, ◌*◌, ◌/◌, ◌<◌, length, set};
 ghost use Rattle.turn.specs.Limits.{max_links};
 ghost use Rattle.turn.specs.declared.Point.{Point};
@@ -15,7 +17,7 @@ use rings::{CROSS, WRAP};
 use turn::{Point, Vector, between, cross_product, wide};
 
 // The ring so far: its first and its last end, and how many it has.
-#[derive(Drop)]
+#[derive(Clone, Copy)]
 pub struct Hoop {
     pub head: usize,
     pub tail: usize,
@@ -23,7 +25,7 @@ pub struct Hoop {
 }
 
 // Where an end of the ring stands, against the end that is to be put in.
-#[derive(Drop)]
+#[derive(Clone, Copy)]
 enum Side {
     Earlier,
     Level,
@@ -31,7 +33,7 @@ enum Side {
 }
 
 // Where an end goes: before all of the ring, or after one end; or it runs as one of them does.
-#[derive(Drop)]
+#[derive(Clone, Copy)]
 pub enum Place {
     First,
     After(usize),
@@ -39,7 +41,7 @@ pub enum Place {
 }
 
 // What becomes of an entry: something is wrong with it, or it makes the ring this one.
-#[derive(Drop)]
+#[derive(Clone, Copy)]
 pub enum Taken {
     Wrong,
     Makes(Hoop),

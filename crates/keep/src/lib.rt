@@ -1,4 +1,6 @@
 // Rule 6: a walk is kept, and entered in the contour table, or it is rejected, and counted.
+#![tactic(auto)]
+
 ghost use Rattle.std.specs.Prelude.{◌≡◌, true, [], ◌+◌, ◌-◌, ◌*◌, ◌≤◌, length, nat_abs};
 ghost use Rattle.turn.specs.Limits.{max_links};
 ghost use Rattle.turn.specs.Area.{wedge_bound};
@@ -7,7 +9,7 @@ ghost use Rattle.keep.specs.Promises.{NoCountsSays, NoteWalkSays};
 
 // What extraction returns on success. `left_out` counts the contours of which dropping points on a line left fewer than 3: the scan leaves none out.
 // `kept_area` and `rejected_area` are the signed doubled totals of kept and of rejected walks.
-#[derive(Drop)]
+#[derive(Clone, Copy)]
 pub struct Counts {
     pub contours: usize,
     pub points: usize,

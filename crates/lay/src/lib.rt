@@ -1,4 +1,6 @@
 // The pass over the nodes: checks 5 to 7 of each, and where a walk goes on at the ends there.
+#![tactic(auto)]
+
 ghost use Rattle.std.specs.Prelude.{◌≡◌, List, ℕ, ◌-◌, ◌*◌, ◌<◌, ◌≤◌, length, get_or};
 ghost use Rattle.turn.specs.Limits.{max_links};
 ghost use Rattle.turn.specs.declared.Point.{Point};
@@ -16,7 +18,7 @@ use spokes::lay_cross;
 use turn::wide;
 
 // What the pass over the `Bridge`s finds: something wrong; or nothing, and all nodes are `Bridge`s, or some are `Cross`es.
-#[derive(Drop)]
+#[derive(Clone, Copy)]
 enum Passed {
     Wrong,
     Bridges,
@@ -25,7 +27,7 @@ enum Passed {
 
 // What the pass over the nodes finds: a fault; or none, and the ends at every node are laid; or a `Cross` of more entries than it is to lay, where
 // it stops.
-#[derive(Drop)]
+#[derive(Clone, Copy)]
 pub enum Found {
     Fault,
     Nothing,

@@ -1,4 +1,6 @@
 // The points of a walk (document 01, "Walking", rule 5): that of the node that it leaves, read from the lists and written.
+#![tactic(auto)]
+
 ghost use Rattle.std.specs.Prelude.{◌+◌, ◌*◌, ◌<◌, length};
 ghost use Rattle.rings.specs.Ends.{link_of};
 ghost use Rattle.leave.specs.Promises.{StartPointSays, PutPointSays};

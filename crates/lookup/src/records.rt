@@ -1,21 +1,21 @@
 // What a lookup answers. (A type `Lookup` and a function `lookup` cannot stand in one module.)
 
 // A contour's part in its shape: a hull with its shape's number, a hole with its parent's, or a hole that was dropped.
-#[derive(Drop)]
+#[derive(Clone, Copy)]
 pub enum Role {
     Hull(u16),
     Hole(u16),
     Dropped,
 }
 
-#[derive(Drop)]
+#[derive(Clone, Copy)]
 pub struct ContourRecord {
     pub first: u32,
     pub len: u32,
     pub role: Role,
 }
 
-#[derive(Drop)]
+#[derive(Clone, Copy)]
 pub enum Lookup {
     Found(ContourRecord),
     Missing,

@@ -1,4 +1,6 @@
 // Millimetres: whole numbers made floats with nothing lost, and divided once. One unit is 0.01 mm.
+#![tactic(auto)]
+
 ghost use Rattle.std.specs.Prelude.{◌≡◌, ◌^◌, ◌≤◌, nat_abs};
 ghost use Rattle.millimetres.specs.Millimetres.{millimetres};
 ghost use Rattle.millimetres.specs.Promises.{SquareMillimetresSays, FrameOfSays, NoNumberSays};
@@ -6,7 +8,7 @@ ghost use Rattle.millimetres.specs.Promises.{SquareMillimetresSays, FrameOfSays,
 use extent::Extent;
 
 // A frame in millimetres: the least x and y are left and bottom, the greatest right and top.
-#[derive(Drop)]
+#[derive(Clone, Copy)]
 pub struct Frame {
     pub left: f64,
     pub bottom: f64,

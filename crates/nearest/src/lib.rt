@@ -1,4 +1,6 @@
 // The search for the nearest edge under each of many anchors, driven by edges.
+#![tactic(auto)]
+
 ghost use Rattle.std.specs.Prelude.{◌≡◌, ℕ, ◌<◌, ◌≤◌, length, get_or};
 ghost use Rattle.turn.specs.Limits.{max_links};
 ghost use Rattle.table.specs.Table.{Table, table, max_contours};

@@ -1,5 +1,7 @@
 // Where a walk goes on (document 01, "Walking", rule 3): it stands at an end of a link, the one where it arrived, and follows the field of ends
 // (crate `rings`).
+#![tactic(auto)]
+
 ghost use Rattle.std.specs.Prelude.{◌≡◌, ◌<◌, ◌≤◌, length, get_or};
 ghost use Rattle.graph.specs.Graph.{Graph};
 ghost use Rattle.rings.specs.Linked.{step_of};
@@ -11,7 +13,7 @@ use rings::{CROSS, far};
 use turn::wide;
 
 // Where the next link leads: to its far end, or there is none.
-#[derive(Drop)]
+#[derive(Clone, Copy)]
 pub enum Onward {
     To(usize),
     Nowhere,

@@ -1,4 +1,6 @@
 // Binding's order of the holes: the holes gathered with their anchors, and put in order by insertion.
+#![tactic(auto)]
+
 ghost use Rattle.std.specs.Prelude.{ℕ, suc, ◌<◌, ◌≤◌, length, get_or};
 ghost use Rattle.table.specs.Table.{Table, table, max_contours};
 ghost use Rattle.table.specs.Sound.{Sound};

@@ -1,4 +1,6 @@
 // The program: reads document 01's file from standard input and prints the answer.
+#![tactic(auto)]
+
 ghost use Rattle.std.specs.Prelude.{◌≤◌, length};
 ghost use Rattle.print.specs.Room.{answer_bytes};
 ghost use Rattle.outline.specs.Inputs.{InputFits};
@@ -8,7 +10,7 @@ use libc::{STDERR_FILENO, STDIN_FILENO, STDOUT_FILENO};
 use print::ANSWER_BYTES;
 
 // What came of reading: so many bytes, none at the end of the input; or a read failed.
-#[derive(Drop)]
+#[derive(Clone, Copy)]
 enum Input {
     Read(usize),
     Failed,

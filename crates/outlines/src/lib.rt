@@ -1,4 +1,6 @@
 // Extraction of a graph that passes its checks, as its settings ask for it: its contours, and then, where asked for, without points on a straight line.
+#![tactic(auto)]
+
 ghost use Rattle.std.specs.Prelude.{◌≡◌, true, map, length};
 ghost use Rattle.next.specs.Known.{Links};
 ghost use Rattle.rings.specs.Field.{Fielded};

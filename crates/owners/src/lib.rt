@@ -1,4 +1,6 @@
 // The owner of every contour of a table with two hulls or more, hole by hole in binding's order.
+#![tactic(auto)]
+
 ghost use Rattle.std.specs.Prelude.{◌≡◌, ℕ, ◌<◌, ◌≤◌, length, take};
 ghost use Rattle.turn.specs.Limits.{max_links};
 ghost use Rattle.table.specs.Table.{Table, table};
@@ -9,7 +11,7 @@ ghost use Rattle.owners.specs.Giving.{give_listed, Listed};
 ghost use Rattle.owners.specs.Promises.{NumberHullsSays, SearchOwnersSays};
 
 // Every hole has its owner, or the contour of the first that finds none.
-#[derive(Drop)]
+#[derive(Clone, Copy)]
 pub enum Given {
     All,
     Stuck(u32),

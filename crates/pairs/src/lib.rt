@@ -1,4 +1,6 @@
 // The two entries of a `Bridge`: what is stored for them, and whether two ends of one sort are wrong.
+#![tactic(auto)]
+
 ghost use Rattle.std.specs.Prelude.{ℕ, ◌*◌, ◌<◌, ◌≡◌, length};
 ghost use Rattle.turn.specs.Limits.{max_links};
 ghost use Rattle.turn.specs.declared.Point.{Point};

@@ -1,4 +1,6 @@
 // Which of two holes goes first in binding's order.
+#![tactic(auto)]
+
 ghost use Rattle.turn.specs.Points.{OnGrid};
 ghost use Rattle.precede.specs.Promises.{GoesBeforeSays};
 

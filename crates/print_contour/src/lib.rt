@@ -1,6 +1,8 @@
 // The line of a contour, written into a slice of bytes.
 //
 // Every writer takes the buffer and a position, writes its bytes there and answers the position after them.
+#![tactic(auto)]
+
 ghost use Rattle.std.specs.Prelude.{◌+◌, ◌≤◌, length};
 ghost use Rattle.writing.specs.Write.{Wrote};
 ghost use Rattle.print_text.specs.Decimal.{said};

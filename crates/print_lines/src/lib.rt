@@ -1,12 +1,14 @@
 // The lines of the printed answer as definitions; the first line, written into a slice of bytes.
 //
 // Every writer takes the buffer and a position, writes its bytes there and answers the position after them.
+#![tactic(auto)]
+
 ghost use Rattle.std.specs.Prelude.{◌≤◌, length};
 ghost use Rattle.print_lines.specs.Lines.{header};
 ghost use Rattle.print_lines.specs.Promises.{WriteHeaderSays};
 
 // The numbers of the answer's first line.
-#[derive(Drop)]
+#[derive(Clone, Copy)]
 pub struct Totals {
     pub contours: usize,
     pub shapes: usize,

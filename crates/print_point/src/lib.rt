@@ -1,6 +1,8 @@
 // The line of a point, written into a slice of bytes.
 //
 // A writer takes the buffer and a position, writes its bytes there and answers the position after them.
+#![tactic(auto)]
+
 ghost use Rattle.std.specs.Prelude.{◌+◌, ◌≤◌, length};
 ghost use Rattle.print_lines.specs.Lines.{point_line};
 ghost use Rattle.print_point.specs.Promises.{WritePointSays};

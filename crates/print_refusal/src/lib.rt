@@ -1,4 +1,6 @@
 // A refusal, written into a slice of bytes.
+#![tactic(auto)]
+
 ghost use Rattle.std.specs.Prelude.{◌≤◌, length};
 ghost use Rattle.writing.specs.Cuts.{Cut};
 ghost use Rattle.print.specs.Room.{refusal_bytes};

@@ -1,6 +1,8 @@
 // Texts and decimal numbers, written into a slice of bytes.
 //
 // Every writer takes the buffer and a position, writes its bytes there and answers the position after them.
+#![tactic(auto)]
+
 ghost use Rattle.std.specs.Prelude.{◌+◌, ◌≤◌, length};
 ghost use Rattle.print_text.specs.Decimal.{decimal, decimal_z, said};
 ghost use Rattle.print_text.specs.Promises.{WriteTextSays, WriteDecimalSays, WriteSignedSays, WriteSaidSays};

@@ -1,4 +1,6 @@
 // The quick question of checks 3 and 4: whether either finds anything, asked by fewer and narrower comparisons.
+#![tactic(auto)]
+
 ghost use Rattle.std.specs.Prelude.{◌≡◌, ℕ, length};
 ghost use Rattle.turn.specs.declared.Point.{Point};
 ghost use Rattle.graph.specs.Graph.{point_at};

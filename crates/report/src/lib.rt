@@ -1,4 +1,6 @@
 // The report of a contour: its area and its frame in millimetres, or that there is no such contour.
+#![tactic(auto)]
+
 ghost use Rattle.std.specs.Prelude.{◌≡◌, ◌+◌, ◌*◌, ◌≤◌, length};
 ghost use Rattle.turn.specs.Limits.{max_links};
 ghost use Rattle.turn.specs.Points.{Grid};

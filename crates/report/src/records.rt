@@ -2,14 +2,14 @@
 use millimetres::Frame;
 
 // A contour's signed area in square millimetres and its frame in millimetres, or that there is no such contour.
-#[derive(Drop)]
+#[derive(Clone, Copy)]
 pub enum Report {
     Contour { area: f64, frame: Frame },
     Missing,
 }
 
 // The values of a report: found 1, with its numbers; found 0, and none of them a number.
-#[derive(Drop)]
+#[derive(Clone, Copy)]
 pub struct ReportValues {
     pub found: u32,
     pub area: f64,

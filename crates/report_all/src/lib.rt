@@ -1,4 +1,6 @@
 // The reports of a whole table at once: it is checked once, and each contour's numbers stand in lists.
+#![tactic(auto)]
+
 ghost use Rattle.std.specs.Prelude.{◌≡◌, ◌+◌, ◌^◌, ◌<◌, ◌≤◌, min, length};
 ghost use Rattle.laws.specs.Test.{pick};
 ghost use Rattle.table.specs.Table.{Table, table};

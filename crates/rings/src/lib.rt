@@ -1,4 +1,6 @@
 // Ends of links by number: 2 k is link k's a, 2 k + 1 its b.
+#![tactic(auto)]
+
 ghost use Rattle.std.specs.Prelude.{◌<◌, length};
 ghost use Rattle.rings.specs.Field.{cross_mark};
 ghost use Rattle.rings.specs.Promises.{FarSays, EndOfSays};

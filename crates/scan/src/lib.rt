@@ -1,4 +1,6 @@
 // One walk of the scan (rules 1 to 6): from the first link that rule 1 names at the link where the scan stands, as that link's top says.
+#![tactic(auto)]
+
 ghost use Rattle.std.specs.Prelude.{◌≡◌, true, ℕ, ◌≤◌, length};
 ghost use Rattle.next.specs.Next.{is_unvisited, unvisited};
 ghost use Rattle.next.specs.Known.{Links};
@@ -13,7 +15,7 @@ use keep::Counts;
 use next::Next;
 
 // The answer of extraction.
-#[derive(Drop)]
+#[derive(Clone, Copy)]
 pub enum Extraction {
     Done(Counts),
     Refused { number: u32, place: usize },

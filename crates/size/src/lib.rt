@@ -1,4 +1,6 @@
 // Rule 6's size test, by doubled numbers: whether a walk is kept.
+#![tactic(auto)]
+
 ghost use Rattle.size.specs.Promises.{IsKeptSays};
 
 use turn::absolute;

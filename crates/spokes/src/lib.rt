@@ -1,4 +1,6 @@
 // The entries of a `Cross`: checked one after the other (checks 5 to 7), and each unskipped end put into the ring.
+#![tactic(auto)]
+
 ghost use Rattle.std.specs.Prelude.{◌≡◌, true, false, ◌||◌, List, ℕ, ◌*◌, ◌<◌, ◌≤◌, length};
 ghost use Rattle.laws.specs.Test.{pick};
 ghost use Rattle.laws.specs.Lowest.{some};

@@ -1,4 +1,6 @@
 // Check 5, of the starts: one pass over them.
+#![tactic(auto)]
+
 ghost use Rattle.std.specs.Prelude.{◌-◌, ◌≤◌, length};
 ghost use Rattle.starts.specs.Odds.{Odd, OddBelow};
 ghost use Rattle.starts.specs.Promises.{WrongStartsSays};

@@ -1,4 +1,6 @@
 // Points on a straight line are dropped from what extraction wrote, in one pass over it. Where no contour has a spike this is the rule of `straight`.
+#![tactic(auto)]
+
 ghost use Rattle.std.specs.Prelude.{◌≡◌, ◌+◌, ◌*◌, ◌<◌, ◌≤◌, length};
 ghost use Rattle.std.proofs.lemmas.List.Edits.{sets};
 ghost use Rattle.laws.specs.Test.{pick};

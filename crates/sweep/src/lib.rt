@@ -1,4 +1,6 @@
 // The scan (rules 1 and 7): a walk from each lowest unvisited link.
+#![tactic(auto)]
+
 ghost use Rattle.std.specs.Prelude.{◌≡◌, length};
 ghost use Rattle.next.specs.Known.{Links};
 ghost use Rattle.rings.specs.Field.{Fielded};

@@ -1,4 +1,6 @@
 // The contour table: its points, the way round a contour, and its hulls counted.
+#![tactic(auto)]
+
 ghost use Rattle.std.specs.Prelude.{◌+◌, ◌*◌, ◌^◌, ◌<◌, ◌≤◌, length};
 ghost use Rattle.table.specs.Promises.{PointInSays, NextPositionSays, PreviousPositionSays, OneMoreIfHullSays, HullsBeforeSays};
 

@@ -1,4 +1,6 @@
 // Rule 1 at a `Cross` (document 01, "Walking"): the topmost unvisited link, read off the field of ends.
+#![tactic(auto)]
+
 ghost use Rattle.std.specs.Prelude.{◌≡◌, true, ◌<◌, length};
 ghost use Rattle.laws.specs.Test.{pick};
 ghost use Rattle.next.specs.Next.{is_unvisited};

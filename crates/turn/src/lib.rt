@@ -1,4 +1,6 @@
 // What every layer above reads: points, turns, the angular order and areas, all exact; the limits; what a check answers.
+#![tactic(auto)]
+
 ghost use Rattle.std.specs.Prelude.{◌≡◌, ◌+◌, ◌*◌, ◌<◌, ◌≤◌, pos, nat_abs, ◌-ℤ◌, length};
 ghost use Rattle.turn.specs.Limits.{max_links, max_coordinate};
 ghost use Rattle.turn.specs.Points.{before, differ, outside, off_grid, Coord, OnGrid, Short, from_to, cross, dot, turn, clockwise, product_bound};
@@ -15,20 +17,20 @@ pub const MAX_LINKS: usize = 4096;
 pub const MAX_COORDINATE: i32 = 524288;
 
 // What a check says: nothing is wrong, or document 01's number and place.
-#[derive(Drop)]
+#[derive(Clone, Copy)]
 pub enum Checked {
     Fine,
     Refused { number: u32, place: usize },
 }
 
-#[derive(Drop)]
+#[derive(Clone, Copy)]
 pub struct Point {
     pub x: i32,
     pub y: i32,
 }
 
 // The way from one point to another.
-#[derive(Drop)]
+#[derive(Clone, Copy)]
 pub struct Vector {
     pub x: i64,
     pub y: i64,

@@ -1,4 +1,6 @@
 // A `Bridge` of two a's or of two b's: checks 5 to 7 of it, where a walk goes on at its two ends, and which entry rule 1 names.
+#![tactic(auto)]
+
 ghost use Rattle.std.specs.Prelude.{◌≡◌, ℕ, ◌*◌, ◌<◌, ◌≤◌, length};
 ghost use Rattle.turn.specs.Limits.{max_links};
 ghost use Rattle.turn.specs.declared.Point.{Point};

@@ -1,5 +1,7 @@
 // One walk (document 01, "Walking", rules 3 to 5): from its first link to its last, each link marked and the point of each node left written.
 // The walk stands at an end of a link, the one where it arrived, and goes on from there as crate `onward` says.
+#![tactic(auto)]
+
 ghost use Rattle.std.specs.Prelude.{◌≡◌, suc, ◌+◌, ◌*◌, ◌<◌, ◌≤◌, length, get_or};
 ghost use Rattle.laws.specs.Test.{pick};
 ghost use Rattle.turn.specs.Points.{OnGrid};
@@ -19,21 +21,21 @@ use onward::{Onward, next_end};
 use turn::{Point, wedge};
 
 // A walk that is done: the number of points once its own are written, and its signed doubled area.
-#[derive(Drop)]
+#[derive(Clone, Copy)]
 pub struct Finished {
     pub to: usize,
     pub area: i64,
 }
 
 // How a walk ends: done, or refused with a number.
-#[derive(Drop)]
+#[derive(Clone, Copy)]
 pub enum Ended {
     Done(Finished),
     Stuck(u32),
 }
 
 // How a walk goes: forward along its first link or backward, the sense in which it turns, and the mark that it leaves.
-#[derive(Drop)]
+#[derive(Clone, Copy)]
 pub struct Course {
     pub forward: bool,
     pub sense: bool,
@@ -41,7 +43,7 @@ pub struct Course {
 }
 
 // Where a walk stands: the end at which it arrived, how many points are written, the last of them, and the area up to it.
-#[derive(Drop)]
+#[derive(Clone, Copy)]
 struct Walker {
     end: usize,
     written: usize,
@@ -50,7 +52,7 @@ struct Walker {
 }
 
 // What a step comes to: the walker where it stands then, or there is no next link.
-#[derive(Drop)]
+#[derive(Clone, Copy)]
 enum Stepped {
     Went(Walker),
     Nowhere,

@@ -1,4 +1,6 @@
 // One list at a time: states restored, and zeros from an index on.
+#![tactic(auto)]
+
 ghost use Rattle.std.specs.Prelude.{◌≡◌, ◌≤◌, length};
 ghost use Rattle.walk.specs.Code.{unmark};
 ghost use Rattle.zeros.specs.Promises.{RestoreSays, ZeroNumbersSays, ZeroPointsSays, ZeroBytesSays};
