@@ -2,7 +2,7 @@
 #![tactic(auto)]
 
 ghost use Rattle.std.specs.Prelude.{◌+◌, ◌^◌, ◌<◌};
-ghost use Rattle.format_records.specs.Promises.{HeadNumberSays, refused_says};
+ghost use Rattle.format_records.specs.Promises.{HeadNumberSays, RefusedSays};
 
 use turn::MAX_LINKS;
 
@@ -58,7 +58,7 @@ pub fn head_number(kind: u32, count: usize, size: usize, len: usize) -> u32
 
 // A refusal of a record at an offset: 13 names the offset, 1 and 5 nothing.
 pub fn refused(number: u32, at: usize) -> Refusal
-    ensures { refused_says number at result }
+    ensures { RefusedSays number at result }
 {
     if number == 13 {
         Refusal { number, place: at }
