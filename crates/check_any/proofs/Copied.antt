@@ -10,7 +10,6 @@ use Rattle.turn.specs.declared.Checked.TheVariants.{Fine}
 use Rattle.turn.specs.Refusals.{tells}
 use Rattle.graph.specs.Graph.{Lent, lent}
 use Rattle.graph.specs.Checks.{checked}
-use Rattle.graph.specs.Known.{Ids}
 use Rattle.rings.specs.Field.{AllLaid}
 use Rattle.fan.specs.Arranged.{Arranged}
 use Rattle.fan.specs.Rechecked.{checked_again}

@@ -1,6 +1,6 @@
 -- What the checks answer where they may stop at a node of many entries, and what is known of a graph where they do.
 use Rattle.std.specs.Prelude.{ℕ, ◌*◌, ◌<◌, ◌≡◌, List, length}
-use Rattle.std.proofs.Common.{sym, ◌∙◌}
+use Rattle.std.proofs.Common.{sym}
 use Rattle.turn.specs.declared.Checked.{Checked}
 use Rattle.turn.specs.declared.Checked.TheVariants.{Fine, Refused}
 use Rattle.graph.specs.Graph.{Lent, link_count}

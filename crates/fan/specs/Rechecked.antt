@@ -4,15 +4,15 @@ use Rattle.std.proofs.Common.{arith, sym, ap₂, ◌∙◌, subst, ⊎_elim}
 use Rattle.std.proofs.Math.Path.{ap}
 use Rattle.laws.specs.Test.{pick, or_false}
 use Rattle.laws.specs.Count.{count, count_two}
-use Rattle.laws.specs.Lowest.{lowest, some, none_of}
+use Rattle.laws.specs.Lowest.{some, none_of}
 use Rattle.laws.specs.Fails.{or_fails, some_fails, ne_fails}
 use Rattle.turn.specs.declared.Point.{Point}
 use Rattle.turn.specs.declared.Checked.{Checked}
 use Rattle.turn.specs.declared.Checked.TheVariants.{Refused}
 use Rattle.turn.specs.Angle.{same_direction}
 use Rattle.turn.specs.Refusals.{refuse_at, followed_by}
-use Rattle.graph.specs.Graph.{Lent, lent, node_count, point_at, part}
-use Rattle.graph.specs.Checks.{Room, a_of, b_of, node_at, entries_of, bad_starts, stray, stray_at, missed, bad_nodes, end_at, away, apart, apart_at, skipped, alike}
+use Rattle.graph.specs.Graph.{Lent, lent, part}
+use Rattle.graph.specs.Checks.{Room, a_of, b_of, node_at, entries_of, bad_starts, stray, stray_at, missed, bad_nodes, away, apart, apart_at, skipped, alike}
 use Rattle.graph.specs.Checks.{alike_at, each_checked, links_checked, nodes_checked, checked}
 use Rattle.graph.specs.Passes.{EndAt}
 use Rattle.graph.specs.Known.{Ids}
@@ -25,7 +25,8 @@ use Rattle.fan.specs.Arranged.{Arranged}
 module _ (a b : ℕ → Point) (a_node : ℕ → ℕ) (state : List ℕ) (v : ℕ) where
   apart_sym : (e f : ℕ) → apart a b a_node v f e ≡ apart a b a_node v e f
   apart_sym e f = same_test (apart a b a_node v f e) (apart a b a_node v e f)
-      (λ p. (together a b a_node v e f).from (sym ((together a b a_node v f e).to p))) (λ p. (together a b a_node v f e).from (sym ((together a b a_node v e f).to p)))
+      (λ p. (together a b a_node v e f).from (sym ((together a b a_node v f e).to p))) (λ p. (together a b a_node v f e).from
+      (sym ((together a b a_node v e f).to p)))
 
   alike_sym : (e f : ℕ) → alike a b a_node state v f e ≡ alike a b a_node state v e f
   alike_sym e f = ap (λ (d : Bool). not (skipped state f) && not (skipped state e) && d) (same_direction_sym (away a b a_node v e) (away a b a_node v f))
@@ -41,7 +42,8 @@ module _ (a b : ℕ → Point) (a_node : ℕ → ℕ) (state : List ℕ) (v : �
 -- where it finds nothing, no node has an entry twice
 pub single_entries : (a_id b_id start list : List ℕ) → bad_nodes a_id b_id start list ≡ false → (v : ℕ) → v < length start - 1 → Single (part start list v)
 single_entries a_id b_id start list e v l i j h k q =
-    let parts = or_false (bad_starts start list || some (stray_at a_id b_id start list) (length start - 1)) (some (missed a_id b_id start list) (length a_id)) e in
+    let parts = or_false (bad_starts start list || some (stray_at a_id b_id start list) (length start - 1))
+    (some (missed a_id b_id start list) (length a_id)) e in
     let strays = (or_false (bad_starts start list) (some (stray_at a_id b_id start list) (length start - 1)) parts.0).1 in
     let x : ℕ = get_or (part start list v) j 0 in
     let end : EndAt a_id b_id v x =
@@ -75,7 +77,8 @@ module _ (ax ay bx by : List ℤ) (a_id b_id start list copy state : List ℕ) (
 
     bad_same : bad_nodes a_id b_id start copy ≡ bad_nodes a_id b_id start list
     bad_same =
-        ap₂ ◌||◌ (ap₂ ◌||◌ starts (some_same (stray_at a_id b_id start copy) (stray_at a_id b_id start list) m (λ v l. some_again (stray a_id b_id v) (c.each v l))))
+        ap₂ ◌||◌ (ap₂ ◌||◌ starts (some_same (stray_at a_id b_id start copy) (stray_at a_id b_id start list) m
+        (λ v l. some_again (stray a_id b_id v) (c.each v l))))
         (some_same (missed a_id b_id start copy) (missed a_id b_id start list) (length a_id) missed_same)
       where
         starts : bad_starts start copy ≡ bad_starts start list
@@ -85,13 +88,15 @@ module _ (ax ay bx by : List ℤ) (a_id b_id start list copy state : List ℕ) (
     module _ (single : (v : ℕ) → v < m → Single (part start list v)) where
       apart_same : (v : ℕ) → v < m → apart_at (a_of copied) (b_of copied) (node_at a_id) (entries_of copied) v
           ≡ apart_at (a_of listed) (b_of listed) (node_at a_id) (entries_of listed) v
-      apart_same v l = two_again (apart (a_of listed) (b_of listed) (node_at a_id) v) (apart_sym (a_of listed) (b_of listed) (node_at a_id) state v) (c.each v l)
+      apart_same v l = two_again (apart (a_of listed) (b_of listed) (node_at a_id) v) (apart_sym (a_of listed) (b_of listed) (node_at a_id) state v)
+          (c.each v l)
           (single v l)
 
       alike_same : (v : ℕ) → v < m → alike_at (a_of copied) (b_of copied) (node_at a_id) state (entries_of copied) v
           ≡ alike_at (a_of listed) (b_of listed) (node_at a_id) state (entries_of listed) v
       alike_same v l =
-          two_again (alike (a_of listed) (b_of listed) (node_at a_id) state v) (alike_sym (a_of listed) (b_of listed) (node_at a_id) state v) (c.each v l) (single v l)
+          two_again (alike (a_of listed) (b_of listed) (node_at a_id) state v) (alike_sym (a_of listed) (b_of listed) (node_at a_id) state v) (c.each v l)
+          (single v l)
 
     -- ---- together
     refuse_same : (number : ℕ) (s t : ℕ → Bool) (x y : Checked) → ((k : ℕ) → k < m → s k ≡ t k) → x ≡ y → refuse_at number s m x ≡ refuse_at number t m y

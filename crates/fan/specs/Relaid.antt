@@ -1,10 +1,10 @@
 -- What is laid from a copy of the list in which the entries of a node of many stand in another order is laid from the list: a ring of the one
 -- is a ring of the other.
-use Rattle.std.specs.Prelude.{ℕ, ◌-◌, ◌≤◌, ◌<◌, ◌≡◌, List, [], ◌∷◌, ℤ, length}
-use Rattle.std.proofs.Common.{arith, sym, ap, ◌∙◌, subst}
+use Rattle.std.specs.Prelude.{ℕ, ◌≤◌, List, ℤ, length}
+use Rattle.std.proofs.Common.{arith, sym, ◌∙◌, subst}
 use Rattle.graph.specs.Graph.{lent, graph_of, part}
 use Rattle.next.specs.Choice.{Mem}
-use Rattle.rings.specs.Field.{LaidBridge, LaidCross, Laid, AllLaid}
+use Rattle.rings.specs.Field.{LaidCross, AllLaid}
 use Rattle.fan.specs.Rearranged.{Rearranged, moved_back, member_before}
 use Rattle.fan.specs.Arranged.{Arranged, few_entries}
 

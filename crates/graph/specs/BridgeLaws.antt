@@ -92,7 +92,8 @@ module _ {ax ay bx by : List ℤ} {a_id b_id : List ℕ} (runs : Runs ax ay bx b
 
   -- link f has no end there
   pub no_end : (get_or a_id f 0 ≡ v → ⊥) → (get_or b_id f 0 ≡ v → ⊥) → true ≡ wrong
-  no_end h k = rw (ne_eqb _ _ h, ne_eqb _ _ k) (go (leb (length a_id) e || (not (eqb (get_or a_id e 0) v) && not (eqb (get_or b_id e 0) v))) (leb (length a_id) f) _ _)
+  no_end h k = rw (ne_eqb _ _ h, ne_eqb _ _ k) (go (leb (length a_id) e || (not (eqb (get_or a_id e 0) v) && not (eqb (get_or b_id e 0) v)))
+      (leb (length a_id) f) _ _)
     where
       go : (x j z w : Bool) → true ≡ pick (x || (j || true) || z) true w
       go true j z w = refl

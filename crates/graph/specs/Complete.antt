@@ -1,5 +1,5 @@
 -- The other way round: where checks 5 to 7 find nothing, the one pass over the nodes finds nothing wrong with any node.
-use Rattle.std.specs.Prelude.{ℕ, zero, suc, ◌+◌, ◌-◌, ◌≤◌, ◌<◌, ◌≡◌, refl, Bool, true, false, ◌||◌, List, [], eqb, length, get_or}
+use Rattle.std.specs.Prelude.{ℕ, zero, suc, ◌≤◌, ◌<◌, ◌≡◌, refl, Bool, true, false, ◌||◌, List, [], eqb, length, get_or}
 use Rattle.std.proofs.Common.{arith, ◌∙◌, subst, ⊎_elim}
 use Rattle.laws.specs.Test.{pick, pick_false, pick_ind}
 use Rattle.laws.specs.Lowest.{some, some_no}

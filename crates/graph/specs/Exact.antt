@@ -33,7 +33,8 @@ module _ (g : Lent) (top state : List ℕ) (r : Room) where
       × ((k : ℕ) → k < link_count g → (count k (entries_of g (get_or g.a_id k 0)) ≡ 1) × (count k (entries_of g (get_or g.b_id k 0)) ≡ 1))
 
   abbrev Points : Type 0
-  Points = (v : ℕ) → v < node_count g → (j : ℕ) → j < length (entries_of g v) → (i : ℕ) → i < j → end_point_of g v (entry g v i) ≡ end_point_of g v (entry g v j)
+  Points = (v : ℕ) → v < node_count g → (j : ℕ) → j < length (entries_of g v) → (i : ℕ) → i < j → end_point_of g v (entry g v i) ≡ end_point_of g v
+      (entry g v j)
 
   abbrev Ways : Type 0
   Ways = (v : ℕ) → v < node_count g → (j : ℕ) → j < length (entries_of g v) → (i : ℕ) → i < j
@@ -59,7 +60,8 @@ module _ (g : Lent) (top state : List ℕ) (r : Room) where
       (some_fails (link_count g) (λ k. or_fails (ne_fails _ _) (ne_fails _ _)))
 
   points : Fails (some (apart_at (a_of g) (b_of g) (node_at g.a_id) (entries_of g)) (node_count g)) Points
-  points = some_fails (node_count g) (λ v. two_fails (length (entries_of g v)) (λ i j. together (a_of g) (b_of g) (node_at g.a_id) v (entry g v i) (entry g v j)))
+  points = some_fails (node_count g) (λ v. two_fails (length (entries_of g v)) (λ i j. together (a_of g) (b_of g) (node_at g.a_id) v (entry g v i)
+      (entry g v j)))
 
   ways : Fails (some (alike_at (a_of g) (b_of g) (node_at g.a_id) state (entries_of g)) (node_count g)) Ways
   ways = some_fails (node_count g)

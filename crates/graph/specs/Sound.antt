@@ -1,5 +1,5 @@
 -- Where the one pass over the nodes finds nothing wrong, and the list has two entries for each link, checks 5 to 7 find nothing.
-use Rattle.std.specs.Prelude.{ℕ, zero, suc, ◌+◌, ◌*◌, ◌-◌, ◌≤◌, ◌<◌, ◌≡◌, refl, Bool, true, false, ◌||◌, List, [], eqb, length, get_or}
+use Rattle.std.specs.Prelude.{ℕ, zero, suc, ◌+◌, ◌*◌, ◌≤◌, ◌<◌, ◌≡◌, refl, Bool, true, false, ◌||◌, List, [], eqb, length, get_or}
 use Rattle.std.proofs.Common.{arith, sym, ap₂, ◌∙◌, subst, ⊎_elim, eqb-true, eq-eqb, ne_eqb}
 use Rattle.std.proofs.Math.Decide.{dec_le}
 use Rattle.laws.specs.Test.{pick, pick_true, pick_false, or_false, true≢false}

@@ -106,7 +106,8 @@ pub unlike_ways : (a b : ℕ → Point) (a_node : ℕ → ℕ) (state : List ℕ
     → same_direction (away a b a_node v e) (away a b a_node v f) ≡ false)
 unlike_ways a b a_node state v e f = record {
   to = λ h p q. simp (ne_eqb _ 1 p, ne_eqb _ 1 q) at h;
-  from = λ h. by (skipped state e) (skipped state f) (same_direction (away a b a_node v e) (away a b a_node v f)) (λ p q. h (eqb-false _ 1 p) (eqb-false _ 1 q));
+  from = λ h. by (skipped state e) (skipped state f) (same_direction (away a b a_node v e) (away a b a_node v f))
+      (λ p q. h (eqb-false _ 1 p) (eqb-false _ 1 q));
 }
   where
     by : (s t d : Bool) → (s ≡ false → t ≡ false → d ≡ false) → not s && not t && d ≡ false

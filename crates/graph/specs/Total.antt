@@ -62,7 +62,8 @@ module _ (a_id b_id start list : List ℕ) (rise : Rising start list) (ids : Ids
           let s = place_of 0 (part start list v) (counted_in k (part start list v) c) in
           ⊎_elim p q (subst (EndAt a_id b_id v) s.here (ends v s.place m s.within)).end
 
-      go : Dec (get_or a_id k 0 ≡ v) → Dec (get_or b_id k 0 ≡ v) → count k (part start list v) ≡ pick (eqb (get_or a_id k 0) v) 1 0 + pick (eqb (get_or b_id k 0) v) 1 0
+      go : Dec (get_or a_id k 0 ≡ v) → Dec (get_or b_id k 0 ≡ v) → count k (part start list v) ≡ pick (eqb (get_or a_id k 0) v) 1 0 + pick
+          (eqb (get_or b_id k 0) v) 1 0
       go (yes p) (yes q) = absurd (ids.two k l (p ∙ sym q))
       go (yes p) (no q) =
           sums 1 0 (pick_true 1 0 (eq-eqb _ v p)) (pick_false 1 0 (ne_eqb _ v q)) (subst (λ (u : ℕ). count k (part start list u) ≡ 1) p (once_a k l))
@@ -90,7 +91,8 @@ other_total a_id b_id start list any ids h = go (bad_nodes a_id b_id start list)
   where
     right : bad_nodes a_id b_id start list ≡ false → length list ≡ 2 * length a_id
     right e =
-        let p = or_false (bad_starts start list || some (stray_at a_id b_id start list) (length start - 1)) (some (missed a_id b_id start list) (length a_id)) e in
+        let p = or_false (bad_starts start list || some (stray_at a_id b_id start list) (length start - 1))
+        (some (missed a_id b_id start list) (length a_id)) e in
         let q = or_false (bad_starts start list) (some (stray_at a_id b_id start list) (length start - 1)) p.0 in
         let s = (some_fails (length start - 1)
         (λ v. some_fails (length (part start list v)) (λ i. no_stray a_id b_id v (get_or (part start list v) i 0)))).to q.1 in

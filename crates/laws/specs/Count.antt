@@ -1,6 +1,7 @@
 -- How often a number stands in a list, as check 5 and binding's order count it; sums over the numbers below n.
 use Rattle.std.specs.Prelude.{ℕ, zero, suc, ◌+◌, ◌*◌, ◌≤◌, ◌<◌, ◌≡◌, refl, Bool, true, false, eqb, length, get_or, take}
-use Rattle.std.proofs.Common.{zero-le, suc-le-suc, not-suc-le-zero, le_of_suc-le-suc, eq-or-lt_of_le, zero-add, add-zero, add_assoc, add-one, arith, sym, ap₂, ◌∙◌, ⊎_elim, take-suc, eq-eqb, ne_eqb, eqb-true}
+use Rattle.std.proofs.Common.{zero-le, suc-le-suc, not-suc-le-zero, le_of_suc-le-suc, eq-or-lt_of_le, zero-add, add-zero, add_assoc, add-one, arith, sym}
+use Rattle.std.proofs.Common.{ap₂, ◌∙◌, ⊎_elim, take-suc, eq-eqb, ne_eqb, eqb-true}
 use Rattle.std.proofs.Math.Decide.{dec_le}
 use mathlib.Core.List.{List, [], ◌∷◌, ◌++◌, Memᴰ}
 use Rattle.laws.specs.Test.{pick}

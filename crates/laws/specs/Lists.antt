@@ -1,6 +1,7 @@
 -- Lists beyond the kit's library: what a store leaves at every place, a map that a loop makes from an index on, members and their places.
 use Prim.Native.Nat.{ℕ, zero, suc, ◌+◌, ◌-◌, ◌≤◌, ◌<◌, zero-le, suc-le-suc}
-use Rattle.std.proofs.Common.{not-suc-le-zero, le_of_suc-le-suc, add-one, arith, sym, ◌∙◌, ⊎_elim, drop_of_length-le, get_or-set_same, get_or-set_other, get_or-append-add, get_or-drop, take_all}
+use Rattle.std.proofs.Common.{not-suc-le-zero, le_of_suc-le-suc, add-one, arith, sym, ◌∙◌, ⊎_elim, drop_of_length-le, get_or-set_same, get_or-set_other}
+use Rattle.std.proofs.Common.{get_or-append-add, get_or-drop, take_all}
 use Rattle.std.proofs.Math.Decide.{ℕ_discrete}
 use Rattle.std.specs.Prelude.{◌≡◌, length, get_or, set, take, drop, replicate}
 use Rattle.std.proofs.Math.Path.{refl, ap}

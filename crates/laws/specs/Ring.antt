@@ -109,14 +109,16 @@ module _ (ρ : List ℤ) where
 
   add_t_is : (c : ℤ) (m : List ℕ) (p : Poly) → eval_p (add_t c m p) ρ ≡ c *ℤ eval_m m ρ +ℤ eval_p p ρ
   add_t_is c m nil = refl
-  add_t_is c m (term d n p) = pick_ind (eq_m m n) (term (c +ℤ d) n p) (term d n (add_t c m p)) (λ q. eval_p q ρ ≡ c *ℤ eval_m m ρ +ℤ (d *ℤ eval_m n ρ +ℤ eval_p p ρ))
+  add_t_is c m (term d n p) = pick_ind (eq_m m n) (term (c +ℤ d) n p) (term d n (add_t c m p))
+      (λ q. eval_p q ρ ≡ c *ℤ eval_m m ρ +ℤ (d *ℤ eval_m n ρ +ℤ eval_p p ρ))
       (λ t. ap (λ u. u +ℤ eval_p p ρ) (+*ℤ-dist c d (eval_m n ρ)) ∙ +ℤ_assoc (c *ℤ eval_m n ρ) (d *ℤ eval_m n ρ) (eval_p p ρ)
       ∙ ap (λ k. c *ℤ eval_m k ρ +ℤ (d *ℤ eval_m n ρ +ℤ eval_p p ρ)) (sym (eq_m_eq m n (true_is t).is)))
       (λ _. ap (λ u. d *ℤ eval_m n ρ +ℤ u) (add_t_is c m p) ∙ +ℤ-left (d *ℤ eval_m n ρ) (c *ℤ eval_m m ρ) (eval_p p ρ))
 
   add_p_is : (p q : Poly) → eval_p (add_p p q) ρ ≡ eval_p p ρ +ℤ eval_p q ρ
   add_p_is nil q = sym (+ℤ_idl (eval_p q ρ))
-  add_p_is (term c m p) q = add_t_is c m (add_p p q) ∙ ap (λ u. c *ℤ eval_m m ρ +ℤ u) (add_p_is p q) ∙ sym (+ℤ_assoc (c *ℤ eval_m m ρ) (eval_p p ρ) (eval_p q ρ))
+  add_p_is (term c m p) q = add_t_is c m (add_p p q) ∙ ap (λ u. c *ℤ eval_m m ρ +ℤ u) (add_p_is p q) ∙ sym
+      (+ℤ_assoc (c *ℤ eval_m m ρ) (eval_p p ρ) (eval_p q ρ))
 
   swap4 : (c d x y : ℤ) → c *ℤ d *ℤ (x *ℤ y) ≡ c *ℤ x *ℤ (d *ℤ y)
   swap4 c d x y = *ℤ-assoc c d (x *ℤ y) ∙ ap (λ t. c *ℤ t) (*ℤ-left d x y) ∙ sym (*ℤ-assoc c x (d *ℤ y))
@@ -129,7 +131,8 @@ module _ (ρ : List ℤ) where
 
   mul_p_is : (p q : Poly) → eval_p (mul_p p q) ρ ≡ eval_p p ρ *ℤ eval_p q ρ
   mul_p_is nil q = sym (zero-*ℤ (eval_p q ρ))
-  mul_p_is (term c m p) q = add_p_is (scale c m q) (mul_p p q) ∙ ap₂ ◌+ℤ◌ (scale_is c m q) (mul_p_is p q) ∙ sym (+*ℤ-dist (c *ℤ eval_m m ρ) (eval_p p ρ) (eval_p q ρ))
+  mul_p_is (term c m p) q = add_p_is (scale c m q) (mul_p p q) ∙ ap₂ ◌+ℤ◌ (scale_is c m q) (mul_p_is p q) ∙ sym
+      (+*ℤ-dist (c *ℤ eval_m m ρ) (eval_p p ρ) (eval_p q ρ))
 
   minus_is : (p : Poly) → eval_p (scale (negsuc 0) [] p) ρ ≡ neg_ℤ (eval_p p ρ)
   minus_is p = scale_is (negsuc 0) [] p ∙ neg-*ℤ (eval_p p ρ)

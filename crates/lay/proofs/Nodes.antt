@@ -34,8 +34,10 @@ module _ (g : Graph) (state : List ℕ) (v : ℕ) (nxt prv lead here : List ℕ)
   }
 
 -- an entry of a node, in its place in the list
-entry_at : (start list : List ℕ) (v i : ℕ) → i < get_or start (v + 1) 0 - get_or start v 0 → get_or (part start list v) i 0 ≡ get_or list (get_or start v 0 + i) 0
-entry_at start list v i l = get_or-take (get_or start (v + 1) 0 - get_or start v 0) (drop (get_or start v 0) list) i 0 l ∙ get_or-drop (get_or start v 0) list i 0
+entry_at : (start list : List ℕ) (v i : ℕ) → i < get_or start (v + 1) 0 - get_or start v 0 → get_or (part start list v) i 0 ≡ get_or list
+    (get_or start v 0 + i) 0
+entry_at start list v i l = get_or-take (get_or start (v + 1) 0 - get_or start v 0) (drop (get_or start v 0) list) i 0 l ∙ get_or-drop (get_or start v 0)
+    list i 0
 
 -- what a node's contract asks, of the answer r and the lists left, by the node's kind; its entries stand from `from` to before `to`
 module _ (ax ay bx by : List ℤ) (a_id b_id state start list : List ℕ) (v : ℕ) (r : Bool) (nxt : List ℕ)

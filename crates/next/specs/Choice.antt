@@ -27,7 +27,8 @@ unvisited_in_in st (y ∷ l) x m o = pick_ind (is_unvisited st y) (y ∷ unvisit
 
 pub unvisited_in_of : (st l : List ℕ) (x : ℕ) → Mem x (unvisited_in st l) → Mem x l × (is_unvisited st x ≡ true)
 unvisited_in_of st [] x = λ m. absurd (Memᴰ.not-nil m)
-unvisited_in_of st (y ∷ l) x = pick_ind (is_unvisited st y) (y ∷ unvisited_in st l) (unvisited_in st l) (λ r. Mem x r → Mem x (y ∷ l) × (is_unvisited st x ≡ true))
+unvisited_in_of st (y ∷ l) x = pick_ind (is_unvisited st y) (y ∷ unvisited_in st l) (unvisited_in st l)
+    (λ r. Mem x r → Mem x (y ∷ l) × (is_unvisited st x ≡ true))
     (λ t m. ⊎_elim (λ (q : x ≡ y). (Memᴰ.head q, rw q t)) (λ k. let r = unvisited_in_of st l x k in (Memᴰ.tail r.0, r.1))
     (Memᴰ.cases_cons m))
     (λ n m. let r = unvisited_in_of st l x m in (Memᴰ.tail r.0, r.1))

@@ -1,6 +1,6 @@
 -- What a graph that the checks call fine gives the functions here: what they require, and that the first link of the
 -- scan is the topmost of the unvisited links at its node.
-use Rattle.std.specs.Prelude.{ℕ, ◌-◌, ◌≤◌, ◌<◌, ◌≡◌, ◌⊎◌, true, false, List, length}
+use Rattle.std.specs.Prelude.{ℕ, ◌≤◌, ◌<◌, ◌≡◌, true, List, length}
 use Rattle.std.proofs.Common.{sym, ◌∙◌, subst, ⊎_elim}
 use Rattle.laws.specs.Test.{true≢false}
 use Rattle.turn.specs.declared.Point.{Point}

@@ -25,7 +25,8 @@ use Rattle.graph.specs.PointLaws.{same_point}
 use Rattle.graph.specs.EndLaws.{end_on_grid}
 use Rattle.spokes.specs.Links.{links_of}
 use Rattle.next.specs.Choice.{Mem}
-use Rattle.rings.specs.RingOrder.{Forward, ring_apart}
+use Rattle.rings.specs.RingOrder.{Forward}
+use Rattle.rings.proofs.RingOrder.{ring_apart}
 use Rattle.rings.specs.Rings.{InOrder}
 use Rattle.hoop.specs.declared.Hoop.{Hoop}
 use Rattle.spokes.specs.Entries.{wrong_at, Laying}
@@ -106,7 +107,8 @@ pub wrong_missed : {ax ay bx by : List ℤ} {aid bid state here : List ℕ} {v :
     → stray aid bid v (get_or here j 0) || differ home (end_at (point_at ax ay) (point_at bx by) (node_at aid) v (get_or here j 0)) ≡ true
     → wrong_at ax ay bx by aid bid state here v j ≡ true
 wrong_missed {ax} {ay} {bx} {by} {aid} {bid} {state} {here} {v} {home} {nxt} {prv} {j} y e =
-    or_carried (stray aid bid v f) _ _ (λ d. or_second (stands_before here j f) _ (alike_before (point_at ax ay) (point_at bx by) (node_at aid) state here v j f)
+    or_carried (stray aid bid v f) _ _ (λ d. or_second (stands_before here j f) _ (alike_before (point_at ax ay) (point_at bx by) (node_at aid) state here v
+    j f)
     (subst (λ p. differ p (end_at (point_at ax ay) (point_at bx by) (node_at aid) v f) ≡ true) y.home_is d)) e
   where
     f : ℕ

@@ -15,7 +15,8 @@ use Rattle.turn.specs.Limits.{max_links}
 use Rattle.graph.specs.Graph.{Graph}
 use Rattle.next.specs.Choice.{Mem}
 use Rattle.rings.specs.Ends.{end_of, end_below}
-use Rattle.rings.specs.RingOrder.{Forward, ring_irreflexive}
+use Rattle.rings.specs.RingOrder.{Forward}
+use Rattle.rings.proofs.RingOrder.{ring_irreflexive}
 use Rattle.rings.specs.Rings.{InOrder}
 use Rattle.rings.specs.Sorted.{Sorted, Once, sorted_once, sorted_parts}
 use Rattle.rings.specs.Linked.{Leads}

@@ -12,7 +12,7 @@ use Rattle.laws.specs.Test.{pick_true, pick_false}
 use Rattle.graph.specs.Graph.{Graph}
 use Rattle.next.specs.Choice.{Mem}
 use Rattle.rings.specs.Ends.{end_of, end_once}
-use Rattle.rings.specs.RingOrder.{ring_irreflexive}
+use Rattle.rings.proofs.RingOrder.{ring_irreflexive}
 use Rattle.rings.specs.Rings.{InOrder}
 use Rattle.rings.specs.Sorted.{sorted_parts}
 use Rattle.rings.specs.Making.{RingOf}
@@ -47,7 +47,8 @@ kept_two g v l old x y b c mx my h d =
 module _ {g : Graph} {state : List ℕ} {v : ℕ} {more nxt prv : List ℕ} {f : ℕ} where
   -- q between r and a, of l
   grown_linked : {l l' : List ℕ} {r a head tail count : ℕ} (onto from : ℕ) → Mem r l → Mem a l
-      → Stood g state v more (set (set nxt (end_of g v f) onto) (end_of g v r) from) (set (set prv (end_of g v f) (end_of g v r)) (end_of g v a) (end_of g v f)) l'
+      → Stood g state v more (set (set nxt (end_of g v f) onto) (end_of g v r) from) (set (set prv (end_of g v f) (end_of g v r)) (end_of g v a)
+      (end_of g v f)) l'
       → Told g v l' (record { head = head; tail = tail; count = count })
       → Grown g state v more nxt prv (f ∷ l) (link_end nxt prv (end_of g v r) (end_of g v f) (end_of g v a) onto from (makes head tail count))
   grown_linked {l} {l'} {r} {a} {head} {tail} {count} onto from mr ma st told = record {

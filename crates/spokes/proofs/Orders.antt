@@ -15,7 +15,7 @@ use Rattle.graph.specs.Checks.{end_at, away_from}
 use Rattle.rings.specs.Ends.{end_of, starts_at, end_link, end_sort}
 use Rattle.rings.specs.RingOrder.{in_turn, Forward}
 use Rattle.rings.specs.Rings.{InOrder}
-use Rattle.rings.specs.Making.{like_alike}
+use Rattle.rings.proofs.Making.{like_alike}
 use Rattle.hoop.specs.Hoops.{way_of, Before, Parallel}
 
 module _ (g : Graph) (v : ℕ) (home : Point) where

@@ -21,11 +21,13 @@ use Rattle.graph.specs.Known.{Points, Grids}
 use Rattle.spokes.specs.Links.{links_of}
 use Rattle.next.specs.Choice.{Mem}
 use Rattle.rings.specs.Ends.{end_of, end_node_lem, end_link, end_below}
-use Rattle.rings.specs.RingOrder.{Forward, ring_irreflexive}
+use Rattle.rings.specs.RingOrder.{Forward}
+use Rattle.rings.proofs.RingOrder.{ring_irreflexive}
 use Rattle.rings.specs.Rings.{InOrder}
 use Rattle.rings.specs.Sorted.{BeforeAll, Sorted, sorted_short}
 use Rattle.rings.specs.Linked.{Leads}
-use Rattle.rings.specs.Making.{RingOf, take_skipped, take_front, take_after}
+use Rattle.rings.specs.Making.{RingOf}
+use Rattle.rings.proofs.Making.{take_skipped, take_front, take_after}
 use Rattle.rings.specs.Field.{cross_mark, prev_of, end_node, ElseKept}
 use Rattle.hoop.specs.declared.Hoop.{Hoop}
 use Rattle.hoop.specs.declared.Place.{Place}

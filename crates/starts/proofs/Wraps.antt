@@ -1,5 +1,6 @@
 -- Differences that wrap; and that the test of the starts is check 5's.
-use Rattle.std.proofs.Common.{◌≡◌, ℕ, zero, suc, ◌+◌, ◌-◌, ◌*◌, ◌%◌, ◌<◌, ◌≤◌, Bool, true, false, not, ◌||◌, eqb, ltb, List, length, get_or, sym, refl, subst, arith, ltb-false, le-ltb}
+use Rattle.std.proofs.Common.{◌≡◌, ℕ, zero, suc, ◌+◌, ◌-◌, ◌*◌, ◌%◌, ◌<◌, ◌≤◌, Bool, true, false, not, ◌||◌, eqb, ltb, List, length, get_or, sym, refl}
+use Rattle.std.proofs.Common.{subst, arith, ltb-false, le-ltb}
 use Rattle.laws.specs.Test.{true≢false}
 use Rattle.laws.specs.Fails.{or_fails, ne_fails, lt_fails}
 use Rattle.turn.specs.Limits.{max_links}
@@ -7,7 +8,7 @@ use Rattle.graph.specs.Checks.{bad_starts}
 use Rattle.graph.specs.Passes.{Rising}
 use Rattle.graph.specs.Tests.{rising}
 use Rattle.graph.specs.Total.{starts_within}
-use Rattle.starts.specs.Odds.{Close, Odd, OddBelow, all_close}
+use Rattle.starts.specs.Odds.{Odd, OddBelow, all_close}
 
 -- d is to - from, and e is d - 2, both wrapped to 32 bits
 pub odd_of : (from to d e : ℕ) → from < 4294967296 → d < 4294967296 → e < 4294967296 → (d + from) % 4294967296 ≡ to → (e + 2) % 4294967296 ≡ d

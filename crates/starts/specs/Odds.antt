@@ -4,7 +4,6 @@ use Rattle.std.proofs.Common.{arith, sym, subst}
 use Rattle.std.proofs.Math.Decide.{ℕ_discrete}
 use Rattle.laws.specs.Test.{or_false, false_or}
 use Rattle.turn.specs.Limits.{max_links}
-use Rattle.graph.specs.Passes.{Rising}
 
 -- from one start to the next a node has two entries at least, and at most two for each of the most links
 pub record Close (from to : ℕ) : Type 0 where
@@ -31,7 +30,8 @@ odd_more start n r s h k = record {
   close = λ c. false_or r s (h.close (λ v l. c v (omega arith))) (k.close (c n (omega arith)));
 }
   where
-    at : r || s ≡ false → (v : ℕ) → v < n + 1 → slice_index start v + 2 * max_links < 4294967296 → Dec (v ≡ n) → Close (slice_index start v) (slice_index start (v + 1))
+    at : r || s ≡ false → (v : ℕ) → v < n + 1 → slice_index start v + 2 * max_links < 4294967296 → Dec (v ≡ n) → Close (slice_index start v)
+        (slice_index start (v + 1))
     at e v l w (yes q) =
         subst (λ (u : ℕ). Close (slice_index start u) (slice_index start (u + 1))) (sym q)
         (k.told (or_false r s e).1 (subst (λ (u : ℕ). slice_index start u + 2 * max_links < 4294967296) q w))

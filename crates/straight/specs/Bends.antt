@@ -2,7 +2,7 @@
 -- the bend at every other point stays as it was.
 use Rattle.std.specs.Prelude.{◌≡◌, refl, Bool, true, false, not, ◌&&◌, List, [], ◌∷◌, ℤ, neg_ℤ, ◌+ℤ◌}
 use Rattle.std.proofs.Common.{sym, ap, ap₂, ◌∙◌}
-use Rattle.laws.specs.Test.{Is, yes!, true_is, true≢false, fst&, snd&, ◌⇒◌, ◌&◌, mp}
+use Rattle.laws.specs.Test.{Is, yes!, true_is, true≢false, fst&, snd&, ◌⇒◌, mp}
 use Rattle.laws.specs.Ring.{ring, ◌:+◌, ◌:-◌, ◌:*◌, neg}
 use Rattle.laws.specs.Sign.{Sgn, mns, zer, pls, sgn, flip, ◌⊗◌, eq_s, is_mns, plus_ok, all3, all6, eq_s_eq, sgn_neg, sgn_add, three}
 use Rattle.turn.specs.declared.Point.{Point}

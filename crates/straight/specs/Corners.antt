@@ -25,7 +25,8 @@ Spikeless [] = Unit {0}
 Spikeless (p ∷ l) = Smooth (last_or p l) p (p ∷ l)
 
 -- ---- another point before some points, or after them, with which they bend alike
-corners_after : (a b home : Point) (l : List Point) → ((y : Point) → bend a (head_or home l) y ≡ bend b (head_or home l) y) → corners a home l ≡ corners b home l
+corners_after : (a b home : Point) (l : List Point) → ((y : Point) → bend a (head_or home l) y ≡ bend b (head_or home l) y) → corners a home l ≡ corners b
+    home l
 corners_after a b home [] h = refl
 corners_after a b home (p ∷ l) h = ap (λ d. pick (level d) (corners p home l) (p ∷ corners p home l)) (h (head_or home l))
 

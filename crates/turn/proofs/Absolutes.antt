@@ -33,7 +33,13 @@ negative x h e = go x h (rw (to_z-of_z w64 x h) at e)
       where
         l : (n : ℕ) → n < 0 → ⊥
         l n h = omega arith
-    go (negsuc n) h e = record { n = n; small = omega (arith, h.sfits); one_up = ap (λ z. z +ℤ pos 1) (to_z-of_z w64 (negsuc n) h) ∙ up_one n; size = add-one n }
+    go (negsuc n) h e = record {
+      n = n;
+      small = omega (arith, h.sfits);
+      one_up = ap (λ z. z +ℤ pos 1) (to_z-of_z w64 (negsuc n) h) ∙ up_one n;
+      size =
+          add-one n;
+    }
 
 module _ {x : ℤ} (k : Negative x) where
   low : nat_abs (neg_ℤ (pos k.n)) < 9223372036854775808

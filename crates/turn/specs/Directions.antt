@@ -182,6 +182,7 @@ same_sym f g h = rw (side_anti true f g, dot_comm g f) (flipped (sgn (cross f g)
     flipped zer d t = t
     flipped pls d t = t
 
-pub same_trans : (e f g : Vector) → Is (nonzero e) → Is (nonzero f) → Is (nonzero g) → Is (same_direction e f) → Is (same_direction f g) → Is (same_direction e g)
+pub same_trans : (e f g : Vector) → Is (nonzero e) → Is (nonzero f) → Is (nonzero g) → Is (same_direction e f) → Is (same_direction f g) → Is
+    (same_direction e g)
 same_trans e f g he hf hg p q =
     mp (mp (law true e f g he hf hg (λ a b c d i j. eq_s a zer && eq_s d pls ⇒ eq_s c zer && eq_s j pls ⇒ eq_s b zer && eq_s i pls) tt) p) q

@@ -1,5 +1,5 @@
 -- What every writer promises: the buffer is the old one with these bytes from a position on, and the answer is the position after them. How writings join.
-use Rattle.std.specs.Prelude.{ℕ, ◌+◌, ◌-◌, ◌≤◌, ◌<◌, ◌≡◌, refl, List, [], ◌∷◌, ◌++◌, length, set, drop}
+use Rattle.std.specs.Prelude.{ℕ, ◌+◌, ◌≤◌, ◌<◌, ◌≡◌, refl, List, [], ◌∷◌, ◌++◌, length, set, drop}
 use Rattle.std.proofs.Common.{sym, ap, ap₂, ◌∙◌, subst, add_assoc, arith, length-append}
 use Rattle.writing.specs.Cuts.{Cut, cut}
 use Rattle.writing.specs.Put.{put_at, put_none, put_put, set_put, length_put}

@@ -11,11 +11,12 @@ use Rattle.laws.specs.Test.{or_false, true≢false}
 use Rattle.turn.specs.declared.Point.{Point}
 use Rattle.turn.specs.Points.{differ}
 use Rattle.turn.specs.PointOrder.{differ_same, same_of_differ}
-use Rattle.turn.proofs.differ.Goals as goal
 
 -- coordinates are equal where their bits are
 same_bits : (a b : ℤ) → SFits w32 a → SFits w32 b → not (eqb (of_z w32 a) (of_z w32 b)) ≡ false → a ≡ b
-same_bits a b h k e = sym (to_z-of_z w32 a h) ∙ ap (to_z w32) (eqb-true (of_z w32 a) (of_z w32 b) (not-false (eqb (of_z w32 a) (of_z w32 b)) e)) ∙ to_z-of_z w32 b k
+same_bits a b h k e = sym (to_z-of_z w32 a h) ∙ ap (to_z w32) (eqb-true (of_z w32 a) (of_z w32 b) (not-false (eqb (of_z w32 a) (of_z w32 b)) e)) ∙ to_z-of_z
+    w32 b k
+
 module _ (p q : Point) where
   abbrev by_bits : Bool
   by_bits = not (eqb (of_z w32 p.x) (of_z w32 q.x)) || not (eqb (of_z w32 p.y) (of_z w32 q.y))

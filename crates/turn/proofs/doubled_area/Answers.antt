@@ -1,6 +1,5 @@
 -- `turn::doubled_area` meets its contract; the invariant: the sum so far and what is left make the area.
 use mathlib.Core.Path.{sym, ap, ◌∙◌}
-use Prim.Native.Nat.{◌-◌}
 use native.Mathlib.Omega.{arith}
 use lib.IntN.{◌+ℤ◌}
 use mir.Syntax.{w64}
