@@ -3,7 +3,7 @@
 use Rattle.std.specs.Prelude.{ℕ, zero, suc, ◌*◌, ◌≤◌, ◌<◌, ◌≡◌, refl, Bool, true, false, length}
 use Rattle.std.proofs.Common.{not-suc-le-zero, le_of_suc-le-suc, arith, sym, ap, ◌∙◌, subst}
 use mathlib.Core.List.Memᴰ
-use mathlib.Core.List.{List, [], ◌∷◌, ◌++◌, reverse, reverse_aux, reverse_aux-append}
+use mathlib.Core.List.{List, [], ◌∷◌, ◌++◌, reverse_aux}
 use Rattle.laws.specs.Test.{pick, pick_true, pick_false, true≢false}
 use Rattle.graph.specs.Graph.{Graph}
 use Rattle.next.specs.declared.Next.{Next}
@@ -11,7 +11,7 @@ use Rattle.next.specs.declared.Next.TheVariants.{Link}
 use Rattle.next.specs.Next.{is_unvisited}
 use Rattle.next.specs.Choice.{Mem}
 use Rattle.rings.specs.Ends.{link_of, end_of, end_link, end_below}
-use Rattle.rings.specs.Rotation.{after, ahead, split, first_unvisited, last_unvisited}
+use Rattle.rings.specs.Rotation.{after, ahead, split, first_unvisited}
 use Rattle.rings.specs.Linked.{Along, AllRound, along_part, Leads}
 
 -- c, or the last unvisited link of a list
@@ -34,7 +34,7 @@ to_top step wraps zero at = 0
 to_top step wraps (suc n) at = pick (wraps at) 0 (suc (to_top step wraps n (step at)))
 
 -- ---- the last unvisited link of a list with an unvisited k in it is found from k on
-last_aux : (st : List ℕ) (c : ℕ) (t r : List ℕ) → first_unvisited st r ≡ Link c
+pub last_aux : (st : List ℕ) (c : ℕ) (t r : List ℕ) → first_unvisited st r ≡ Link c
     → first_unvisited st (reverse_aux t r) ≡ Link (last_or st c t)
 last_aux st c [] r e = e
 last_aux st c (x ∷ t) r e = last_aux st (pick (is_unvisited st x) x c) t (x ∷ r) (by (is_unvisited st x))
@@ -42,13 +42,6 @@ last_aux st c (x ∷ t) r e = last_aux st (pick (is_unvisited st x) x c) t (x �
     by : (b : Bool) → pick b (Link x) (first_unvisited st r) ≡ Link (pick b x c)
     by true = refl
     by false = e
-
-pub last_from : (st l : List ℕ) (k : ℕ) → Mem k l → is_unvisited st k ≡ true
-    → last_unvisited st l ≡ Link (last_or st k (after k l))
-last_from st l k m o =
-    ap (last_unvisited st) (split k l m) ∙ ap (first_unvisited st) (reverse_aux-append (ahead k l) (k ∷ after k l) [])
-    ∙ last_aux st k (after k l) (k ∷ reverse (ahead k l))
-    (pick_true (Link k) (first_unvisited st (reverse (ahead k l))) o)
 
 -- ---- what the loop knows
 module _ (g : Graph) (v : ℕ) (step : ℕ → ℕ) (wraps : ℕ → Bool) where

@@ -1,5 +1,5 @@
 -- The mark of a ring's last end, while the ring is made: where one more end is put into it.
-use Rattle.std.specs.Prelude.{ℕ, ◌+◌, ◌-◌, ◌≡◌, refl, Bool, false, List, [], ◌∷◌, ◌++◌}
+use Rattle.std.specs.Prelude.{ℕ, ◌≡◌, refl, Bool, false, List, [], ◌∷◌, ◌++◌}
 use Rattle.std.proofs.Common.{sym, ◌∙◌, subst, ⊎_elim}
 use mathlib.Core.List.Memᴰ
 use Rattle.next.specs.Choice.{Mem}

@@ -7,13 +7,11 @@ pub mod Rotation
 pub mod Rings
 -- rules 3 and 1 by the ring
 pub mod NextByRing
-pub mod FirstByRing
 -- the ring as ends that lead to one another, and the loops that follow it
 pub mod Linked
 pub mod Follow
 pub mod RingLoop
 pub mod Climb
-pub mod FirstLoop
 -- rule 1 asked again at the same link
 pub mod AgainByRing
 -- the pass that makes it
@@ -27,5 +25,4 @@ pub mod Steering
 pub mod Descent
 -- worked examples
 pub mod RingTest
-pub mod Examples
 pub mod Promises

@@ -1,14 +1,12 @@
 -- The ring as the code keeps it: each end leads to the next and to the one before,
 -- all round. Followed from a link's end it is the ring read round from there.
-use Rattle.std.specs.Prelude.{ℕ, ◌≡◌, Bool, true, false}
+use Rattle.std.specs.Prelude.{ℕ, ◌≡◌, Bool}
 use Rattle.std.proofs.Common.{sym, subst}
 use mathlib.Core.List.{List, [], ◌∷◌, ◌++◌, reverse, reverse-cons, append-nil}
 use Rattle.laws.specs.Test.{pick}
 use Rattle.graph.specs.Graph.{Graph}
-use Rattle.next.specs.Choice.{Mem}
 use Rattle.rings.specs.Ends.{end_of}
 use Rattle.rings.specs.Rings.{Ring}
-use Rattle.rings.specs.Rotation.{after, ahead, onward, round_from, split}
 
 -- ---- a fact of neighbours
 
@@ -32,7 +30,7 @@ pub along_part : (P : ℕ → ℕ → Type 0) (h p x : ℕ) (s t : List ℕ) →
 along_part P h p x [] t a = a
 along_part P h p x (y ∷ s) t a = let r = along_part P h y x s t a.1 in ((a.0, r.0), r.1)
 
-along_back : (P : ℕ → ℕ → Type 0) (h p : ℕ) (l : List ℕ) → Along P h p l → Along (λ x y. P y x) p h (reverse l)
+pub along_back : (P : ℕ → ℕ → Type 0) (h p : ℕ) (l : List ℕ) → Along P h p l → Along (λ x y. P y x) p h (reverse l)
 along_back P h p [] a = a
 along_back P h p (x ∷ l) a =
     subst (Along (λ y z. P z y) p h) (sym (reverse-cons x l))
@@ -43,9 +41,6 @@ pub turned_round : (P : ℕ → ℕ → Type 0) (s t : List ℕ) → AllRound P 
 turned_round P [] t a = subst (AllRound P) (sym (append-nil t)) a
 turned_round P (x ∷ s) [] a = subst (AllRound P) (append-nil (x ∷ s)) a
 turned_round P (x ∷ s) (y ∷ t) a = let r = along_part P x x y s t a in along_join P y y x t s r.1 r.0
-
-round_onward : (P : ℕ → ℕ → Type 0) (l : List ℕ) (e : ℕ) → Mem e l → AllRound P l → Along P e e (onward e l)
-round_onward P l e m a = turned_round P (ahead e l) (e ∷ after e l) (subst (AllRound P) (split e l m) a)
 
 -- ---- the linked ring
 -- at node v e's end leads to f's (`to` is what a list of the code holds at each end, without any mark that it bears)
@@ -66,10 +61,3 @@ pub record Ringed (g : Graph) (state : List ℕ) (v : ℕ) (nxt prv : ℕ → �
 -- a step clockwise goes back, one counterclockwise on
 abbrev pub step_of : Bool → (ℕ → ℕ) → (ℕ → ℕ) → ℕ → ℕ
 step_of sense nxt prv = pick sense prv nxt
-
-pub linked_round : {g : Graph} {v : ℕ} {l : List ℕ} {nxt prv : ℕ → ℕ} → Linked g v l nxt prv → (e : ℕ) → Mem e l
-    → (sense : Bool)
-    → Along (Leads g v (step_of sense nxt prv)) e e (round_from sense e l)
-linked_round {g} {v} {l} {nxt} k e m false = round_onward (Leads g v nxt) l e m k.next
-linked_round {g} {v} {l} {prv = prv} k e m true =
-    along_back (λ x y. Leads g v prv y x) e e (onward e l) (round_onward (λ x y. Leads g v prv y x) l e m k.back)

@@ -1,16 +1,14 @@
 -- The ring order of the links at a node: those whose b is there, then those whose a is, each counterclockwise.
 -- As a is before b, it is the order by angle, counterclockwise from just after straight up to straight up itself.
-use Rattle.std.specs.Prelude.{ℕ, ◌≡◌, refl, ◌⊎◌, Bool, true, false, not, ◌&&◌, List, [], ◌∷◌, pos, neg_ℤ, ◌-ℤ◌, get_or}
-use Rattle.std.proofs.Common.{sym, ap, ap₂, ◌∙◌, inl, inr, ⊎_elim}
+use Rattle.std.specs.Prelude.{ℕ, ◌≡◌, refl, Bool, true, false, not, ◌&&◌, List, [], ◌∷◌, pos, neg_ℤ, ◌-ℤ◌, get_or}
+use Rattle.std.proofs.Common.{sym, ap₂, ◌∙◌}
 use Rattle.std.specs.Int.Signed.{lt_z}
-use Rattle.laws.specs.Test.{pick_ind, Is, yes!, is_true, true_is, true≢false, ◌⇒◌, ◌⇔◌, ⇔-eq, mp}
+use Rattle.laws.specs.Test.{pick_ind, Is, is_true, true≢false, ◌⇒◌, ◌⇔◌}
 use Rattle.laws.specs.Ring.{ring, var, con, ◌:+◌, ◌:-◌, ◌:*◌, neg}
-use Rattle.laws.specs.Sign.{Sgn, mns, zer, pls, sgn, flip, ◌⊗◌, eq_s, plus_ok, all6, sgn_neg, gt_z_sgn}
+use Rattle.laws.specs.Sign.{Sgn, mns, zer, pls, sgn, flip, ◌⊗◌, eq_s, plus_ok}
 use Rattle.turn.specs.declared.Vector.{Vector}
 use Rattle.turn.specs.Points.{before, from_to, cross, dot}
-use Rattle.turn.specs.Angle.{half_turn, sooner, met_before, same_direction, nonzero}
-use Rattle.turn.specs.Angular.{irreflexive, asymmetric, transitive, total, together}
-use Rattle.turn.specs.Directions.{cross_sign}
+use Rattle.turn.specs.Angle.{half_turn, sooner, same_direction, nonzero}
 use Rattle.turn.specs.Rightward.{right, right_before, sgn_back}
 use Rattle.turn.specs.PointOrder.{nonzero_forward, nonzero_back}
 use Rattle.graph.specs.Graph.{Graph}
@@ -31,46 +29,29 @@ abbrev pub ring_before : Graph → ℕ → ℕ → ℕ → Bool
 ring_before g v e f = in_turn (starts_at g v e) (starts_at g v f) (lt_z (pos 0) (cross (away_from g v e) (away_from g v f)))
 
 -- ---- it is rule 3's order, turning counterclockwise from straight up
-
 abbrev pub up : Vector
 up = record { x = pos 0; y = pos 1 }
 
 -- a way with an x above 0, or straight up
-abbrev rightward : Vector → Bool
+abbrev pub rightward : Vector → Bool
 rightward u = right (sgn u.x) (sgn u.y)
 
-up_cross : (u : Vector) → cross up u ≡ neg_ℤ u.x
+pub up_cross : (u : Vector) → cross up u ≡ neg_ℤ u.x
 up_cross u = ring (u.x ∷ u.y ∷ []) (con (pos 0) :* var 1 :- con (pos 1) :* var 0) (neg (var 0)) tt
 
-up_dot : (u : Vector) → dot up u ≡ u.y
+pub up_dot : (u : Vector) → dot up u ≡ u.y
 up_dot u = ring (u.x ∷ u.y ∷ []) (con (pos 0) :* var 0 :+ con (pos 1) :* var 1) (var 1) tt
 
-flip_flip : (s : Sgn) → flip (flip s) ≡ s
+pub flip_flip : (s : Sgn) → flip (flip s) ≡ s
 flip_flip mns = refl
 flip_flip zer = refl
 flip_flip pls = refl
 
 -- of the signs of two ways, not 0, and of their cross product
-abbrev agree : Sgn → Sgn → Sgn → Sgn → Sgn → Bool
+abbrev pub agree : Sgn → Sgn → Sgn → Sgn → Sgn → Bool
 agree ax ay bx by s =
     not (eq_s ax zer && eq_s ay zer) ⇒ not (eq_s bx zer && eq_s by zer) ⇒ plus_ok (ax ⊗ by) (flip (ay ⊗ bx)) s
     ⇒ (in_turn (right ax ay) (right bx by) (eq_s s pls) ⇔ sooner (half_turn ax ay) (half_turn bx by) (flip s))
-
-by_signs : (ax ay bx by s : Sgn) → Is (not (eq_s ax zer && eq_s ay zer)) → Is (not (eq_s bx zer && eq_s by zer))
-    → Is (plus_ok (ax ⊗ by) (flip (ay ⊗ bx)) s)
-    → in_turn (right ax ay) (right bx by) (eq_s s pls) ≡ sooner (half_turn ax ay) (half_turn bx by) (flip s)
-by_signs ax ay bx by s p q r =
-    ⇔-eq (mp (mp (mp (all6 (λ ax ay bx by s _. agree ax ay bx by s) tt ax ay bx by s zer) p) q) r)
-
-from_up : (e f : Vector) → Is (nonzero e) → Is (nonzero f)
-    → in_turn (rightward e) (rightward f) (lt_z (pos 0) (cross e f)) ≡ met_before false up e f
-from_up e f he hf =
-    ap (in_turn (rightward e) (rightward f)) (gt_z_sgn (cross e f))
-    ∙ by_signs (sgn e.x) (sgn e.y) (sgn f.x) (sgn f.y) (sgn (cross e f)) he hf (cross_sign e f)
-    ∙ ap₂ (λ h k. sooner h k (flip (sgn (cross e f)))) (half e) (half f)
-  where
-    half : (u : Vector) → half_turn (sgn u.x) (sgn u.y) ≡ half_turn (flip (sgn (cross up u))) (sgn (dot up u))
-    half u = rw (up_cross u, up_dot u, sgn_neg u.x, flip_flip (sgn u.x))
 
 -- ---- the ways of links whose a is before their b (check 3)
 abbrev pub Forward : Graph → ℕ → Type 0
@@ -94,53 +75,11 @@ module _ (g : Graph) (v k : ℕ) (strict : Forward g k) where
       opposite zer pls e = refl
       opposite pls t e = refl
 
-  way_side : rightward (away_from g v k) ≡ starts_at g v k
+  pub way_side : rightward (away_from g v k) ≡ starts_at g v k
   way_side =
       pick_ind (starts_at g v k) (from_to (g.a k) (g.b k)) (from_to (g.b k) (g.a k))
       (λ u. rightward u ≡ starts_at g v k)
       (λ e. is_true (right_before (g.a k) (g.b k) strict) ∙ sym e) (λ e. turned_back ∙ sym e)
-
-module _ (g : Graph) (v : ℕ) where
-  abbrev way : ℕ → Vector
-  way = away_from g v
-
-  pub ring_turns : (e f : ℕ) → Forward g e → Forward g f → ring_before g v e f ≡ met_before false up (way e) (way f)
-  ring_turns e f se sf =
-      ap₂ (λ s t. in_turn s t (lt_z (pos 0) (cross (way e) (way f)))) (sym (way_side g v e se)) (sym (way_side g v f sf))
-      ∙ from_up (way e) (way f) (way_nonzero g v e se) (way_nonzero g v f sf)
-
-  pub to_turn : (e f : ℕ) → Forward g e → Forward g f → ring_before g v e f ≡ true
-      → Is (met_before false up (way e) (way f))
-  to_turn e f se sf h = true_is (sym (ring_turns e f se sf) ∙ h)
-
-  of_turn : (e f : ℕ) → Forward g e → Forward g f → Is (met_before false up (way e) (way f)) → ring_before g v e f ≡ true
-  of_turn e f se sf h = ring_turns e f se sf ∙ is_true h
-
-  -- ---- its laws
-  pub ring_irreflexive : (e : ℕ) → Forward g e → ring_before g v e e ≡ true → ⊥
-  ring_irreflexive e se h = irreflexive false up (way e) (to_turn e e se se h)
-
-  pub ring_asymmetric : (e f : ℕ) → Forward g e → Forward g f
-      → ring_before g v e f ≡ true → ring_before g v f e ≡ true → ⊥
-  ring_asymmetric e f se sf h k = asymmetric false up (way e) (way f) (to_turn e f se sf h) (to_turn f e sf se k)
-
-  pub ring_transitive : (e f h : ℕ) → Forward g e → Forward g f → Forward g h
-      → ring_before g v e f ≡ true → ring_before g v f h ≡ true → ring_before g v e h ≡ true
-  ring_transitive e f h se sf sh p q =
-      of_turn e h se sh (transitive false up (way e) (way f) (way h) (to_turn e f se sf p) (to_turn f h sf sh q))
-
-  pub ring_total : (e f : ℕ) → Forward g e → Forward g f → same_direction (way e) (way f) ≡ false
-      → (ring_before g v e f ≡ true) ⊎ (ring_before g v f e ≡ true)
-  ring_total e f se sf d =
-      ⊎_elim (λ h. inl (of_turn e f se sf h))
-      (⊎_elim (λ h. absurd (true≢false (is_true h) d)) (λ h. inr (of_turn f e sf se h)))
-      (total false up (way e) (way f) (yes! tt) (way_nonzero g v e se) (way_nonzero g v f sf))
-
-  -- two of which one stands before the other run in different directions
-  pub ring_apart : (e f : ℕ) → Forward g e → Forward g f → ring_before g v e f ≡ true
-      → Is (same_direction (way e) (way f)) → ⊥
-  ring_apart e f se sf h d =
-      together false up (way e) (way f) (yes! tt) (way_nonzero g v e se) (way_nonzero g v f sf) d (to_turn e f se sf h)
 
 -- ---- an unskipped entry of node v
 pub record Spoke (g : Graph) (state : List ℕ) (v k : ℕ) : Type 0 where

@@ -9,7 +9,6 @@ use Rattle.next.specs.declared.Next.{Next}
 use Rattle.next.specs.declared.Next.TheVariants.{Link, Nothing}
 use Rattle.next.specs.Next.{is_unvisited}
 use Rattle.next.specs.Choice.{Mem}
-use Rattle.rings.specs.Sorted.{of_reverse, in_reverse}
 
 -- what follows e in a list, and what stands before it
 abbrev pub after : ℕ → List ℕ → List ℕ
@@ -62,13 +61,6 @@ of_ahead {x} e (y ∷ l) =
     pick_ind (eqb y e) [] (y ∷ ahead e l) (λ r. Mem x r → Mem x (y ∷ l)) (λ _ m. absurd (Memᴰ.not-nil m))
     (λ _ m. ⊎_elim (λ q. Memᴰ.head q) (λ k. Memᴰ.tail (of_ahead e l k)) (Memᴰ.cases_cons m))
 
-pub of_onward : {x : ℕ} (e : ℕ) (l : List ℕ) → Mem x (onward e l) → Mem x l
-of_onward e l m = ⊎_elim (of_after e l) (of_ahead e l) (Memᴰ.append_cases (after e l) m)
-
-pub of_round : {x : ℕ} (sense : Bool) (e : ℕ) (l : List ℕ) → Mem x (round_from sense e l) → Mem x l
-of_round false e l m = of_onward e l m
-of_round true e l m = of_onward e l (of_reverse (onward e l) m)
-
 pub parted : {x : ℕ} (e : ℕ) (l : List ℕ) → Mem x l → (x ≡ e → ⊥) → Mem x (ahead e l) ⊎ Mem x (after e l)
 parted e [] m d = absurd (Memᴰ.not-nil m)
 parted {x} e (y ∷ l) m d = at (eqb y e) refl (λ k. parted e l k d)
@@ -79,13 +71,6 @@ parted {x} e (y ∷ l) m d = at (eqb y e) refl (λ k. parted e l k d)
     at false q rest =
         ⊎_elim (λ p. inl (Memᴰ.head p)) (λ k. ⊎_elim (λ n. inl (Memᴰ.tail n)) inr (rest k))
         (Memᴰ.cases_cons m)
-
-in_onward : {x : ℕ} (e : ℕ) (l : List ℕ) → Mem x l → (x ≡ e → ⊥) → Mem x (onward e l)
-in_onward e l m d = ⊎_elim (Memᴰ.append_right (after e l)) (Memᴰ.append_left (ahead e l)) (parted e l m d)
-
-pub in_round : {x : ℕ} (sense : Bool) (e : ℕ) (l : List ℕ) → Mem x l → (x ≡ e → ⊥) → Mem x (round_from sense e l)
-in_round false e l m d = in_onward e l m d
-in_round true e l m d = in_reverse (onward e l) (in_onward e l m d)
 
 -- ---- the first unvisited link
 pub first_found : (st : List ℕ) (x : ℕ) (l : List ℕ) → is_unvisited st x ≡ true → first_unvisited st (x ∷ l) ≡ Link x

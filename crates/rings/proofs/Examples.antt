@@ -14,7 +14,8 @@ use Rattle.next.specs.Choice.{Mem}
 use Rattle.rings.specs.Ends.{end_of}
 use Rattle.rings.specs.Rotation.{onward, backward, round_from, first_unvisited, last_unvisited}
 use Rattle.rings.specs.RingOrder.{Spread, spread_fine}
-use Rattle.rings.specs.NextByRing.{marked_entry, next_by_ring}
+use Rattle.rings.specs.NextByRing.{marked_entry}
+use Rattle.rings.proofs.NextByRing.{next_by_ring}
 use Rattle.rings.specs.Linked.{Linked}
 use Rattle.rings.specs.RingTest.{is_ring, ring_test}
 

@@ -8,14 +8,16 @@ use Rattle.graph.specs.Fine.{FineLinks, FineLists, OnePoint}
 use Rattle.next.specs.Next.{is_unvisited, first_link}
 use Rattle.next.specs.Choice.{Mem}
 use Rattle.rings.specs.Ends.{a_end, b_end, end_of, end_below}
-use Rattle.rings.specs.RingOrder.{Spread, ring_irreflexive}
+use Rattle.rings.specs.RingOrder.{Spread}
+use Rattle.rings.proofs.RingOrder.{ring_irreflexive}
 use Rattle.rings.specs.Sorted.{Sorted, sorted_short, sorted_parts}
 use Rattle.rings.specs.Rotation.{after, ahead, split, of_after}
 use Rattle.rings.specs.Rings.{InOrder, Ring}
 use Rattle.rings.specs.NextByRing.{Marked}
 use Rattle.rings.specs.Linked.{Ringed}
-use Rattle.rings.specs.FirstByRing.{first_by_ring, none_ends}
-use Rattle.rings.specs.Climb.{AtLast, Above, last_from, climb_start}
+use Rattle.rings.proofs.FirstByRing.{first_by_ring, none_ends}
+use Rattle.rings.specs.Climb.{AtLast, Above, climb_start}
+use Rattle.rings.proofs.Climb.{last_from}
 
 -- k is the lowest unvisited link, and its a is at a `Cross` whose ring
 -- is linked; `wraps` tells the ring's last end from the others

@@ -1,0 +1,15 @@
+pub mod AgainByRing
+pub mod Climb
+pub mod Descent
+pub mod Examples
+pub mod FirstByRing
+pub mod FirstLoop
+pub mod Linked
+pub mod Making
+pub mod NextByRing
+pub mod RingLoop
+pub mod RingOrder
+pub mod Rings
+pub mod Rotation
+pub mod Steering
+pub mod Turning
