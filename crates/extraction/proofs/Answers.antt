@@ -8,10 +8,6 @@ use lib.ListN.{length, replicate}
 use lib.IntN.{ℤ, pos}
 use Rattle.laws.specs.Lists.{map_from, map_const}
 use Rattle.graph.specs.Graph.{Graph}
-use Rattle.turn.specs.declared.Checked.{Checked}
-use Rattle.turn.specs.declared.Checked.TheVariants as check
-use Rattle.graph.specs.Checks.{room}
-use Rattle.rings.specs.Steering as steering
 use Rattle.keep.specs.declared.Counts.{Counts}
 use Rattle.scan.specs.declared.Extraction.{Extraction}
 use Rattle.scan.specs.declared.Extraction.TheVariants.{Done, Refused}

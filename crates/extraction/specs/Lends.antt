@@ -12,7 +12,7 @@ use Rattle.graph.specs.Fine.{FineGraph, fine}
 use Rattle.next.specs.Known.{Links}
 use Rattle.next.specs.Fine.{links_known}
 use Rattle.rings.specs.Field.{Spacious, AllLaid, Field}
-use Rattle.rings.specs.Steering as steering
+use Rattle.rings.proofs.Steering as steering
 use Rattle.scan.specs.declared.Extraction.TheVariants.{Refused}
 use Rattle.scan.specs.Scan.{scan}
 use Rattle.finish.specs.Finish.{Buffers}

@@ -1,5 +1,5 @@
 -- What each public function promises, written once: its contract names it, and any two outcomes that it allows are equal.
-use Rattle.std.specs.Prelude.{List, ◌≡◌, ℤ, ℕ}
+use Rattle.std.specs.Prelude.{◌≡◌}
 use Rattle.laws.specs.Unique.{same_part}
 use Rattle.scan.specs.declared.Extraction.{Extraction}
 use Rattle.finish.specs.Finish.{Buffers, finished_by}

@@ -1,7 +1,7 @@
 -- Rule 1 by the field of ends, over plain values: the named link of a `Bridge`, and the two answers.
 use Prim.Native.Nat.{ℕ, ◌*◌, ◌≤◌, ◌<◌}
 use native.Mathlib.Omega.{arith}
-use mathlib.Core.Path.{◌≡◌, refl, sym, ap, ◌∙◌, subst}
+use mathlib.Core.Path.{◌≡◌, sym, ap, ◌∙◌, subst}
 use mathlib.Core.Bool.{Bool, true, false}
 use mathlib.Core.List.{List}
 use lib.IntN.{ℤ}
@@ -22,7 +22,7 @@ use Rattle.rings.specs.Ends.{a_end, link_of}
 use Rattle.rings.specs.Climb.{last_or, Above}
 use Rattle.rings.specs.Follow.{Left}
 use Rattle.rings.specs.Field.{cross_mark, next_of, prev_of, wraps_at, named, Firsts, Reads, Begun}
-use Rattle.rings.specs.Steering.{later_same}
+use Rattle.rings.proofs.Steering.{later_same}
 use Rattle.topmost.specs.Ring.{Rises, LeftAt, Falls}
 use Rattle.first.specs.Leading.{leading, Resumes, Asked}
 

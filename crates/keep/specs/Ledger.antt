@@ -1,6 +1,8 @@
 -- The running tables that the code keeps come to what is read off the walks: points, contour table and counts of the kept walks, and zeros past them.
-use Rattle.std.specs.Prelude.{ℕ, suc, ◌+◌, ◌*◌, ◌-◌, ◌≤◌, ◌<◌, ◌≡◌, refl, Bool, true, false, List, [], ◌∷◌, ◌++◌, map, length, set, take, drop, replicate, ℤ, pos, ◌+ℤ◌, leb}
-use Rattle.std.proofs.Common.{arith, add-one, sym, ap, ap₂, ◌∙◌, subst, append-nil, append_assoc, length-set, length-append, length-drop, take-suc-set, take_at, length-take-le, leb-true}
+use Rattle.std.specs.Prelude.{ℕ, suc, ◌+◌, ◌*◌, ◌-◌, ◌≤◌, ◌<◌, ◌≡◌, refl, Bool, true, false, List, [], ◌∷◌, ◌++◌, map, length, set, take, drop, replicate}
+use Rattle.std.specs.Prelude.{ℤ, pos, ◌+ℤ◌, leb}
+use Rattle.std.proofs.Common.{arith, add-one, sym, ap, ap₂, ◌∙◌, subst, append-nil, append_assoc, length-set, length-append, length-drop, take-suc-set}
+use Rattle.std.proofs.Common.{take_at, length-take-le, leb-true}
 use Rattle.std.proofs.lemmas.List.{length-map, take-set-le}
 use Rattle.std.proofs.lemmas.List.Edits.{sets, sets-eq}
 use Rattle.std.proofs.Math.Seq.{length-sets}

@@ -22,7 +22,7 @@ use Rattle.rings.specs.RingLoop.{none_next, some_next}
 use Rattle.rings.specs.Field.{cross_mark, next_of, prev_of, Across, Steers, Steered}
 use Rattle.onward.specs.declared.Onward.TheVariants.{To, Nowhere}
 use Rattle.onward.specs.Goes.{Arrived, GoesTo, EndsUnvisited}
-use Rattle.rings.specs.Steering.{later_same}
+use Rattle.rings.proofs.Steering.{later_same}
 use Rattle.onward.specs.Named.{Among, next_among}
 
 -- ---- the link of an end where a walk stands is visited and unskipped

@@ -9,8 +9,8 @@ use Rattle.next.specs.Next.{is_unvisited, next_link, first_link, unvisited}
 use Rattle.next.specs.States.{unvisited_below}
 use Rattle.rings.specs.Ends.{a_end}
 use Rattle.rings.specs.Field.{cross_mark, Field, Fielded}
-use Rattle.rings.specs.Steering.{later_same}
-use Rattle.rings.specs.Descent.{descends}
+use Rattle.rings.proofs.Steering.{later_same}
+use Rattle.rings.proofs.Descent.{descends}
 use Rattle.first.specs.Leading.{Resumes, Asked}
 use Rattle.walk.specs.Walk.{Step, Walked, stuck, done, cons_step, on_next, walk_on, walk_from, mark_of}
 use Rattle.walk.specs.Code.{Kept}

@@ -1,11 +1,11 @@
 -- A whole walk, as the code starts it: the first link's two ends, its mark, its point and its last link.
-use Prim.Native.Nat.{ℕ, suc, ◌+◌, ◌-◌, ◌≤◌, ◌<◌}
+use Prim.Native.Nat.{ℕ, suc, ◌+◌, ◌≤◌, ◌<◌}
 use mathlib.Core.Path.{◌≡◌, sym, ap, ap₂, ◌∙◌, subst}
 use mathlib.Core.Bool.{Bool, true, false, not}
 use mathlib.Core.List.{List, ◌∷◌, map}
 use native.Mathlib.Omega.{arith}
 use lib.ListN.{length, set}
-use lib.IntN.{ℤ, pos, ◌+ℤ◌, +ℤ_idl}
+use lib.IntN.{ℤ, pos, +ℤ_idl}
 use Rattle.laws.specs.Test.{pick, pick_true, pick_false}
 use Rattle.turn.specs.declared.Point.{Point}
 use Rattle.turn.specs.Limits.{max_links}

@@ -76,9 +76,11 @@ far_apart {g} l h b e = by (is_a h) refl
 
     by : (t : Bool) → is_a h ≡ t → ⊥
     by true t = let q = is_a_lem h t in
-        l.two_nodes k b (sym (a_node_lem g k) ∙ ap (node_of_end g) (sym q) ∙ e ∙ ap (λ x. node_of_end g (far x)) q ∙ ap (node_of_end g) (far_a k) ∙ b_node_lem g k)
+        l.two_nodes k b (sym (a_node_lem g k) ∙ ap (node_of_end g) (sym q) ∙ e ∙ ap (λ x. node_of_end g (far x)) q ∙ ap (node_of_end g) (far_a k) ∙
+        b_node_lem g k)
     by false t = let q = is_b h t in
-        l.two_nodes k b (sym (sym (b_node_lem g k) ∙ ap (node_of_end g) (sym q) ∙ e ∙ ap (λ x. node_of_end g (far x)) q ∙ ap (node_of_end g) (far_b k) ∙ a_node_lem g k))
+        l.two_nodes k b (sym (sym (b_node_lem g k) ∙ ap (node_of_end g) (sym q) ∙ e ∙ ap (λ x. node_of_end g (far x)) q ∙ ap (node_of_end g) (far_b k) ∙
+        a_node_lem g k))
 
 -- what is left of the definition's walk
 abbrev pub rest_of : Graph → Bool → ℕ → ℕ → ℕ → List ℕ → Walker → Walked

@@ -41,7 +41,8 @@ step_times k m st f o n = elim (ℕ_discrete k f) [ yes q ↦ same q | no d ↦ 
     differs : (k ≡ f → ⊥) → pick (eqb f k) 1 0 + one (is_unvisited (set st f m) k) ≡ one (is_unvisited st k)
     differs d = omega (arith, pick_false {A = ℕ} {b = eqb f k} 1 0 (ne_eqb f k (λ q. d (sym q))), ap one (set_other st f m k d))
 
-pub fresh_times : (k m : ℕ) (st : List ℕ) (l : List Step) → Mark m → Fresh m st l → times_in k l + one (is_unvisited (marked m l st) k) ≡ one (is_unvisited st k)
+pub fresh_times : (k m : ℕ) (st : List ℕ) (l : List Step) → Mark m → Fresh m st l → times_in k l + one (is_unvisited (marked m l st) k) ≡ one
+    (is_unvisited st k)
 fresh_times k m st [] n f = omega arith
 fresh_times k m st (s ∷ l) n f = omega (arith, step_times k m st s.link f.0 n, fresh_times k m (set st s.link m) l n f.1)
 

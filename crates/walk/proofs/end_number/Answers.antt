@@ -1,0 +1,8 @@
+-- `walk::end_number` meets its contract: by the end that is asked for.
+use Rattle.walk.proofs.end_number.Goals as goal
+
+pub returns-then-a : goal.returns-then-a
+returns-then-a c = rw c.if-a.true
+
+pub returns-else-a : goal.returns-else-a
+returns-else-a c = rw c.if-a.false
