@@ -156,7 +156,8 @@ module _ (g : Graph) (ok : Listed g) (cw : Bool) (st₀ : List ℕ) (len : lengt
           walked = walk_ok g ok cw w st₀ len (cyc w) (seen w) (irr w) (trans w) m n0 s t (sub s os) (sub t ot') la.0
               (suc (unvisited σ₁)) σ₁ s begun (omega arith)
 
-      from_ok : (o : Walked) × (walk_of g cw σ s ≡ cons_step (record { link = s; forward = way_of g cw s }) o) × Walks g cw (Sensed w B) st₀ (head_n g cw s) home o
+      from_ok : (o : Walked) × (walk_of g cw σ s ≡ cons_step (record { link = s; forward = way_of g cw s }) o) × Walks g cw (Sensed w B) st₀ (head_n g cw s)
+          home o
       unfolding walk_from
       from_ok =
           let z = partner (tl s) os in

@@ -1,19 +1,13 @@
--- The third demand for extraction itself: a graph that passes the checks and comes by turns, lent with enough room, is
--- answered Done, and the kept and the rejected total are the total over the links.
+-- The third demand for extraction itself: what the answer to a graph that passes the checks and comes by turns is.
 use Rattle.std.specs.Prelude.{ℕ, ◌≡◌, Bool, List, length, ◌+ℤ◌}
-use Rattle.std.proofs.Common.{ap, ◌∙◌}
-use Rattle.turn.specs.declared.Checked.TheVariants as check
-use Rattle.graph.specs.Graph.{Lent, Graph, graph_of}
-use Rattle.graph.specs.Checks.{Room, room, checked}
+use Rattle.graph.specs.Graph.{Lent, graph_of}
+use Rattle.graph.specs.Checks.{Room, room}
 use Rattle.next.specs.Next.{unvisited}
 use Rattle.keep.specs.declared.Counts.{Counts}
 use Rattle.scan.specs.declared.Extraction.TheVariants.{Done}
-use Rattle.keep.specs.Outcome.{counts_of, states_after}
-use Rattle.scan.specs.Visits.{scanned}
-use Rattle.extraction.specs.Extract.{after_scan, after_checks, extracted}
+use Rattle.extraction.specs.Extract.{extracted}
 use Rattle.finish.specs.Finish.{Buffers}
-use Rattle.tour.specs.Statement.{ComesByTurns, link_total}
-use Rattle.tour.specs.Demand.{third_demand, kept_total}
+use Rattle.tour.specs.Statement.{link_total}
 
 -- the room that is lent with the buffers
 abbrev pub room_in : Buffers → Room
@@ -24,16 +18,3 @@ pub record Answered (g : Lent) (top : List ℕ) (cw : Bool) (minimum : ℕ) (b :
   pub done : (extracted g top cw minimum b).answer ≡ Done counts
   pub total : counts.kept_area +ℤ counts.rejected_area ≡ link_total (graph_of g top) cw b.state
   pub walked : counts.walked ≡ unvisited b.state
-
-pub answered : (g : Lent) (top : List ℕ) (cw : Bool) (minimum : ℕ) (b : Buffers) → checked g top b.state (room_in b)
-    ≡ check.Fine → ComesByTurns (graph_of g top) b.state → Answered g top cw minimum b
-unfolding extracted
-answered g top cw minimum b e t =
-    let G : Graph = graph_of g top in
-    let d = third_demand g top b.state (room_in b) cw e t in
-    record {
-      counts = counts_of G minimum d.found;
-      done = ap (λ c. (after_checks G cw minimum b c).answer) e ∙ ap (λ s. (after_scan G minimum b s).answer) d.done;
-      total = kept_total G cw b.state minimum d;
-      walked = (scanned G cw b.state d.found (states_after d.found b.state) d.done).count;
-    }

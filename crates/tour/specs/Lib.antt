@@ -1,4 +1,4 @@
--- The statement and its proof, leaves first.
+-- The statement, and what its proof in proofs/ rests on, leaves first.
 pub mod Statement
 -- ends round a node by turns, and a walk among them
 pub mod Alternation
@@ -8,14 +8,10 @@ pub mod OneWalk
 pub mod AllWalks
 pub mod Around
 pub mod Sums
--- the theorem, and the two forms of its condition
+-- what the theorem asks, and the second form of its condition
 pub mod Sound
-pub mod Theorem
-pub mod Round
 -- for what is lent
 pub mod Passing
-pub mod Demand
 pub mod Answer
 pub mod ThreePoints
 pub mod Decide
-pub mod Examples

@@ -1,5 +1,5 @@
 -- A graph that passes checks 1 to 7 has what the third demand uses.
-use Rattle.std.specs.Prelude.{ℕ, zero, suc, ◌<◌, ◌≡◌, refl, true, false, List, [], ◌∷◌, get_or, eqb}
+use Rattle.std.specs.Prelude.{ℕ, zero, suc, ◌<◌, ◌≡◌, refl, List, [], ◌∷◌, get_or, eqb}
 use Rattle.std.proofs.Common.{arith, ◌∙◌, subst, eqb-true}
 use Rattle.laws.specs.Test.{Is, pick_ind, is_true, true≢false}
 use Rattle.turn.specs.Points.{from_to}

@@ -109,7 +109,8 @@ module _ (g : Graph) (ok : Listed g) where
 
     at_first : (go : List ℕ → Scanned) (st : List ℕ) (k : ℕ) (o : Next) → ((after : List ℕ) → AllRounds (go after)) → AllRounds (scan_at g cw go st k o)
     at_first go st k Nothing h = tt
-    at_first go st k (Link s) h = after_walk_lem go k (g.top s) (walk_of g cw st s) (from_rounds (not (sense_of g cw s)) (sense_of g cw s) (mark_of (g.top s)) st s) h
+    at_first go st k (Link s) h = after_walk_lem go k (g.top s) (walk_of g cw st s) (from_rounds (not (sense_of g cw s)) (sense_of g cw s)
+        (mark_of (g.top s)) st s) h
 
     none_there : (st : List ℕ) → AllRounds (walks [] st)
     none_there st w m = absurd (Memᴰ.not-nil m)

@@ -1,5 +1,5 @@
 -- The third demand from the second form of its condition: no walk is refused, each link is walked once in its direction, and the areas add up.
-use Rattle.std.specs.Prelude.{ℕ, ◌+◌, ◌≡◌, refl, ◌⊎◌, Bool, true, false, not, eqb}
+use Rattle.std.specs.Prelude.{ℕ, ◌+◌, ◌≡◌, refl, Bool, true, false, not, eqb}
 use Rattle.std.proofs.Common.{arith, sym, ap, ◌∙◌, subst, ⊎_elim, true≢false, eq-eqb, ne_eqb}
 use Rattle.std.specs.Bool.{beq}
 use Rattle.std.proofs.lemmas.Bool.{false≢true}
@@ -21,7 +21,7 @@ use Rattle.tour.specs.Ends.{End, hd, tl, link, arrives, head_n, node, UnvisitedE
 use Rattle.tour.specs.OneWalk.{Chain, ByTurns}
 use Rattle.tour.specs.AllWalks.{Closed, Scans, all_ok}
 use Rattle.tour.specs.Around.{Met, met_irr, met_trans, cyc, seen}
-use Rattle.tour.specs.Sums.{areas_total}
+use Rattle.tour.proofs.Sums.{areas_total}
 use Rattle.tour.specs.Sound.{Sound, below, At, NoneBetween, NextTurns}
 
 -- ---- how a link leaves, by its end

@@ -267,7 +267,8 @@ module _ (g : Graph) (st : List ℕ) (ok : Sound g st) (v : ℕ) where
   abbrev NextAt : ℕ → Type 0
   NextAt x = (z : ℕ) × (At g st v z × NoneBetween g st v x z) × (leaves g v z ≡ not (leaves g v x))
 
-  next_in_lem : (l : List ℕ) → These l → Clockwise g v l → ByTurns (map (leaves g v) l) → how_many true (map (leaves g v) l) ≡ how_many false (map (leaves g v) l)
+  next_in_lem : (l : List ℕ) → These l → Clockwise g v l → ByTurns (map (leaves g v) l) → how_many true (map (leaves g v) l) ≡ how_many false
+      (map (leaves g v) l)
       → (x : ℕ) → Mem x l → NextAt x
   next_in_lem [] t c b n x m = absurd (Memᴰ.not-nil m)
   next_in_lem (e ∷ l) t c b n x m =

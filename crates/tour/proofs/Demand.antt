@@ -6,8 +6,8 @@ use Rattle.extraction.specs.Theorems.{kept_and_rejected}
 use Rattle.scan.specs.Scan.{Scanned, stopped, walks, scan}
 use Rattle.keep.specs.Outcome.{kept, rejected, areas, total}
 use Rattle.tour.specs.Statement.{Toured, ThirdDemand, link_total}
-use Rattle.tour.specs.Round.{next_turns}
-use Rattle.tour.specs.Theorem.{tour}
+use Rattle.tour.proofs.Round.{next_turns}
+use Rattle.tour.proofs.Theorem.{tour}
 use Rattle.tour.specs.Passing.{sound}
 
 pub third_demand : ThirdDemand

@@ -11,8 +11,9 @@ use Rattle.next.specs.Next.{unvisited_in, next_link, first_link}
 use Rattle.walk.specs.Walk.{Step, walk_on, walk_from}
 use Rattle.scan.specs.Scan.{stopped, walks, scan_on, scan}
 use Rattle.tour.specs.Statement.{leaves, how_many, ComesByTurns, link_total, Toured}
-use Rattle.tour.specs.Demand.{third_demand}
-use Rattle.tour.specs.Decide.{comes_by_turns, comes_exactly}
+use Rattle.tour.proofs.Demand.{third_demand}
+use Rattle.tour.specs.Decide.{comes_by_turns}
+use Rattle.tour.proofs.Decide.{comes_exactly}
 
 abbrev p : ℕ → ℤ
 p = pos
