@@ -1,25 +1,18 @@
--- A report's values are numbers exactly where there is a report: no NaN stands for a contour that is there.
-use Rattle.std.specs.Prelude.{ℕ, ◌<◌, ◌≡◌, refl, true, false, List, ℤ, length}
-use Rattle.std.proofs.Common.{arith, sym, subst}
+-- The values of a contour that is there are numbers: no NaN stands for it. That its area is a number exactly where there is a report, is proved in
+-- proofs/Reported.antt.
+use Rattle.std.specs.Prelude.{ℕ, ◌<◌, ◌≡◌, false, ℤ}
+use Rattle.std.proofs.Common.{arith, subst}
 use Rattle.std.specs.Float.Ieee.{is_nan}
-use Rattle.laws.specs.Test.{true≢false}
-use Rattle.laws.specs.Fails.{Iff}
 use Rattle.turn.specs.declared.Point.{Point}
 use Rattle.turn.specs.Points.{Coord, OnGrid}
 use Rattle.table.specs.Table.{Table, contour, contour_count}
 use Rattle.table.specs.Sound.{Sound}
-use Rattle.table.specs.Passing.{passes_sound}
-use Rattle.lookup.specs.declared.records.Lookup.{Lookup}
-use Rattle.lookup.specs.declared.records.Lookup.TheVariants as lookup
-use Rattle.lookup.specs.Lookups.{looked_up}
-use Rattle.lookup.specs.LookupLaws.{found_present}
 use Rattle.extent.specs.Bounds.{Foremost}
 use Rattle.millimetres.specs.Millimetres.{millimetres}
 use Rattle.millimetres.specs.Exact.{quotient_number}
-use Rattle.report.specs.declared.records.Report.TheVariants.{Missing}
 use Rattle.report.specs.declared.records.ReportValues.{ReportValues}
-use Rattle.report.specs.Reports.{reported, values_of_report, values_of}
-use Rattle.report.specs.ReportLaws.{measured_is, missing_is, area_small, on_grid, frame_encloses}
+use Rattle.report.specs.Reports.{values_of}
+use Rattle.report.specs.ReportLaws.{area_small, on_grid, frame_encloses}
 
 -- all five are numbers, or none is
 pub record Numbers (v : ReportValues) : Type 0 where
@@ -48,15 +41,3 @@ module _ (t : Table) (s : Sound t) (c : ℕ) (l : c < contour_count t) where
         right = coordinate_number _ (edge _ _ _ (λ p h. h.0) f.right);
         top = coordinate_number _ (edge _ _ _ (λ p h. h.1) f.top);
       }
-
--- the area is no number exactly where there is no such contour
-pub none_is_missing : (t : Table) (owner : List ℕ) (c : ℕ) → Iff (is_nan (values_of_report (reported t owner c)).area ≡ true) (reported t owner c ≡ Missing)
-unfolding is_nan
-none_is_missing t owner c = record { to = λ h. go (looked_up t owner c) refl h; from = λ e. rw e }
-  where
-    go : (a : Lookup) → looked_up t owner c ≡ a → is_nan (values_of_report (reported t owner c)).area ≡ true → reported t owner c ≡ Missing
-    go lookup.Missing e h = sym (missing_is t owner c e)
-    go (lookup.Found r) e h =
-        let p = found_present t owner c r e in
-        let n = numbers t ((passes_sound t (length owner)).to p.passes).0 c p.below in
-        absurd (true≢false (rw (sym (measured_is t owner c r e)) at h) n.area)

@@ -1,10 +1,9 @@
--- A report is missing exactly where the lookup is. Where it is not, its area is exact before it is divided, and its frame encloses the contour.
-use Rattle.std.specs.Prelude.{ℕ, suc, ◌+◌, ◌*◌, ◌-◌, ◌^◌, ◌≤◌, ◌<◌, ◌≡◌, nat_abs, length, take, drop, eqb}
+-- What a lookup has found is a contour of a sound table: its area is exact before it is divided, and its frame encloses the contour. That a report is missing
+-- exactly where the lookup is, is proved in proofs/Reported.antt.
+use Rattle.std.specs.Prelude.{ℕ, suc, ◌+◌, ◌*◌, ◌-◌, ◌^◌, ◌≤◌, ◌<◌, ◌≡◌, nat_abs, length, take, drop}
 use Rattle.std.proofs.Common.{arith, sym, ap₂, ◌∙◌, length-take}
-use Rattle.std.proofs.Math.Path.{refl, ap}
+use Rattle.std.proofs.Math.Path.{ap}
 use mathlib.Core.List.{List, ◌∷◌, Memᴰ}
-use Rattle.laws.specs.Test.{pick}
-use Rattle.laws.specs.Fails.{Iff}
 use Rattle.turn.specs.Limits.{max_links}
 use Rattle.turn.specs.declared.Point.{Point}
 use Rattle.turn.specs.Points.{OnGrid, Grid}
@@ -17,17 +16,11 @@ use Rattle.table.specs.Passing.{passes_sound}
 use Rattle.lookup.specs.declared.records.ContourRecord.{ContourRecord}
 use Rattle.lookup.specs.declared.records.Lookup.{Lookup}
 use Rattle.lookup.specs.declared.records.Lookup.TheVariants as lookup
-use Rattle.lookup.specs.Lookups.{LookupValues, record_of, looked_up, values_of_lookup}
-use Rattle.lookup.specs.LookupLaws.{Present, found_record_lem, found_present, looked_up_values_lem}
+use Rattle.lookup.specs.Lookups.{record_of, looked_up}
+use Rattle.lookup.specs.LookupLaws.{Present, found_record_lem, found_present}
 use Rattle.extent.specs.Extent.{extent_of}
 use Rattle.extent.specs.Parts.{points_part, points_on}
 use Rattle.extent.specs.Bounds.{Encloses, extent_encloses}
-use Rattle.report.specs.declared.records.Report.TheVariants.{Missing}
-use Rattle.report.specs.Reports.{measured, report_by, reported, no_values, values_of_report, values_of, reported_values}
-
--- ---- by the lookup's two cases
-never : (l : List Point) → measured l ≡ Missing → ⊥
-never l e = let z : ◌≡◌ {A = ℕ} 0 1 = cc in omega arith
 
 -- what measuring a contour of a sound table asks for
 pub contour_room : (t : Table) → Sound t → (c : ℕ) → c < contour_count t
@@ -35,32 +28,6 @@ pub contour_room : (t : Table) → Sound t → (c : ℕ) → c < contour_count t
 contour_room t s c l = (omega (arith, s.long c l), omega (arith, s.within c l, s.whole), omega (arith, s.whole, s.few), s.grid)
 
 module _ (t : Table) (owner : List ℕ) (c : ℕ) where
-  pub missing_is : looked_up t owner c ≡ lookup.Missing → Missing ≡ reported t owner c
-  unfolding reported
-  missing_is e = rw e
-
-  pub measured_is : (r : ContourRecord) → looked_up t owner c ≡ lookup.Found r → measured (contour t c) ≡ reported t owner c
-  unfolding reported
-  measured_is r e = rw e
-
-  -- "given exactly when 01's lookup gives none"
-  pub missing_as_lookup : Iff (reported t owner c ≡ Missing) (looked_up t owner c ≡ lookup.Missing)
-  missing_as_lookup = record { to = λ h. go (looked_up t owner c) refl h; from = λ e. sym (missing_is e) }
-    where
-      go : (a : Lookup) → looked_up t owner c ≡ a → reported t owner c ≡ Missing → a ≡ lookup.Missing
-      go (lookup.Found r) e h = absurd (never (contour t c) (measured_is r e ∙ h))
-      go lookup.Missing e h = refl
-
-  -- what is answered has the values that are read off the table and the owners
-  pub reported_values_lem : values_of_report (reported t owner c) ≡ reported_values t owner c
-  unfolding reported reported_values
-  reported_values_lem =
-      go (looked_up t owner c) ∙ ap (λ (v : LookupValues). pick (eqb v.found 1) (values_of (contour t c)) no_values) (looked_up_values_lem t owner c)
-    where
-      go : (a : Lookup) → values_of_report (report_by a (contour t c)) ≡ pick (eqb (values_of_lookup a).found 1) (values_of (contour t c)) no_values
-      go (lookup.Found r) = refl
-      go lookup.Missing = refl
-
   -- ---- what was found
   module _ (r : ContourRecord) (e : looked_up t owner c ≡ lookup.Found r) where
     present : Present t owner c
@@ -87,9 +54,6 @@ module _ (t : Table) (owner : List ℕ) (c : ℕ) where
 
     pub room : (1 ≤ r.len) × ((r.first + r.len) * 2 ≤ length t.points) × (length t.points ≤ 2 * max_links) × (Grid t.points)
     room = let h = contour_room t sound c present.below in (omega (arith, len_is), omega (arith, first_is, len_is, h.1), h.2, h.3)
-
-    pub found_is : measured (take r.len (drop r.first (points_of t.points))) ≡ reported t owner c
-    found_is = ap₂ (λ n from. measured (take n (drop from (points_of t.points)))) len_is first_is ∙ measured_is r e
 
 -- ---- a contour of a sound table
 module _ (t : Table) (s : Sound t) (c : ℕ) (l : c < contour_count t) where

@@ -14,22 +14,7 @@ use Rattle.report.specs.declared.records.Report.TheVariants.{Missing}
 use Rattle.report.specs.Reports.{measured, report_by, reported}
 use Rattle.report.specs.declared.records.ReportValues.{ReportValues}
 use Rattle.report_all.specs.declared.records.Reports.TheVariants.{Filled, Refused}
-use Rattle.report_all.specs.Columns.{
-  Columns,
-  Room,
-  room_of,
-  entered,
-  entry_at,
-  missing_below,
-  Counted,
-  counted,
-  all_entered,
-  Reporting,
-  reporting,
-  reported_after,
-  reported_all,
-  report_at,
-}
+use Rattle.report_all.specs.Columns.{Columns, Room, room_of, entered, entry_at, Counted, counted, all_entered, reporting, reported_all, report_at}
 
 -- ---- one contour of a table that passes check 10
 pub report_at_is : (t : Table) (owner : List ℕ) (c shape hulls : ℕ) → Sound t → contour_count t ≤ length owner → c < contour_count t

@@ -8,7 +8,8 @@ use Rattle.turn.specs.Limits.{max_links}
 use Rattle.turn.specs.Points.{differ, Coord, OnGrid, Grid}
 use Rattle.turn.specs.declared.Checked.TheVariants.{Fine}
 use Rattle.turn.specs.Refusals.{refuses}
-use Rattle.table.specs.Table.{Table, point_count, point, contour_count, max_contours, first_of, len_of, range_end, kind_of, contour_of, next_in, previous_in, next}
+use Rattle.table.specs.Table.{Table, point_count, point, contour_count, max_contours, first_of, len_of, range_end, kind_of, contour_of, next_in}
+use Rattle.table.specs.Table.{previous_in, next}
 use Rattle.table.specs.TableChecks.{misfit, start_in, unended, bad_contour, table_checked}
 use Rattle.table.specs.TableLaws.{start_next, next_inside, next_last, previous_first, previous_inside}
 use Rattle.table.specs.Tests.{fitting, Ranged, Placed, contour_right}

@@ -1,0 +1,6 @@
+-- `misfit`: its test is the definition's.
+use mathlib.Core.Path.{refl}
+use Rattle.check_ranges.proofs.misfit.Goals as goal
+
+pub returns : goal.returns
+returns c = refl
