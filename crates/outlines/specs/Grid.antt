@@ -1,5 +1,5 @@
 -- The links of all walks are links of the graph, and the points of all contours are on the grid where the links' are.
-use Rattle.std.specs.Prelude.{ℕ, ◌+◌, ◌*◌, ◌≤◌, ◌<◌, ◌≡◌, refl, ◌⊎◌, length, set}
+use Rattle.std.specs.Prelude.{ℕ, ◌+◌, ◌*◌, ◌≤◌, ◌<◌, ◌≡◌, refl, length, set}
 use Rattle.std.proofs.Common.{arith, sym, ◌∙◌, subst, ⊎_elim, length-set}
 use mathlib.Core.List.Memᴰ
 use mathlib.Core.List.{List, [], ◌∷◌, ◌++◌, map, Memᴰ}

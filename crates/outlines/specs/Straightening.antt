@@ -1,7 +1,7 @@
 -- Where no contour has a spike, dropping points on a straight line leaves of each contour its corners, and leaves no contour out: so the pass of
 -- `straighten` over
 -- what extraction wrote comes to the definition.
-use Rattle.std.specs.Prelude.{ℕ, ◌+◌, ◌*◌, ◌≤◌, ◌≡◌, refl, true, List, [], ◌∷◌, ◌++◌, map, length, pos}
+use Rattle.std.specs.Prelude.{ℕ, ◌*◌, ◌≤◌, ◌≡◌, refl, true, List, [], ◌∷◌, ◌++◌, map, length, pos}
 use Rattle.std.proofs.Common.{arith, sym, ap, ap₂, ◌∙◌, subst, le-leb}
 use Rattle.std.proofs.lemmas.List.{length-map}
 use Rattle.laws.specs.Test.{pick, pick_true, pick_ind}

@@ -1,7 +1,7 @@
 -- Of a graph that passes checks 1 to 7 dropping points on a straight line leaves no contour out, and the points that go are exactly those that are straight
 -- in the
 -- full contour: so contours keep their numbers, their kinds, their order and their areas. A refusal is what it was.
-use Rattle.std.specs.Prelude.{ℕ, ◌≡◌, ◌⊎◌, Bool, length}
+use Rattle.std.specs.Prelude.{ℕ, ◌≡◌, Bool, length}
 use Rattle.std.proofs.Common.{arith, sym, ap, ap₂, ◌∙◌, subst, ⊎_elim}
 use Rattle.std.proofs.Math.Path.{refl}
 use mathlib.Core.List.Memᴰ
@@ -16,7 +16,7 @@ use Rattle.graph.specs.Graph.{Lent, Graph, graph_of}
 use Rattle.graph.specs.Checks.{Room, room, checked}
 use Rattle.walk.specs.Walk.{Walk, points}
 use Rattle.keep.specs.declared.Counts.{Counts}
-use Rattle.keep.specs.Outcome.{area_of, kept, kinds, counts_of}
+use Rattle.keep.specs.Outcome.{area_of, kept, counts_of}
 use Rattle.scan.specs.declared.Extraction.TheVariants.{Done, Refused}
 use Rattle.scan.specs.Scan.{Scanned, stopped, walks, scan}
 use Rattle.scan.specs.Visits.{scanned}

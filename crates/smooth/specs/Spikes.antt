@@ -1,7 +1,7 @@
 -- By check 7 no contour of a graph that passes its checks has a spike: where a walk goes on at a node, it does so along another link, and no two links run
 -- from a
 -- node in the same direction.
-use Rattle.std.specs.Prelude.{ℕ, ◌≤◌, ◌≡◌, refl, ◌⊎◌, Bool, true, false, length, set}
+use Rattle.std.specs.Prelude.{ℕ, ◌≤◌, ◌≡◌, refl, Bool, true, false, length, set}
 use Rattle.std.proofs.Common.{arith, sym, ap, ◌∙◌, subst, inl, inr, ⊎_elim}
 use mathlib.Core.List.Memᴰ
 use mathlib.Core.List.{List, [], ◌∷◌, map, Memᴰ}
@@ -13,10 +13,9 @@ use Rattle.turn.specs.Points.{from_to}
 use Rattle.turn.specs.Angle.{same_direction, nonzero}
 use Rattle.graph.specs.Graph.{Lent, Graph, graph_of}
 use Rattle.graph.specs.Checks.{Room, checked, away_from}
-use Rattle.walk.specs.Walk.{Step, Walk, left, points, marked, mark_of}
+use Rattle.walk.specs.Walk.{Step, Walk, left, marked, mark_of}
 use Rattle.walk.specs.States.{Unvisited, Mark, set_of}
 use Rattle.walk.specs.Visits.{Fresh, mark_of_lem}
-use Rattle.scan.specs.Scan.{walks}
 use Rattle.scan.specs.Visits.{AllFresh, scanned}
 use Rattle.tour.specs.Statement.{node_left, node_reached, Line, reached}
 use Rattle.tour.specs.Sums.{meet}

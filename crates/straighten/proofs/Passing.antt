@@ -84,7 +84,8 @@ module _ (l : List ℤ) (from size to : ℕ) where
     whole_is : 0 < size → whole ≡ rest (point_in l (end - 1)) home (from + 1)
     whole_is h = by size h refl
       where
-        by : (n : ℕ) → 0 < n → n ≡ size → all_corners (run l from n) ≡ corners (point_in l (from + n - 1)) home (home ∷ run l (from + 1) (from + n - (from + 1)))
+        by : (n : ℕ) → 0 < n → n ≡ size → all_corners (run l from n) ≡ corners (point_in l (from + n - 1)) home
+            (home ∷ run l (from + 1) (from + n - (from + 1)))
         by zero h e = absurd (nothing h)
           where
             nothing : 0 < 0 → ⊥
