@@ -8,7 +8,7 @@ use Rattle.std.specs.Prelude.{◌≡◌, Bool, List, ℤ, pos}
 use Rattle.std.proofs.Math.Path.{refl}
 use Rattle.std.proofs.Math.Bool.{true, false}
 use Rattle.std.specs.Int.Signed.{lt_z}
-use Rattle.laws.specs.Test.{pick, pick_ind, true≢false}
+use Rattle.laws.specs.Test.{pick_ind, true≢false}
 use Rattle.laws.specs.Sign.{Sgn, mns, zer, pls, sgn, flip, is_mns, sgn_neg, lt_z_sgn}
 use Rattle.turn.specs.declared.Point.{Point}
 use Rattle.turn.specs.declared.Vector.{Vector}

@@ -76,7 +76,8 @@ hull_two = pos 30 ∷ pos 10 ∷ pos 30 ∷ pos 0 ∷ pos 40 ∷ pos 0 ∷ pos 4
 
 touched : bound (table (hull_one ++ (touched_hole ++ hull_two)) (0 ∷ 4 ∷ 11 ∷ []) (4 ∷ 7 ∷ 4 ∷ []) (0 ∷ 1 ∷ 0 ∷ [])) false (7 ∷ 7 ∷ 7 ∷ [])
     ≡ outcome (Bound 2 0) (0 ∷ 0 ∷ 1 ∷ [])
-unfolding table_checked anchors_checked lowest count hole_before lowest_end lies_under wins_tie nearer edge kept offered keep nearest contour_under slot inserted
+unfolding table_checked anchors_checked lowest count hole_before lowest_end lies_under wins_tie nearer edge kept offered keep nearest contour_under slot
+    inserted
     sorted holes_below tabulate give_each owners_of
 touched = refl
 
@@ -87,6 +88,7 @@ pond = pos 4 ∷ pos 10 ∷ pos 7 ∷ pos 11 ∷ pos 7 ∷ pos 9 ∷ []
 
 touched_twice : bound (table (hull_two ++ (pond ++ (touched_hole ++ hull_one))) (0 ∷ 4 ∷ 7 ∷ 14 ∷ []) (4 ∷ 3 ∷ 7 ∷ 4 ∷ []) (0 ∷ 1 ∷ 1 ∷ 0 ∷ [])) false
     (7 ∷ 7 ∷ 7 ∷ 7 ∷ []) ≡ outcome (Bound 2 0) (0 ∷ 1 ∷ 1 ∷ 1 ∷ [])
-unfolding table_checked anchors_checked lowest count hole_before lowest_end lies_under wins_tie nearer edge kept offered keep nearest contour_under slot inserted
+unfolding table_checked anchors_checked lowest count hole_before lowest_end lies_under wins_tie nearer edge kept offered keep nearest contour_under slot
+    inserted
     sorted holes_below tabulate give_each owners_of
 touched_twice = refl

@@ -31,7 +31,8 @@ sum_same f h zero a = refl
 sum_same f h (suc n) a = ap₂ ◌+ℤ◌ (a 0 (omega arith)) (sum_same (λ c. f (suc c)) (λ c. h (suc c)) n (λ c l. a (suc c) (omega arith)))
 
 module _ (g : Graph) where
-  range : (ks : List Walk) (c : ℕ) → c < length ks → take (get_or (lens ks) c 0) (drop (get_or (firsts 0 (lens ks)) c 0) (all_points g ks)) ≡ points g (walk_at ks c)
+  range : (ks : List Walk) (c : ℕ) → c < length ks → take (get_or (lens ks) c 0) (drop (get_or (firsts 0 (lens ks)) c 0) (all_points g ks)) ≡ points g
+      (walk_at ks c)
   range [] c h = absurd (nothing c h)
     where
       nothing : (c : ℕ) → c < 0 → ⊥

@@ -12,8 +12,8 @@ use Rattle.turn.specs.declared.Checked.{Checked}
 use Rattle.graph.specs.Fine.{FineGraph, fine}
 use Rattle.next.specs.Next.{unvisited}
 use Rattle.keep.specs.declared.Counts.{Counts}
-use Rattle.scan.specs.declared.Extraction.TheVariants.{Done, Refused}
-use Rattle.walk.specs.Walk.{Step, Walk, left, points}
+use Rattle.scan.specs.declared.Extraction.TheVariants.{Done}
+use Rattle.walk.specs.Walk.{Step, Walk, left}
 use Rattle.scan.specs.Scan.{Scanned, stopped, walks, scan}
 use Rattle.keep.specs.Outcome.{kept, lens, firsts, kinds, all_points, coordinates, sum, counts_of}
 use Rattle.keep.specs.Ledger.{coordinates_length, all_points_length, firsts_length}
@@ -148,7 +148,8 @@ module _ (g : Lent) (top : List ℕ) (cw : Bool) (minimum : ℕ) (b b' : Buffers
       let d : c ≡ counts_of H minimum ws = cc in
       let n : c.contours ≡ length ks = ap (λ (x : Counts). x.contours) d in
       let m : c.points ≡ sum (lens ks) = ap (λ (x : Counts). x.points) d in
-      let ps : length (coordinates (all_points H ks)) ≡ c.points * 2 = coordinates_length (all_points H ks) ∙ ap (λ i. i * 2) (all_points_length H ks ∙ sym m) in
+      let ps : length (coordinates (all_points H ks)) ≡ c.points * 2 = coordinates_length (all_points H ks) ∙ ap (λ i. i * 2)
+      (all_points_length H ks ∙ sym m) in
       let p = ap (λ (x : Extracted). take (c.points * 2) x.lent.points) h ∙ take_at (coordinates (all_points H ks)) _ (c.points * 2) ps in
       let x = ap (λ (x : Extracted). take c.contours x.lent.first) h ∙ take_at (firsts 0 (lens ks)) _ c.contours
       (firsts_length 0 (lens ks) ∙ lens_length ks ∙ sym n) in

@@ -1,5 +1,5 @@
 -- The point at which a walk leads: the a of its first link is least among the walk's points and not before an earlier walk's; for a hole it is the anchor.
-use Rattle.std.specs.Prelude.{ℕ, zero, suc, ◌≤◌, ◌<◌, ◌≡◌, refl, ◌⊎◌, Bool, true, false, not, length, get_or, set}
+use Rattle.std.specs.Prelude.{ℕ, zero, suc, ◌≤◌, ◌<◌, ◌≡◌, refl, Bool, true, false, not, length, get_or, set}
 use Rattle.std.proofs.Common.{arith, sym, ap, ◌∙◌, subst, ⊎_elim}
 use Rattle.std.specs.Bool.{beq}
 use mathlib.Core.List.Memᴰ

@@ -90,7 +90,8 @@ module _ (g : Graph) where
       let n : ℕ = length w.steps in
       let e : get_or (firsts (0 + n) (lens ks)) c 0 + i ≡ length (points g w) + (get_or (firsts 0 (lens ks)) c 0 + i) =
       omega (arith, firsts_from (0 + n) (lens ks) c (rw (lens_length ks) (omega arith)), length-map w.steps (left g)) in
-      ap (λ p. get_or (points g w ++ all_points g ks) p origin) e ∙ get_or-append-add (points g w) (all_points g ks) (get_or (firsts 0 (lens ks)) c 0 + i) origin
+      ap (λ p. get_or (points g w ++ all_points g ks) p origin) e ∙ get_or-append-add (points g w) (all_points g ks) (get_or (firsts 0 (lens ks)) c 0 + i)
+      origin
       ∙ all_at ks c i (omega arith) l
 
   -- point i of contour c

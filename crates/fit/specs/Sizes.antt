@@ -14,7 +14,7 @@ use Rattle.turn.specs.declared.Checked.TheVariants.{Fine}
 use Rattle.graph.specs.Fine.{FineGraph, fine}
 use Rattle.walk.specs.Walk.{Step, Walk, left, points}
 use Rattle.scan.specs.Scan.{walks, scan}
-use Rattle.keep.specs.Outcome.{kept, lens, firsts, kinds, all_points, coordinates, sum}
+use Rattle.keep.specs.Outcome.{kept, lens, firsts, all_points, coordinates, sum}
 use Rattle.keep.specs.Ledger.{coordinates_length, all_points_length, firsts_length}
 use Rattle.scan.specs.Visits.{scanned}
 use Rattle.tour.specs.Statement.{Line}

@@ -7,7 +7,7 @@ use Rattle.std.proofs.Math.Bool.{true, false}
 use native.Mathlib.Omega.{arith}
 use Rattle.std.proofs.Math.Decide.{dec_le}
 use Rattle.laws.specs.Test.{pick, is_true, true_is, true≢false, not_true, and_true, pick_ind}
-use Rattle.table.specs.Table.{Table, point_count, contour_count, contour_of, next}
+use Rattle.table.specs.Table.{Table, point_count, contour_count, contour_of}
 use Rattle.table.specs.Passing.{located}
 use Rattle.table.specs.Sound.{Sound}
 use Rattle.anchor.specs.declared.Anchor.{Anchor}

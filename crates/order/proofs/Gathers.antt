@@ -77,51 +77,52 @@ module _ (t : Table) (cw : Bool) (who₀ : List ℕ) (h₀ : Anchors) (who : Lis
     };
   }
 
-  module _ (k : kind_of t c ≡ 1) (a : Anchor) (e : a ≡ anchor_edge t cw c) (r : Room who₀ h₀ (contour_count t)) (h' : Anchors) (q : h' ≡ with_anchor h m a) where
-    more : holes_below t (c + 1) ≡ holes_below t c ++ (c ∷ [])
-    more = holes_more t c (eq-eqb _ _ k)
+  module _ (k : kind_of t c ≡ 1) (a : Anchor) (e : a ≡ anchor_edge t cw c) (r : Room who₀ h₀ (contour_count t)) (h' : Anchors) (q : h' ≡ with_anchor h m a)
+    where
+      more : holes_below t (c + 1) ≡ holes_below t c ++ (c ∷ [])
+      more = holes_more t c (eq-eqb _ _ k)
 
-    old_at : (j : ℕ) → j < m → get_or (holes_below t (c + 1)) j 0 ≡ get_or (holes_below t c) j 0
-    old_at j i = rw more (get_or-append (holes_below t c) (c ∷ []) 0 j (omega (arith, g.into.found.all)))
+      old_at : (j : ℕ) → j < m → get_or (holes_below t (c + 1)) j 0 ≡ get_or (holes_below t c) j 0
+      old_at j i = rw more (get_or-append (holes_below t c) (c ∷ []) 0 j (omega (arith, g.into.found.all)))
 
-    new_at : get_or (holes_below t (c + 1)) m 0 ≡ c
-    new_at = rw more (get_or_at (holes_below t c) c [] 0 m (sym g.into.found.all))
+      new_at : get_or (holes_below t (c + 1)) m 0 ≡ c
+      new_at = rw more (get_or_at (holes_below t c) c [] 0 m (sym g.into.found.all))
 
-    who_next : (j : ℕ) → j < m + 1 → Dec (j ≡ m) → get_or (set who m c) j 0 ≡ get_or (holes_below t (c + 1)) j 0
-    who_next j i (yes z) = rw z (get_or-set_same who m c 0 (omega (arith, g.into.who_kept.len, g.few, r.who_room)) ∙ sym new_at)
-    who_next j i (no z) = get_or-set_other who m j c 0 z ∙ g.into.found.who_is j (omega arith) ∙ sym (old_at j (omega arith))
+      who_next : (j : ℕ) → j < m + 1 → Dec (j ≡ m) → get_or (set who m c) j 0 ≡ get_or (holes_below t (c + 1)) j 0
+      who_next j i (yes z) = rw z (get_or-set_same who m c 0 (omega (arith, g.into.who_kept.len, g.few, r.who_room)) ∙ sym new_at)
+      who_next j i (no z) = get_or-set_other who m j c 0 z ∙ g.into.found.who_is j (omega arith) ∙ sym (old_at j (omega arith))
 
-    at_next : (j : ℕ) → j < m + 1 → Dec (j ≡ m) → listed_anchor h' j ≡ anchor_edge t cw (get_or (holes_below t (c + 1)) j 0)
-    at_next j i (yes z) =
-        ap (λ (w : Anchors). listed_anchor w j) q ∙ ap (listed_anchor (with_anchor h m a)) z
-        ∙ anchor_here h m a (gather_room r.anchor_room)
-        ∙ e ∙ ap (anchor_edge t cw) (sym new_at ∙ ap (λ (w : ℕ). get_or (holes_below t (c + 1)) w 0) (sym z))
-    at_next j i (no z) =
-        ap (λ (w : Anchors). listed_anchor w j) q ∙ anchor_other h m a j z ∙ g.into.found.at j (omega arith)
-        ∙ ap (anchor_edge t cw) (sym (old_at j (omega arith)))
+      at_next : (j : ℕ) → j < m + 1 → Dec (j ≡ m) → listed_anchor h' j ≡ anchor_edge t cw (get_or (holes_below t (c + 1)) j 0)
+      at_next j i (yes z) =
+          ap (λ (w : Anchors). listed_anchor w j) q ∙ ap (listed_anchor (with_anchor h m a)) z
+          ∙ anchor_here h m a (gather_room r.anchor_room)
+          ∙ e ∙ ap (anchor_edge t cw) (sym new_at ∙ ap (λ (w : ℕ). get_or (holes_below t (c + 1)) w 0) (sym z))
+      at_next j i (no z) =
+          ap (λ (w : Anchors). listed_anchor w j) q ∙ anchor_other h m a j z ∙ g.into.found.at j (omega arith)
+          ∙ ap (anchor_edge t cw) (sym (old_at j (omega arith)))
 
-    pub gather_more : Gathering t cw who₀ h₀ (set who m c) h' (m + 1) (c + 1)
-    gather_more = record {
-      on = omega arith;
-      few = omega (arith, g.few);
-      into = record {
-        found = record {
-          all = ap (λ (w : ℕ). w + 1) g.into.found.all ∙ sym (ap length more ∙ length-append (holes_below t c) (c ∷ []));
-          who_is = λ j i. who_next j i (ℕ_discrete j m);
-          at = λ j i. at_next j i (ℕ_discrete j m);
+      pub gather_more : Gathering t cw who₀ h₀ (set who m c) h' (m + 1) (c + 1)
+      gather_more = record {
+        on = omega arith;
+        few = omega (arith, g.few);
+        into = record {
+          found = record {
+            all = ap (λ (w : ℕ). w + 1) g.into.found.all ∙ sym (ap length more ∙ length-append (holes_below t c) (c ∷ []));
+            who_is = λ j i. who_next j i (ℕ_discrete j m);
+            at = λ j i. at_next j i (ℕ_discrete j m);
+          };
+          who_kept = kept_set 0 m who₀ who g.into.who_kept c;
+          anchors_kept = rw q (record {
+            x = kept_set (pos 0) m h₀.x h.x k₀.x a.at.x;
+            y = kept_set (pos 0) m h₀.y h.y k₀.y a.at.y;
+            to_x = kept_set (pos 0) m h₀.to_x h.to_x k₀.to_x a.to.x;
+            to_y = kept_set (pos 0) m h₀.to_y h.to_y k₀.to_y a.to.y;
+          });
         };
-        who_kept = kept_set 0 m who₀ who g.into.who_kept c;
-        anchors_kept = rw q (record {
-          x = kept_set (pos 0) m h₀.x h.x k₀.x a.at.x;
-          y = kept_set (pos 0) m h₀.y h.y k₀.y a.at.y;
-          to_x = kept_set (pos 0) m h₀.to_x h.to_x k₀.to_x a.to.x;
-          to_y = kept_set (pos 0) m h₀.to_y h.to_y k₀.to_y a.to.y;
-        });
-      };
-    }
-      where
-        k₀ : AnchorsKept m h₀ h
-        k₀ = g.into.anchors_kept
+      }
+        where
+          k₀ : AnchorsKept m h₀ h
+          k₀ = g.into.anchors_kept
 
 pub gather_end : (t : Table) (cw : Bool) (who₀ : List ℕ) (h₀ : Anchors) (who : List ℕ) (h : Anchors) (m c : ℕ) → Gathering t cw who₀ h₀ who h m c
     → contour_count t ≤ c → GatheredInto t cw (contour_count t) m who₀ h₀ who h

@@ -1,7 +1,8 @@
 -- Insertion into a list and the order that it makes: an order holds what was put in, each as often, and is in order
 -- where `first` is a strict order.
 use Rattle.std.specs.Prelude.{ℕ, zero, suc, ◌+◌, ◌-◌, ◌≤◌, ◌<◌, ◌≡◌, refl, Bool, true, false, List, [], ◌∷◌, eqb, length, get_or, take, drop}
-use Rattle.std.proofs.Common.{sym, ap, ◌∙◌, subst, arith, not-suc-le-zero, length-append, length-drop, take-append-drop, length-take-le, get_or-take, get_or-drop, get_or-append-add, take-suc}
+use Rattle.std.proofs.Common.{sym, ap, ◌∙◌, subst, arith, not-suc-le-zero, length-append, length-drop, take-append-drop, length-take-le, get_or-take}
+use Rattle.std.proofs.Common.{get_or-drop, get_or-append-add, take-suc}
 use Rattle.std.proofs.Math.Decide.{dec_le, ℕ_discrete}
 use Rattle.std.proofs.Math.ListN.{get_or-append}
 use Rattle.std.proofs.lemmas.List.{get_or_at}
@@ -130,7 +131,8 @@ entries P first f (suc n) h i l =
     s : Inserted (sorted first f n) (sorted first f (suc n)) n (slot_in first f n) (f n)
     s = sorted_more first f n
 
-    go : Dec (i < slot_in first f n) → Dec (i ≡ slot_in first f n) → ((k : ℕ) → k < n → P (get_or (sorted first f n) k 0)) → P (get_or (sorted first f (suc n)) i 0)
+    go : Dec (i < slot_in first f n) → Dec (i ≡ slot_in first f n) → ((k : ℕ) → k < n → P (get_or (sorted first f n) k 0)) → P
+        (get_or (sorted first f (suc n)) i 0)
     go (yes k) d r = subst P (sym (s.below i k)) (r i (omega (arith, s.within)))
     go (no k) (yes q) r = subst P (sym s.here ∙ ap (λ (j : ℕ). get_or (sorted first f (suc n)) j 0) (sym q)) (h n (omega arith))
     go (no k) (no q) r =

@@ -4,7 +4,7 @@
 use Prim.Native.Nat.{ℕ, zero, suc, ◌+◌, ◌-◌, ◌<◌}
 use native.Mathlib.Omega.{arith}
 use Rattle.std.proofs.Math.Decide.{dec_le, ℕ_discrete}
-use Rattle.std.specs.Prelude.{◌≡◌, refl, ◌⊎◌, true, false, List, length, get_or, eqb}
+use Rattle.std.specs.Prelude.{◌≡◌, refl, ◌⊎◌, true, List, length, get_or, eqb}
 use Rattle.std.proofs.Common.{sym, ap, ◌∙◌, inl, inr, eq-eqb, ne_eqb, eqb-true, lt-ltb}
 use Rattle.std.proofs.Math.Path.{subst}
 use Rattle.std.proofs.Math.Bool.{Bool}
@@ -12,7 +12,7 @@ use Rattle.laws.specs.Test.{pick, true≢false}
 use Rattle.laws.specs.Lists.{tabulate, tabulate_length, tabulate_at, Place, place_of}
 use Rattle.laws.specs.Lowest.{lowest}
 use Rattle.laws.specs.Count.{count, counted_in}
-use Rattle.table.specs.Table.{Table, point_count, contour_count, kind_of, is_hole, hulls, dropped_owner}
+use Rattle.table.specs.Table.{Table, point_count, contour_count, kind_of, is_hole, dropped_owner}
 use Rattle.table.specs.Sound.{Sound}
 use Rattle.table.specs.TableLaws.{hulls_few}
 use Rattle.table.specs.Passing.{located, contours_few}

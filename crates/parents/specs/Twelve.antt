@@ -28,7 +28,6 @@ use Rattle.order.specs.OrderLaws.{strict, precedes_itself, in_order}
 use Rattle.owners.specs.declared.Given.{Given}
 use Rattle.owners.specs.declared.Given.TheVariants.{All, Stuck}
 use Rattle.owners.specs.Owners.{with_fill_above, every_contour, contour_below, given_number, given_place, owned, searched_owners, owners_of}
-use Rattle.bind.specs.declared.Binding.{Binding}
 use Rattle.bind.specs.declared.Binding.TheVariants.{Refused}
 use Rattle.bind.specs.Outcome.{binding_number, binding_place, handed_by, bound_after, bound}
 use Rattle.parents.specs.Waiting.{bare}

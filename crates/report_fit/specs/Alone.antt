@@ -1,5 +1,5 @@
 -- A contour lent by itself, as a table of one hull with owner 0, is reported: one of a table that passes check 10, with its straight points or without.
-use Rattle.std.specs.Prelude.{ℕ, zero, suc, ◌+◌, ◌*◌, ◌-◌, ◌≤◌, ◌<◌, ◌≡◌, Bool, true, false, ℤ, pos, length, get_or, take, drop}
+use Rattle.std.specs.Prelude.{ℕ, zero, suc, ◌+◌, ◌≤◌, ◌<◌, ◌≡◌, Bool, true, false, ℤ, pos, length, get_or, take, drop}
 use Rattle.std.proofs.Common.{arith, not-suc-le-zero, add-one, ap₂, ◌∙◌, subst, ⊎_elim, length-take, length-drop, le-ltb, take_all, get_or-take, get_or-drop}
 use Rattle.std.proofs.Math.Decide.{ℕ_discrete}
 use Rattle.std.proofs.Math.Path.{refl, sym, ap}
@@ -38,7 +38,8 @@ use Rattle.table.specs.Passing.{passes_sound}
 use Rattle.lookup.specs.LookupLaws.{found_record_lem}
 use Rattle.report.specs.Reports.{measured, reported}
 use Rattle.extent.specs.Parts.{points_at, points_many}
-use Rattle.report.specs.ReportLaws.{measured_is, points_few, on_grid}
+use Rattle.report.proofs.Reported.{measured_is}
+use Rattle.report.specs.ReportLaws.{points_few, on_grid}
 use Rattle.straight.specs.Straight.{on_line, head_or, last_or, without, remove_lowest, removal, removals, drop_straight}
 use Rattle.straight.specs.Corners.{Spikeless, corners, all_corners, corners_left, corners_few, enough}
 

@@ -19,7 +19,7 @@ use Rattle.fit.specs.Fit.{written_table}
 use Rattle.fit.specs.Found.{every_found}
 use Rattle.fit.specs.Enclosed.{sum_to, sum_same, kept_enclosed}
 use Rattle.report.specs.Reports.{measured, reported}
-use Rattle.report.specs.ReportLaws.{measured_is}
+use Rattle.report.proofs.Reported.{measured_is}
 use Rattle.report_all.specs.Columns.{is_missing, missing_below}
 
 -- the whole doubled area behind a report; none is behind one that is missing
