@@ -11,7 +11,6 @@ use Rattle.graph.specs.Checks.{checked, room}
 use Rattle.turn.specs.declared.Checked.{Checked}
 use Rattle.turn.specs.declared.Checked.TheVariants as check
 use Rattle.scan.specs.declared.Extraction.{Extraction}
-use Rattle.scan.specs.declared.Extraction.TheVariants.{Refused}
 use Rattle.walk.specs.Walk.{Walk}
 use Rattle.writing.specs.Cuts.{cut}
 use Rattle.answer_graph.specs.GraphText.{lent_table, extracted_text, extracted_states}

@@ -10,7 +10,7 @@ use Rattle.laws.specs.Lists.{over_front}
 use Rattle.laws.specs.Test.{pick_ind}
 use Rattle.turn.specs.declared.Checked.{Checked}
 use Rattle.turn.specs.declared.Checked.TheVariants.{Fine, Refused as AtFault}
-use Rattle.table.specs.Table.{Table, contour_count, max_contours, hulls, hull_count}
+use Rattle.table.specs.Table.{Table, contour_count, max_contours, hull_count}
 use Rattle.table.specs.TableChecks.{table_checked}
 use Rattle.table.specs.TableLaws.{hulls_few}
 use Rattle.turn.specs.Refusals.{first_fine}

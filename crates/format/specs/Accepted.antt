@@ -1,6 +1,7 @@
 -- Only such files are accepted: a file whose form is right is its settings, its links and its nodes, record after record, and nothing else.
-use Rattle.std.specs.Prelude.{ℕ, ◌+◌, ◌-◌, ◌*◌, ◌/◌, ◌%◌, ◌≤◌, ◌<◌, ◌≡◌, refl, true, List, [], ◌∷◌, ◌++◌, eqb, leb, length, get_or, drop}
-use Rattle.std.proofs.Common.{sym, ap, ap₂, ◌∙◌, append_assoc, append-nil, add-one, arith, eqb-true, leb-true, take-append-drop, length-take, length-drop, drop_of_length-le, drop-cons, drop-drop}
+use Rattle.std.specs.Prelude.{ℕ, ◌+◌, ◌*◌, ◌/◌, ◌%◌, ◌≤◌, ◌<◌, ◌≡◌, refl, true, List, [], ◌∷◌, ◌++◌, eqb, leb, length, get_or, drop}
+use Rattle.std.proofs.Common.{sym, ap, ap₂, ◌∙◌, append_assoc, append-nil, add-one, arith, eqb-true, leb-true, take-append-drop, length-take, length-drop}
+use Rattle.std.proofs.Common.{drop_of_length-le, drop-cons, drop-drop}
 use Rattle.laws.specs.Test.{and_true}
 use Rattle.format_numbers.specs.Bytes.{u16_at, u32_at}
 use Rattle.format_records.specs.Records.{length_at, kind_at, body_at, record_end, run_to, past, settings_right, form, form_of}
@@ -37,7 +38,8 @@ module _ (s : List ℕ) (bytes : Bytes s) (at : ℕ) where
   byte i j e h = drop-cons s i 0 h ∙ ap (λ k. get_or s i 0 ∷ drop k s) (sym (e ∙ add-one i))
 
   head_bytes : at + 6 ≤ length s
-      → drop at s ≡ get_or s at 0 ∷ get_or s (at + 1) 0 ∷ get_or s (at + 2) 0 ∷ get_or s (at + 2 + 1) 0 ∷ get_or s (at + 4) 0 ∷ get_or s (at + 4 + 1) 0 ∷ drop (at + 6) s
+      → drop at s ≡ get_or s at 0 ∷ get_or s (at + 1) 0 ∷ get_or s (at + 2) 0 ∷ get_or s (at + 2 + 1) 0 ∷ get_or s (at + 4) 0 ∷ get_or s (at + 4 + 1) 0 ∷
+      drop (at + 6) s
   head_bytes h =
       byte at (at + 1) refl (omega arith)
       ∙ ap (λ (t : List ℕ). get_or s at 0 ∷ t) (byte (at + 1) (at + 2) (omega arith) (omega arith)

@@ -126,7 +126,8 @@ module _ (kind : ℕ) (k : kind < 65536) (s : List ℕ) (place : ℕ) (stop : (r
 -- ---- the form
 
 -- the nodes' first record does not belong to the links
-not_a_link : (before : List ℕ) (ns : List (List ℕ)) → HeadsRight 2 0 0 ns → (r : Run) → r.at ≡ length before → step_at 1 (before ++ records_bytes 2 ns) r ≡ Other
+not_a_link : (before : List ℕ) (ns : List (List ℕ)) → HeadsRight 2 0 0 ns → (r : Run) → r.at ≡ length before → step_at 1 (before ++ records_bytes 2 ns) r ≡
+    Other
 unfolding records_bytes
 not_a_link before [] g r p = step_cut 1 (before ++ []) r (omega (arith, length-append before []))
 not_a_link before (b ∷ bs) g r p =

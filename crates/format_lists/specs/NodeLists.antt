@@ -15,4 +15,5 @@ starts_from s (suc m) at e = e ∷ starts_from s m (record_end s at) (e + length
 unfoldable pub NodesStand : List ℕ → ℕ → ℕ → ℕ → ℕ → Type 0
 NodesStand s room zero at e = e ≤ room
 NodesStand s room (suc m) at e =
-    (record_end s at ≤ length s) × ((length_at s at % 2 ≡ 0) × ((e + length_at s at / 2 ≤ room) × NodesStand s room m (record_end s at) (e + length_at s at / 2)))
+    (record_end s at ≤ length s) × ((length_at s at % 2 ≡ 0) × ((e + length_at s at / 2 ≤ room) × NodesStand s room m (record_end s at)
+    (e + length_at s at / 2)))

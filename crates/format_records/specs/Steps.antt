@@ -94,7 +94,8 @@ link_zero count len h =
 pub node_zero : (count size len : ℕ) → node_number count size len ≡ 0 → (len % 2 ≡ 0) × (count < max_nodes) × (size + len ≤ 2 * max_entries)
 node_zero count size len h =
     let p = choice_zero (eqb (len % 2) 0) (pick (ltb count max_nodes && leb (size + len) (2 * max_entries)) 0 5) h in
-    let q = and_true (ltb count max_nodes) (leb (size + len) (2 * max_entries)) (limit_zero (ltb count max_nodes && leb (size + len) (2 * max_entries)) 4 p.1) in
+    let q = and_true (ltb count max_nodes) (leb (size + len) (2 * max_entries)) (limit_zero (ltb count max_nodes && leb (size + len) (2 * max_entries)) 4
+    p.1) in
     (eqb-true (len % 2) 0 p.0, ltb-true count max_nodes q.0, leb-true (size + len) (2 * max_entries) q.1)
 
 -- a run of either kind has at most 4,096 records

@@ -1,5 +1,5 @@
 -- How long the texts are.
-use Prim.Native.Nat.{ℕ, zero, suc, ◌+◌, ◌-◌, ◌*◌, ◌^◌, ◌≤◌, ◌<◌}
+use Prim.Native.Nat.{ℕ, zero, suc, ◌+◌, ◌*◌, ◌^◌, ◌≤◌, ◌<◌}
 use Rattle.std.specs.Prelude.{◌≡◌, refl, List, ◌++◌, eqb, ℤ, pos, negsuc, nat_abs, length}
 use native.Mathlib.Omega.{arith}
 use Rattle.std.proofs.Math.ListN.{get_or}
@@ -51,7 +51,12 @@ line_short : (number kind owner len : ℕ) → number < 10000 → owner < 65536 
 unfolding contour_line
 line_short number kind owner len a b c =
     both (decimal number) _ 4 20 (short 3 number (omega arith) (omega arith))
-    (both (said (role_text kind owner) owner) _ 14 6 (omega (arith, said_short (role_text kind owner) 4 owner (omega arith) (omega arith), role_short kind owner))
+    (both (said (role_text kind owner) owner) _ 14 6 (omega (
+      arith,
+      said_short (role_text kind owner) 4 owner (omega arith) (omega arith),
+      role_short kind
+          owner,
+    ))
     (both (said (text " ") len) (text "\n") 5 1 (said_short (text " ") 3 len (omega arith) (omega arith)) (omega arith)))
 
 signed_short : (x : ℤ) → nat_abs x ≤ max_coordinate → length (decimal_z x) ≤ 7

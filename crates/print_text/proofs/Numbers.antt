@@ -1,5 +1,5 @@
 -- The digits one by one, and the sign.
-use Prim.Native.Nat.{ℕ, ◌+◌, ◌-◌, ◌/◌, ◌%◌, ◌^◌, ◌≤◌, ◌<◌}
+use Prim.Native.Nat.{ℕ, ◌+◌, ◌/◌, ◌%◌, ◌^◌, ◌≤◌, ◌<◌}
 use mathlib.Core.Path.{◌≡◌, refl, sym, ap, ◌∙◌, subst}
 use mathlib.Core.Bool.{true, false}
 use mathlib.Core.List.{List, [], ◌∷◌, ◌++◌}
@@ -62,7 +62,8 @@ module _ (x : ℤ) (f : SFits w32 x) where
   pub fits64 : SFits w64 (to_z w32 (of_z w32 x))
   fits64 = rw same32 (record { sfits = omega (arith, f.sfits) })
 
-  module _ (n : ℕ) (size : n ≡ nat_abs (to_z w64 (of_z w64 (to_z w32 (of_z w32 x))))) (old : List ℕ) (at : ℕ) (room : at + length (decimal_z x) ≤ length old) where
+  module _ (n : ℕ) (size : n ≡ nat_abs (to_z w64 (of_z w64 (to_z w32 (of_z w32 x))))) (old : List ℕ) (at : ℕ)
+      (room : at + length (decimal_z x) ≤ length old) where
     size_is : n ≡ nat_abs x
     size_is = size ∙ ap nat_abs (to_z-of_z w64 (to_z w32 (of_z w32 x)) fits64 ∙ same32)
 

@@ -1,7 +1,6 @@
 -- `format_fill::fill_i32` meets its contract.
 use mir.Syntax.{w32}
 use mir.ValLaws.{to_z-of_z}
-use Prim.Native.Nat.{◌-◌}
 use mathlib.Core.Path.{sym, ap, ◌∙◌}
 use native.Mathlib.Omega.{arith}
 use Rattle.format_numbers.specs.Bytes.{signed}

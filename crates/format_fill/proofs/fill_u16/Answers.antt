@@ -1,8 +1,6 @@
 -- `format_fill::fill_u16` meets its contract.
-use Prim.Native.Nat.{◌-◌}
 use mathlib.Core.Path.{refl}
 use native.Mathlib.Omega.{arith}
-use Rattle.format_numbers.specs.Bytes.{u16_at}
 use Rattle.format_fill.proofs.Fill.{filling_first, filling_next, filling_last}
 use Rattle.format_fill.proofs.fill_u16.Goals as goal
 

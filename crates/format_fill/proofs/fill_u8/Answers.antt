@@ -1,6 +1,5 @@
 -- `format_fill::fill_u8` meets its contract.
 use native.Mathlib.Nat.{zero-add}
-use Prim.Native.Nat.{◌-◌}
 use mathlib.Core.Path.{refl, sym}
 use native.Mathlib.Omega.{arith}
 use Rattle.format_fill.proofs.Fill.{filling_first, filling_next, filling_last}

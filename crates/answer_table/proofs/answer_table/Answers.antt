@@ -1,0 +1,26 @@
+-- `answer_table::answer_table` meets its contract: binding, then printing.
+use mathlib.Core.Path.{refl}
+use Rattle.table.specs.Table.{Table, table}
+use Rattle.answer_table.proofs.Prints.{printable, bound_text_lem}
+use Rattle.writing.specs.Write.{wrote_as}
+use Rattle.answer_table.proofs.answer_table.Goals as goal
+
+pub write_answer-requires : goal.write_answer-requires
+write_answer-requires c =
+    let t : Table = table c.args.points.now c.args.first.now c.args.len.now c.args.kind.now in
+    let s = c in record {
+      fact = printable t s.args.clockwise c.in-Bound.ensures refl;
+      answer_bytes_in_bounds = s.requires;
+    }
+
+pub returns-in-Refused : goal.returns-in-Refused
+returns-in-Refused c =
+    let t : Table = table c.args.points.now c.args.first.now c.args.len.now c.args.kind.now in
+    let s = c in
+    wrote_as (bound_text_lem t s.args.clockwise c.in-Refused.ensures _ refl) c.write_refusal.ensures.write_refusal_says
+
+pub returns-in-Bound : goal.returns-in-Bound
+returns-in-Bound c =
+    let t : Table = table c.args.points.now c.args.first.now c.args.len.now c.args.kind.now in
+    let s = c in
+    wrote_as (bound_text_lem t s.args.clockwise c.in-Bound.ensures _ refl) c.write_answer.ensures.fact_2
