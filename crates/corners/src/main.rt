@@ -4,141 +4,147 @@
 ghost use Rattle.std.specs.Prelude.{◌≤◌};
 ghost use Rattle.turn.specs.Points.{Coord, Short};
 
+use std::io::Write;
+use std::rt::Stdout;
 use turn::{Point, Vector};
 
-fn say(n: u64) {
-    io::write_all(1, b" ");
-    io::print_decimal(1, n);
+// What cannot be written is left out: no line depends on it.
+fn put(mut out: Stdout, bytes: &[u8]) {
+    let _ = out.write_all(bytes);
+}
+
+fn say(mut out: Stdout, n: u64) {
+    let _ = write!(out, " {n}");
 }
 
 // The absolute value and the minimum given; whether it is kept at minimum 0, 1, this one, 2^63 - 1, 2^63 and 2^64 - 1, and with 2 points.
-fn size(area: i64, minimum: u64) {
-    io::write_all(1, b"\nsize");
-    say(turn::absolute(area));
-    say(minimum);
-    say(size::is_kept(18446744073709551615, area, 0) as u64);
-    say(size::is_kept(3, area, 1) as u64);
-    say(size::is_kept(3, area, minimum) as u64);
-    say(size::is_kept(3, area, 9223372036854775807) as u64);
-    say(size::is_kept(3, area, 9223372036854775808) as u64);
-    say(size::is_kept(3, area, 18446744073709551615) as u64);
-    say(size::is_kept(2, area, 0) as u64);
+fn size(out: Stdout, area: i64, minimum: u64) {
+    put(out, b"\nsize");
+    say(out, turn::absolute(area));
+    say(out, minimum);
+    say(out, size::is_kept(18446744073709551615, area, 0) as u64);
+    say(out, size::is_kept(3, area, 1) as u64);
+    say(out, size::is_kept(3, area, minimum) as u64);
+    say(out, size::is_kept(3, area, 9223372036854775807) as u64);
+    say(out, size::is_kept(3, area, 9223372036854775808) as u64);
+    say(out, size::is_kept(3, area, 18446744073709551615) as u64);
+    say(out, size::is_kept(2, area, 0) as u64);
 }
 
 // Whether p is before q, q before p, and whether they differ.
-fn order(px: i32, py: i32, qx: i32, qy: i32) {
+fn order(out: Stdout, px: i32, py: i32, qx: i32, qy: i32) {
     let p = Point { x: px, y: py };
     let q = Point { x: qx, y: qy };
-    io::write_all(1, b"\norder");
-    say(turn::before(p, q) as u64);
-    say(turn::before(q, p) as u64);
-    say(turn::differ(p, q) as u64);
+    put(out, b"\norder");
+    say(out, turn::before(p, q) as u64);
+    say(out, turn::before(q, p) as u64);
+    say(out, turn::differ(p, q) as u64);
 }
 
 // Whether a coordinate is outside, and points that have it.
-fn bound(z: i32) {
-    io::write_all(1, b"\nbound");
-    say(turn::outside(z) as u64);
-    say(turn::off_grid(Point { x: z, y: 0 }) as u64);
-    say(turn::off_grid(Point { x: 0, y: z }) as u64);
+fn bound(out: Stdout, z: i32) {
+    put(out, b"\nbound");
+    say(out, turn::outside(z) as u64);
+    say(out, turn::off_grid(Point { x: z, y: 0 }) as u64);
+    say(out, turn::off_grid(Point { x: 0, y: z }) as u64);
 }
 
 // The size of the turn of a, b, c, and whether it is strictly clockwise; then whether that of a, c, b is.
-fn turning(ax: i32, ay: i32, bx: i32, by: i32, cx: i32, cy: i32)
+fn turning(out: Stdout, ax: i32, ay: i32, bx: i32, by: i32, cx: i32, cy: i32)
     requires { (Coord ax) × (Coord ay) × (Coord bx) × (Coord by) × (Coord cx) × (Coord cy) }
 {
     let a = Point { x: ax, y: ay };
     let b = Point { x: bx, y: by };
     let c = Point { x: cx, y: cy };
-    io::write_all(1, b"\nturn");
-    say(turn::absolute(turn::turn_of(a, b, c)));
-    say(turn::clockwise(a, b, c) as u64);
-    say(turn::clockwise(a, c, b) as u64);
+    put(out, b"\nturn");
+    say(out, turn::absolute(turn::turn_of(a, b, c)));
+    say(out, turn::clockwise(a, b, c) as u64);
+    say(out, turn::clockwise(a, c, b) as u64);
 }
 
 // The size of the doubled area of the first numbers of a box's points, and whether it is below 0: it is where the west is east of the east.
-fn area(west: i32, south: i32, east: i32, north: i32, count: usize)
+fn area(out: Stdout, west: i32, south: i32, east: i32, north: i32, count: usize)
     requires { (Coord west) × (Coord south) × (Coord east) × (Coord north) × (count ≤ 8) }
 {
     let points = [west, south, east, south, east, north, west, north];
     let doubled = turn::doubled_area(&points[..count]);
-    io::write_all(1, b"\narea");
-    say(turn::absolute(doubled));
-    say((doubled < 0) as u64);
+    put(out, b"\narea");
+    say(out, turn::absolute(doubled));
+    say(out, (doubled < 0) as u64);
 }
 
 // The size of the cross product of u and v, whether it is below 0, and whether they have one direction.
-fn product(u: Vector, v: Vector)
+fn product(out: Stdout, u: Vector, v: Vector)
     requires { (Short u) × (Short v) }
 {
     let c = turn::cross_product(u, v);
-    io::write_all(1, b"\nproduct");
-    say(turn::absolute(c));
-    say((c < 0) as u64);
-    say(turn::same_direction(u, v) as u64);
+    put(out, b"\nproduct");
+    say(out, turn::absolute(c));
+    say(out, (c < 0) as u64);
+    say(out, turn::same_direction(u, v) as u64);
 }
 
 // Areas at 0, odd, about a minimum, and at both ends of 64 bits; and a minimum whose doubling would wrap to the area.
-fn sizes() {
-    size(0, 0);
-    size(1, 1);
-    size(-1, 1);
-    size(2, 1);
-    size(-3, 2);
-    size(33, 16);
-    size(-33, 17);
-    size(9223372036854775807, 4611686018427387903);
-    size(9223372036854775807, 4611686018427387904);
-    size(-9223372036854775807, 4611686018427387904);
-    size(-9223372036854775808, 4611686018427387904);
-    size(-9223372036854775808, 4611686018427387905);
-    size(32, 9223372036854775824);
+fn sizes(out: Stdout) {
+    size(out, 0, 0);
+    size(out, 1, 1);
+    size(out, -1, 1);
+    size(out, 2, 1);
+    size(out, -3, 2);
+    size(out, 33, 16);
+    size(out, -33, 17);
+    size(out, 9223372036854775807, 4611686018427387903);
+    size(out, 9223372036854775807, 4611686018427387904);
+    size(out, -9223372036854775807, 4611686018427387904);
+    size(out, -9223372036854775808, 4611686018427387904);
+    size(out, -9223372036854775808, 4611686018427387905);
+    size(out, 32, 9223372036854775824);
 }
 
 // Points and coordinates about 0, at the bounds of the grid, and at both ends of 32 bits.
-fn places() {
-    order(0, 0, 0, 0);
-    order(0, 0, 0, 1);
-    order(0, 5, 1, -5);
-    order(-2147483648, 2147483647, 2147483647, -2147483648);
-    order(-2147483648, 2147483647, -2147483648, 2147483647);
-    bound(-2147483648);
-    bound(-524289);
-    bound(-524288);
-    bound(0);
-    bound(524288);
-    bound(524289);
-    bound(2147483647);
+fn places(out: Stdout) {
+    order(out, 0, 0, 0, 0);
+    order(out, 0, 0, 0, 1);
+    order(out, 0, 5, 1, -5);
+    order(out, -2147483648, 2147483647, 2147483647, -2147483648);
+    order(out, -2147483648, 2147483647, -2147483648, 2147483647);
+    bound(out, -2147483648);
+    bound(out, -524289);
+    bound(out, -524288);
+    bound(out, 0);
+    bound(out, 524288);
+    bound(out, 524289);
+    bound(out, 2147483647);
 }
 
 // Turns either way, straight on, of points that are one, and at the corners of the grid.
-fn turns() {
-    turning(0, 0, 1, 0, 1, 1);
-    turning(0, 0, 1, 1, 2, 2);
-    turning(0, 0, 0, 0, 5, 7);
-    turning(524288, 524288, 524288, 524288, 524288, 524288);
-    turning(-524288, -524288, 524288, -524288, 524288, 524288);
-    turning(-524288, -524288, 524288, 524288, 524287, 524287);
-    turning(-524288, -524288, 524288, 524288, 524287, 524288);
-    turning(-524288, -524288, 524288, 524288, 524288, 524287);
+fn turns(out: Stdout) {
+    turning(out, 0, 0, 1, 0, 1, 1);
+    turning(out, 0, 0, 1, 1, 2, 2);
+    turning(out, 0, 0, 0, 0, 5, 7);
+    turning(out, 524288, 524288, 524288, 524288, 524288, 524288);
+    turning(out, -524288, -524288, 524288, -524288, 524288, 524288);
+    turning(out, -524288, -524288, 524288, 524288, 524287, 524287);
+    turning(out, -524288, -524288, 524288, 524288, 524287, 524288);
+    turning(out, -524288, -524288, 524288, 524288, 524288, 524287);
 }
 
 // Boxes of either sense, as wide as the grid, and of no height; and point lists that are cut.
-fn areas() {
-    area(0, 0, 4, 4, 0);
-    area(0, 0, 4, 4, 1);
-    area(0, 0, 4, 4, 2);
-    area(0, 0, 4, 4, 4);
-    area(0, 0, 4, 4, 6);
-    area(0, 0, 4, 4, 7);
-    area(4, 0, 0, 4, 8);
-    area(-524288, -524288, 524288, 524288, 8);
-    area(524288, -524288, -524288, 524288, 8);
-    area(-524288, 524288, 524288, 524288, 8);
+fn areas(out: Stdout) {
+    area(out, 0, 0, 4, 4, 0);
+    area(out, 0, 0, 4, 4, 1);
+    area(out, 0, 0, 4, 4, 2);
+    area(out, 0, 0, 4, 4, 4);
+    area(out, 0, 0, 4, 4, 6);
+    area(out, 0, 0, 4, 4, 7);
+    area(out, 4, 0, 0, 4, 8);
+    area(out, -524288, -524288, 524288, 524288, 8);
+    area(out, 524288, -524288, -524288, 524288, 8);
+    area(out, -524288, 524288, 524288, 524288, 8);
 }
 
 // Vectors that no link has: of length 0, and as long as the grid is wide.
-fn vectors() {
+fn vectors(out: Stdout) {
     let zero = Vector { x: 0, y: 0 };
     let up = Vector {
         x: 1048576,
@@ -148,19 +154,20 @@ fn vectors() {
         x: 1048576,
         y: -1048576,
     };
-    product(zero, zero);
-    product(zero, up);
-    product(up, zero);
-    product(down, up);
-    product(up, down);
+    product(out, zero, zero);
+    product(out, zero, up);
+    product(out, up, zero);
+    product(out, down, up);
+    product(out, up, down);
 }
 
-fn main() {
-    io::write_all(1, b"1 is yes, 0 is no");
-    sizes();
-    places();
-    turns();
-    areas();
-    vectors();
-    io::write_all(1, b"\n");
+fn main(rt: HostRuntime) {
+    let out = rt.stdout();
+    put(out, b"1 is yes, 0 is no");
+    sizes(out);
+    places(out);
+    turns(out);
+    areas(out);
+    vectors(out);
+    put(out, b"\n");
 }

@@ -6,8 +6,9 @@ ghost use Rattle.print.specs.Room.{answer_bytes};
 ghost use Rattle.outline.specs.Inputs.{InputFits};
 
 use format::FILE_BYTES;
-use libc::{STDERR_FILENO, STDIN_FILENO, STDOUT_FILENO};
 use print::ANSWER_BYTES;
+use std::io::{Read, Write};
+use std::rt::{Stderr, Stdin, Stdout};
 
 // What came of reading: so many bytes, none at the end of the input; or a read failed.
 #[derive(Clone, Copy)]
@@ -17,23 +18,22 @@ enum Input {
 }
 
 // One read, which may bring any part of what is still to come.
-fn read_some(buf: &mut [u8]) -> Input
+fn read_some(mut from: Stdin, buf: &mut [u8]) -> Input
     ensures { InputFits result (length buf.old) }
 {
-    let got = libc::read(STDIN_FILENO, buf);
-    if got < 0 {
-        return Input::Failed;
+    match from.read(buf) {
+        Ok(n) => Input::Read(n),
+        Err(_) => Input::Failed,
     }
-    Input::Read(io::count(got, buf))
 }
 
 // Reads until the buffer is full, the input ends or a read fails.
-fn read_input(buf: &mut [u8]) -> Input
+fn read_input(from: Stdin, buf: &mut [u8]) -> Input
     ensures { InputFits result (length buf.old) }
 {
     let mut done = 0;
     while done < buf.len() {
-        match read_some(&mut buf[done..]) {
+        match read_some(from, &mut buf[done..]) {
             Input::Failed => {
                 return Input::Failed;
             }
@@ -49,35 +49,32 @@ fn read_input(buf: &mut [u8]) -> Input
 }
 
 // The answer to all that was read goes out in one piece. Where it cannot, so that part of it at most was written, that is said.
-fn print_answer(input: &[u8], out: &mut [u8])
+fn print_answer(mut to: Stdout, mut errors: Stderr, input: &[u8], out: &mut [u8])
     requires { answer_bytes ≤ length out.old }
 {
     let size = answer::answer(input, out);
-    if !io::write_all(STDOUT_FILENO, &out[..size]) {
-        io::write_all(
-            STDERR_FILENO,
-            b"outline: the answer could not be written whole\n",
-        );
+    if to.write_all(&out[..size]).is_err() {
+        let _ = errors.write_all(b"outline: the answer could not be written whole\n");
     }
 }
 
 // Input that cannot be read has no answer, and that is said apart from answers.
-fn answer_input(input: &mut [u8], out: &mut [u8])
+fn answer_input(from: Stdin, to: Stdout, mut errors: Stderr, input: &mut [u8], out: &mut [u8])
     requires { answer_bytes ≤ length out.old }
 {
-    match read_input(input) {
+    match read_input(from, input) {
         Input::Failed => {
-            io::write_all(STDERR_FILENO, b"outline: standard input cannot be read\n");
+            let _ = errors.write_all(b"outline: standard input cannot be read\n");
         }
         Input::Read(n) => {
-            print_answer(&input[..n], out);
+            print_answer(to, errors, &input[..n], out);
         }
     }
 }
 
 // FILE_BYTES decide every answer: what comes after them is not read.
-fn main() {
+fn main(rt: HostRuntime) {
     let mut input = [0u8; FILE_BYTES];
     let mut out = [0u8; ANSWER_BYTES];
-    answer_input(&mut input, &mut out);
+    answer_input(rt.stdin(), rt.stdout(), rt.stderr(), &mut input, &mut out);
 }
