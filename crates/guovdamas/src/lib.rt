@@ -1,4 +1,4 @@
-// The static library: extraction, binding, lookup and reports, with numbers and slices only, for Rust and C. include/guovdamas.h is its header.
+// What the static library offers: extraction, binding, lookup and reports, with numbers and slices only, for Rust and C. The crate guovdamas_c exports it.
 #![tactic(auto)]
 
 ghost use Rattle.std.specs.Prelude.{◌≡◌};
@@ -233,8 +233,7 @@ fn reports_of(answer: Reports) -> GuovdamasReports
 }
 
 // Checks 1 to 7 and the walks of a graph, into the lent states, points and contour table.
-#[unsafe(no_mangle)]
-pub extern "C" fn guovdamas_extract(
+pub fn guovdamas_extract(
     ax: &[i32],
     ay: &[i32],
     bx: &[i32],
@@ -279,8 +278,7 @@ pub extern "C" fn guovdamas_extract(
 }
 
 // Checks 10 to 12 and the owner of every contour, into the lent owners.
-#[unsafe(no_mangle)]
-pub extern "C" fn guovdamas_bind(
+pub fn guovdamas_bind(
     points: &[i32],
     first: &[u32],
     len: &[u32],
@@ -296,8 +294,7 @@ pub extern "C" fn guovdamas_bind(
 }
 
 // One contour's record.
-#[unsafe(no_mangle)]
-pub extern "C" fn guovdamas_lookup(
+pub fn guovdamas_lookup(
     points: &[i32],
     first: &[u32],
     len: &[u32],
@@ -312,8 +309,7 @@ pub extern "C" fn guovdamas_lookup(
 }
 
 // One contour's area and frame in millimetres.
-#[unsafe(no_mangle)]
-pub extern "C" fn guovdamas_report(
+pub fn guovdamas_report(
     points: &[i32],
     first: &[u32],
     len: &[u32],
@@ -328,8 +324,7 @@ pub extern "C" fn guovdamas_report(
 }
 
 // Every contour's area and frame in millimetres, into the lent lists.
-#[unsafe(no_mangle)]
-pub extern "C" fn guovdamas_report_all(
+pub fn guovdamas_report_all(
     points: &[i32],
     first: &[u32],
     len: &[u32],
