@@ -2,7 +2,7 @@
  * guovdamas.h: contour extraction, hole binding, and areas and frames in millimetres, as proved in crates/guovdamas.
  * docs/RULES.md has the rules in full.
  *
- * Link with libguovdamas.a (`rt staticlib guovdamas`; x86-64 Linux). examples/c/square.c is a whole program.
+ * Link with libguovdamas.a (`tools/build library`; x86-64 Linux). examples/c/square.c is a whole program.
  *
  * The functions.
  *   guovdamas_extract     walks a graph, and writes its contours: a contour table with its points

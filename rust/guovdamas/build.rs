@@ -1,7 +1,7 @@
 //! Finds or builds the static library, copies it to where cargo keeps what is built, and links it from there.
 //!
 //! It is taken from the folder that `GUOVDAMAS_LIB_DIR` names; else from `lib/` of the released archive that this crate
-//! stands in; else it is built from the repository's proved crates: for x86-64 by `rt staticlib guovdamas`, for aarch64
+//! stands in; else it is built from the repository's proved crates: for x86-64 by `tools/build library`, for aarch64
 //! by `rust/native-archive`, which has rt's own compiler compile the same module.
 
 use std::collections::BTreeMap;
@@ -11,6 +11,8 @@ use std::{env, fs};
 
 const NAME: &str = "guovdamas";
 const ARCHIVE: &str = "libguovdamas.a";
+/// The crate that exports the library's functions.
+const EXPORTS: &str = "guovdamas_c";
 
 /// The processors for which there is an archive, with the number that an ELF file has for each.
 const PROCESSORS: [(&str, u16); 2] = [("x86_64", 62), ("aarch64", 183)];
@@ -101,7 +103,7 @@ fn build(processor: &str) -> Result<PathBuf, Complaint> {
     }
     name_inputs(&root, &crates);
     if processor == "x86_64" {
-        run(Command::new("rt").args(["staticlib", NAME]), &root)?;
+        run(Command::new(root.join("tools/build")).arg("library"), &root)?;
         Ok(root.join("target/staticlib").join(ARCHIVE))
     } else {
         let folder = folder_of("OUT_DIR").join("built");
@@ -116,8 +118,8 @@ fn build(processor: &str) -> Result<PathBuf, Complaint> {
 fn name_inputs(root: &Path, crates: &str) {
     let lines = crates.lines().map(|line| line.split('#').next().unwrap_or_default());
     let below: BTreeMap<&str, &str> =
-        lines.filter_map(|line| line.split_once(':')).map(|(name, below)| (name.trim(), below)).collect();
-    let mut reached = vec![NAME];
+        lines.filter_map(|line| line.split_once(':')).map(|(name, below)| (first_word(name), below)).collect();
+    let mut reached = vec![EXPORTS];
     let mut at = 0;
     while at < reached.len() {
         let next = below.get(reached[at]).copied().unwrap_or_default().split_whitespace();
@@ -126,12 +128,18 @@ fn name_inputs(root: &Path, crates: &str) {
         at += 1;
     }
     println!("cargo::rerun-if-changed={}", root.join("crates.txt").display());
+    println!("cargo::rerun-if-changed={}", root.join("tools/build").display());
     let parts = reached
         .iter()
         .flat_map(|name| ["src", "specs", "proofs"].map(|part| root.join("crates").join(name).join(part)));
     // one that is not there is not named: cargo takes a missing file for a changed one
     let parts = parts.filter(|part| part.is_dir()).chain(toolchain());
     parts.for_each(|part| println!("cargo::rerun-if-changed={}", part.display()));
+}
+
+/// A crate's name: `staticlib` may stand after it.
+fn first_word(name: &str) -> &str {
+    name.split_whitespace().next().unwrap_or_default()
 }
 
 /// The file that says which toolchain it is, where there is one.
