@@ -4,12 +4,11 @@ use Rattle.laws.specs.Test.{pick}
 use Rattle.laws.specs.Lowest.{some}
 use Rattle.turn.specs.declared.Point.{Point}
 use Rattle.turn.specs.Points.{before}
-use Rattle.turn.specs.Refusals.{refuse_at, followed_by}
-use Rattle.turn.specs.declared.Checked.{Checked}
-use Rattle.turn.specs.declared.Checked.TheVariants.{Fine}
+use Rattle.turn.specs.Refusals.{refuse_at, followed_by, Checked, no_fault}
 use Rattle.table.specs.Table.{Table, is_hole, point_in, contour_count, first_of, len_of}
 use Rattle.table.specs.TableChecks.{table_checked}
 use Rattle.anchor.specs.Anchor.{anchor_point_in, anchor_point}
+use Rattle.turn.specs.declared.Reason.TheVariants.{WrongAnchor}
 
 -- the last hole before contour c, as its number and 1; 0 where there is none
 unfoldable pub hole_before : Table → ℕ → ℕ
@@ -33,7 +32,7 @@ bad_anchor t cw c = is_hole t c && (not_least t.points (first_of t c) (len_of t 
 
 -- check 11, for an output direction
 unfoldable pub anchors_checked : Table → Bool → Checked
-anchors_checked t cw = refuse_at 11 (bad_anchor t cw) (contour_count t) Fine
+anchors_checked t cw = refuse_at WrongAnchor (bad_anchor t cw) (contour_count t) no_fault
 
 -- check 10, then check 11
 abbrev pub both_checked : Table → ℕ → Bool → Checked

@@ -7,8 +7,8 @@ use Rattle.laws.specs.Lowest.{lowest, some}
 use Rattle.laws.specs.Fails.{Iff, Fails, then, or_fails, some_fails}
 use Rattle.turn.specs.Points.{before}
 use Rattle.turn.specs.PointOrder.{before_irreflexive, not_before_transitive}
-use Rattle.turn.specs.declared.Checked.TheVariants.{Fine}
-use Rattle.turn.specs.Refusals.{refuses}
+use Rattle.turn.specs.Refusals.{refuses, no_fault}
+use Rattle.turn.specs.declared.Reason.TheVariants.{WrongAnchor}
 use Rattle.table.specs.Table.{Table, point, contour_count, first_of, len_of, is_hole}
 use Rattle.anchor.specs.AnchorChecks.{hole_before, before_previous_hole, bad_anchor, anchors_checked}
 use Rattle.anchor.specs.Anchor.{anchor_point}
@@ -53,10 +53,10 @@ module _ (t : Table) (cw : Bool) where
   abbrev Fit : ℕ → Type 0
   Fit c = is_hole t c ≡ true → (Least c) × (before_previous_hole t cw c ≡ false)
 
-  parts : Iff (anchors_checked t cw ≡ Fine) ((c : ℕ) → c < contour_count t → Fit c)
+  parts : Iff (anchors_checked t cw ≡ no_fault) ((c : ℕ) → c < contour_count t → Fit c)
   unfolding anchors_checked
   parts =
-      then (refuses (some (bad_anchor t cw) (contour_count t)) 11 (lowest (bad_anchor t cw) (contour_count t)) Fine)
+      then (refuses (some (bad_anchor t cw) (contour_count t)) WrongAnchor (lowest (bad_anchor t cw) (contour_count t)) no_fault)
       (then (record { to = λ h. h.0; from = λ h. (h, refl) })
       (some_fails (contour_count t) (λ c. and_fails (is_hole t c) (or_fails (some_fails (len_of t c) (λ k. same)) same))))
 
@@ -110,5 +110,5 @@ module _ (t : Table) (cw : Bool) where
       go false q = refl
 
 -- check 11 passes exactly where the anchors are least and in order
-pub passes_anchored : (t : Table) (cw : Bool) → Iff (anchors_checked t cw ≡ Fine) (Anchored t cw)
+pub passes_anchored : (t : Table) (cw : Bool) → Iff (anchors_checked t cw ≡ no_fault) (Anchored t cw)
 passes_anchored t cw = then (parts t cw) (record { to = anchored_of t cw; from = fit_of t cw })

@@ -1,6 +1,8 @@
--- Anchors in parallel lists, by their coordinates.
-use Rattle.std.specs.Prelude.{ℕ, suc, ◌≤◌, ◌<◌, ◌≡◌, List, length, get_or, set, ℤ, pos}
+-- A list of anchors, as the code has it, and anchors by their coordinates, as the definitions read them.
+use Rattle.std.specs.Prelude.{ℕ, suc, ◌≤◌, ◌<◌, ◌≡◌, List, length, map, get_or, set, ℤ, pos}
 use Rattle.std.proofs.Common.{arith, get_or-set_same, get_or-set_other}
+use Rattle.std.proofs.Math.ListN.{get_or-map}
+use Rattle.std.proofs.lemmas.List.{length-map, map-set}
 use Rattle.turn.specs.Points.{OnGrid}
 use Rattle.anchor.specs.declared.Anchor.{Anchor}
 
@@ -23,6 +25,26 @@ listed_anchor h j = record {
 -- the anchors with a at place j
 abbrev pub with_anchor : Anchors → ℕ → Anchor → Anchors
 with_anchor h j a = anchors (set h.x j a.at.x) (set h.y j a.at.y) (set h.to_x j a.to.x) (set h.to_y j a.to.y)
+
+-- what stands past a list of anchors
+abbrev pub blank : Anchor
+blank = record { at = record { x = pos 0; y = pos 0 }; to = record { x = pos 0; y = pos 0 } }
+
+abbrev at_x : Anchor → ℤ
+at_x a = a.at.x
+
+abbrev at_y : Anchor → ℤ
+at_y a = a.at.y
+
+abbrev end_x : Anchor → ℤ
+end_x a = a.to.x
+
+abbrev end_y : Anchor → ℤ
+end_y a = a.to.y
+
+-- a list of anchors, by their coordinates
+unfoldable pub anchors_of : List Anchor → Anchors
+anchors_of l = anchors (map at_x l) (map at_y l) (map end_x l) (map end_y l)
 
 -- room for n anchors
 pub record AnchorRoom (h : Anchors) (n : ℕ) : Type 0 where
@@ -68,3 +90,26 @@ module _ (h : Anchors) (j : ℕ) (a : Anchor) where
         get_or-set_other h.to_x j i a.to.x (pos 0) n,
         get_or-set_other h.to_y j i a.to.y (pos 0) n,
       )
+
+-- ---- a list of anchors
+module _ (l : List Anchor) where
+  pub anchor_at : (j : ℕ) → listed_anchor (anchors_of l) j ≡ get_or l j blank
+  unfolding anchors_of
+  anchor_at j = rw (get_or-map at_x l j blank, get_or-map at_y l j blank, get_or-map end_x l j blank, get_or-map end_y l j blank)
+
+  pub anchor_put : (j : ℕ) (a : Anchor) → anchors_of (set l j a) ≡ with_anchor (anchors_of l) j a
+  unfolding anchors_of
+  anchor_put j a = rw (map-set at_x l j a, map-set at_y l j a, map-set end_x l j a, map-set end_y l j a)
+
+  pub anchors_room : (n : ℕ) → n ≤ length l → AnchorRoom (anchors_of l) n
+  unfolding anchors_of
+  anchors_room n r = record {
+    x_room = rw (length-map l at_x) r;
+    y_room = rw (length-map l at_y) r;
+    to_x_room = rw (length-map l end_x) r;
+    to_y_room = rw (length-map l end_y) r;
+  }
+
+  pub anchors_long : (n : ℕ) → AnchorRoom (anchors_of l) n → n ≤ length l
+  unfolding anchors_of
+  anchors_long n r = rw (length-map l at_x) at r.x_room

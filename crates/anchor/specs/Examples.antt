@@ -1,7 +1,6 @@
 -- Check 11 and an anchor edge of the tables of E9 and E10; anchor edges of holes that pass their anchor more than once.
 use Rattle.std.specs.Prelude.{◌≡◌, refl, true, false, ◌/◌, List, [], ◌∷◌, ◌++◌, ℤ, pos, length}
 use Rattle.laws.specs.Lowest.{lowest}
-use Rattle.turn.specs.declared.Checked.TheVariants.{Fine, Refused}
 use Rattle.turn.specs.declared.Point.{Point}
 use Rattle.table.specs.Table.{Table, table}
 use Rattle.table.specs.TableChecks.{table_checked}
@@ -9,28 +8,30 @@ use Rattle.table.specs.Examples.{first_hole, far_hole, e9, e10}
 use Rattle.anchor.specs.declared.Anchor.{Anchor}
 use Rattle.anchor.specs.AnchorChecks.{hole_before, anchors_checked, both_checked}
 use Rattle.anchor.specs.Anchor.{lowest_end, anchor_edge}
+use Rattle.turn.specs.Refusals.{refused, no_fault}
+use Rattle.turn.specs.declared.Reason.TheVariants.{WrongAnchor}
 
 -- ---- checks 10 and 11
-e9_fine : both_checked e9 4 false ≡ Fine
+e9_fine : both_checked e9 4 false ≡ no_fault
 unfolding table_checked anchors_checked lowest hole_before
 e9_fine = refl
 
-e10_fine : both_checked e10 4 false ≡ Fine
+e10_fine : both_checked e10 4 false ≡ no_fault
 unfolding table_checked anchors_checked lowest hole_before
 e10_fine = refl
 
 -- clockwise output has its anchors at point 1, which is not the least point of these holes
-e9_clockwise_lem : both_checked e9 4 true ≡ Refused 11 2
+e9_clockwise_lem : both_checked e9 4 true ≡ refused WrongAnchor 2
 unfolding table_checked anchors_checked lowest hole_before
 e9_clockwise_lem = refl
 
 -- the holes the other way round: the second anchor is before the first
-swapped : both_checked (table (far_hole ++ first_hole) (0 ∷ 4 ∷ []) (4 ∷ 4 ∷ []) (1 ∷ 1 ∷ [])) 2 false ≡ Refused 11 1
+swapped : both_checked (table (far_hole ++ first_hole) (0 ∷ 4 ∷ []) (4 ∷ 4 ∷ []) (1 ∷ 1 ∷ [])) 2 false ≡ refused WrongAnchor 1
 unfolding table_checked anchors_checked lowest hole_before
 swapped = refl
 
 -- the same hole twice: equal anchors are in order
-equal : both_checked (table (far_hole ++ far_hole) (0 ∷ 4 ∷ []) (4 ∷ 4 ∷ []) (1 ∷ 1 ∷ [])) 2 false ≡ Fine
+equal : both_checked (table (far_hole ++ far_hole) (0 ∷ 4 ∷ []) (4 ∷ 4 ∷ []) (1 ∷ 1 ∷ [])) 2 false ≡ no_fault
 unfolding table_checked anchors_checked lowest hole_before
 equal = refl
 

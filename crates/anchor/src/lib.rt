@@ -1,17 +1,16 @@
-// A hole's anchor and its anchor edge, and anchors kept in parallel lists.
+// A hole's anchor and its anchor edge.
 #![tactic(auto)]
 
-ghost use Rattle.std.specs.Prelude.{◌≡◌, ℕ, suc, ◌+◌, ◌*◌, ◌^◌, ◌<◌, ◌≤◌, length};
+ghost use Rattle.std.specs.Prelude.{◌≡◌, ℕ, ◌+◌, ◌*◌, ◌^◌, ◌<◌, ◌≤◌, length};
 ghost use Rattle.turn.specs.Points.{Grid, OnGrid};
 ghost use Rattle.anchor.specs.Anchor.{anchor_position_in, lower_end, lowest_there};
 ghost use Rattle.anchor.specs.LowestEdges.{NextVisit};
-ghost use Rattle.anchor.specs.Anchors.{Anchors, anchors, AnchorRoom};
-ghost use Rattle.anchor.specs.Promises.{AnchorPointSays, LeftBottomSegmentFromSays, ListedAnchorSays, PutAnchorSays};
+ghost use Rattle.anchor.specs.Promises.{AnchorPointSays, LeftBottomSegmentFromSays};
 
 use turn::Point;
 
 // A hole's anchor and the other end of its anchor edge.
-#[derive(Clone, Copy)]
+#[derive(Clone, Copy, Debug, PartialEq, Eq)]
 pub struct Anchor {
     pub at: Point,
     pub to: Point,
@@ -22,10 +21,7 @@ fn anchor_position(from: usize, clockwise: bool) -> usize
     requires { from + 1 < 2 ^ 64 }
     ensures { result ≡ anchor_position_in from clockwise }
 {
-    if clockwise {
-        return from + 1;
-    }
-    from
+    if clockwise { from + 1 } else { from }
 }
 
 // The anchor of a contour whose first point stands at a position.
@@ -41,10 +37,7 @@ fn lower_end(at: Point, p: Point, q: Point) -> Point
     requires { (OnGrid at) × (OnGrid p) × (OnGrid q) }
     ensures { result ≡ lower_end at p q }
 {
-    if turn::clockwise(at, p, q) {
-        return q;
-    }
-    p
+    if turn::clockwise(at, p, q) { q } else { p }
 }
 
 // The first position from p on, and before `to`, at which the contour passes the point `at`; `to` where there is none.
@@ -52,15 +45,12 @@ fn next_visit(points: &[i32], at: Point, p: usize, to: usize) -> usize
     requires { (p ≤ to) × (to * 2 ≤ length points.now) }
     ensures { NextVisit points.now at p to result }
 {
-    let mut q = p;
-    while q < to {
-        if turn::differ(table::point_in(points, q), at) {
-            q += 1;
-            continue;
+    for q in p..to {
+        if !turn::differ(table::point_in(points, q), at) {
+            return q;
         }
-        return q;
     }
-    q
+    to
 }
 
 // The lowest edge so far, by its other end, beside both edges at position p, where the contour passes the point `at`.
@@ -87,44 +77,5 @@ pub fn left_bottom_segment_from(points: &[i32], from: usize, len: usize, clockwi
         best = lowest_there(points, from, to, at, p, best);
         p = next_visit(points, at, p + 1, to);
     }
-    Anchor { at: at, to: best }
-}
-
-// Anchor j of those that the lists hold.
-pub fn listed_anchor(x: &[i32], y: &[i32], to_x: &[i32], to_y: &[i32], j: usize) -> Anchor
-    requires { AnchorRoom (anchors x.now y.now to_x.now to_y.now) (suc j) }
-    ensures { (let h : Anchors = anchors x.now y.now to_x.now to_y.now in
-        ListedAnchorSays h j result) }
-{
-    Anchor {
-        at: Point { x: x[j], y: y[j] },
-        to: Point {
-            x: to_x[j],
-            y: to_y[j],
-        },
-    }
-}
-
-// Anchor j of the lists becomes a.
-pub fn put_anchor(
-    a: Anchor,
-    j: usize,
-    x: &mut [i32],
-    y: &mut [i32],
-    to_x: &mut [i32],
-    to_y: &mut [i32],
-)
-    requires on_grid { (OnGrid a.at) × (OnGrid a.to) }
-    requires anchor_room { AnchorRoom (anchors x.old y.old to_x.old to_y.old) (suc j) }
-    ensures { (let h : Anchors = anchors x.old y.old to_x.old to_y.old in
-        PutAnchorSays h j a x.new y.new to_x.new to_y.new) }
-{
-    let at_x = a.at.x;
-    let at_y = a.at.y;
-    let end_x = a.to.x;
-    let end_y = a.to.y;
-    x[j] = at_x;
-    y[j] = at_y;
-    to_x[j] = end_x;
-    to_y[j] = end_y;
+    Anchor { at, to: best }
 }

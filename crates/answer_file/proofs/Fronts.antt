@@ -1,17 +1,19 @@
 -- After reading, a graph's lists stand at the fronts of the buffers: they fit, and cut off they are the file's. What the lists hold in the end.
+use Rattle.std.specs.Prelude.{Result}
 use Prim.Native.Nat.{ℕ, ◌+◌, ◌-◌, ◌≤◌}
 use native.Mathlib.Omega.{arith}
 use mathlib.Core.Path.{◌≡◌, refl, sym, ap, ◌∙◌, subst}
 use mathlib.Core.List.{List, [], ◌∷◌, map}
 use lib.ListN.{length, drop, length-map}
 use lib.Seq.{drop_at}
-use Rattle.format.specs.declared.FileRead.{FileRead}
 use Rattle.writing.specs.Put.{put_at, at_front, front_long, front_cut}
 use Rattle.format_records.specs.Records.{Form, form, refused, form_of}
 use Rattle.format.specs.File.{Contents, holding, contents_of, contents_into, file_of, file_from, starts_of, FileLists, Reading, reading, read_into}
 use Rattle.writing.specs.Cuts.{cut}
 use Rattle.answer_read.specs.ReadText.{ReadFits, read_text, read_states}
 use Rattle.answer_file.specs.FileText.{file_text, with_states, states_left, file_left}
+use Rattle.turn.specs.declared.Refusal.{Refusal}
+use Rattle.format.specs.declared.FileCounts.{FileCounts}
 
 -- past what was written at its front a list is as it was
 front_rest : {A : Type 0} (n : ℕ) (t l : List A) → length t ≡ n → drop n (at_front t l) ≡ drop n l
@@ -118,7 +120,7 @@ form_left s b (form links nodes) =
     let g = contents_of s links nodes in ap (λ (l : List ℕ). with_states l (contents_into g b)) (graph_states_lem g b (file_even s links nodes))
 form_left s b (refused why) = refl
 
-module _ (s : List ℕ) (b : FileLists) {a : FileRead} {b' : FileLists} (e : reading a b' ≡ read_into (file_of s) b) where
+module _ (s : List ℕ) (b : FileLists) {a : Result FileCounts Refusal} {b' : FileLists} (e : reading a b' ≡ read_into (file_of s) b) where
   pub read_fits : ReadFits a b'
   read_fits = subst (λ (x : Reading). ReadFits x.answer x.lent) (sym e) (form_fits s b (form_of s))
 

@@ -3,6 +3,7 @@ use Rattle.std.specs.Prelude.{List, ◌++◌, ℕ, length, drop}
 use Rattle.graph.specs.Graph.{Lent, lent}
 use Rattle.format.specs.File.{Contents, File, holding, refused_file, FileLists, file_lists, contents_into}
 use Rattle.print.specs.Answer.{printed_refusal}
+use Rattle.turn.specs.Reasons.{number_of}
 use Rattle.answer_graph.specs.GraphText.{graph_text, graph_states}
 
 abbrev pub contents_lent : Contents → Lent
@@ -10,7 +11,7 @@ contents_lent g = lent g.ax g.ay g.bx g.by g.a_id g.b_id g.start g.list
 
 unfoldable pub file_text : File → List ℕ
 file_text (holding g) = graph_text (contents_lent g) g.top g.clockwise g.minimum g.state
-file_text (refused_file e) = printed_refusal e.number e.place
+file_text (refused_file e) = printed_refusal (number_of e.reason) e.place
 
 -- the states of the file's links as extraction leaves them, the others as they were
 abbrev pub states_left : Contents → List ℕ → List ℕ

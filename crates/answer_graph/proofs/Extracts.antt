@@ -1,4 +1,5 @@
 -- After extraction, what it kept of the points and the table fits the buffers.
+use Rattle.std.specs.Prelude.{Result, Ok, Err}
 use Prim.Native.Nat.{ℕ, suc, ◌-◌, ◌≤◌}
 use native.Mathlib.Omega.{arith}
 use mathlib.Core.Path.{◌≡◌, refl, sym, ap, subst}
@@ -8,9 +9,6 @@ use lib.IntN.{pos}
 use lib.ListN.{length, replicate, length-append, length-map}
 use Rattle.graph.specs.Graph.{Lent, graph_of, Graph}
 use Rattle.graph.specs.Checks.{checked, room}
-use Rattle.turn.specs.declared.Checked.{Checked}
-use Rattle.turn.specs.declared.Checked.TheVariants as check
-use Rattle.scan.specs.declared.Extraction.{Extraction}
 use Rattle.walk.specs.Walk.{Walk}
 use Rattle.writing.specs.Cuts.{cut}
 use Rattle.answer_graph.specs.GraphText.{lent_table, extracted_text, extracted_states}
@@ -21,6 +19,9 @@ use Rattle.finish.specs.Finish.{Buffers}
 use Rattle.extraction.specs.Extract.{Extracted, extracted_as, after_scan, after_checks, extracted}
 use Rattle.laws.specs.Lists.{padded}
 use Rattle.keep.specs.Ledger.{coordinates_length, all_points_length, firsts_length}
+use Rattle.turn.specs.Refusals.{Checked}
+use Rattle.turn.specs.declared.Refusal.{Refusal}
+use Rattle.keep.specs.declared.Counts.{Counts}
 
 padded_long : {A : Type 0} (z : A) (l : List A) (n : ℕ) → length l ≤ length (padded z l n)
 padded_long z l n = omega (arith, length-append l (replicate (n - length l) z))
@@ -55,8 +56,8 @@ module _ (g : Graph) (minimum : ℕ) (b : Buffers) where
 
 checks_fit : (g : Graph) (cw : Bool) (minimum : ℕ) (b : Buffers) (k : Checked) → ExtractionFits (after_checks g cw minimum b k).answer
     (lent_table (after_checks g cw minimum b k).lent)
-checks_fit g cw minimum b (check.Refused number place) = tt
-checks_fit g cw minimum b check.Fine = scan_fits g minimum b (scan g cw b.state)
+checks_fit g cw minimum b (Err r) = tt
+checks_fit g cw minimum b (Ok u) = scan_fits g minimum b (scan g cw b.state)
 
 all_fit : (g : Lent) (top : List ℕ) (cw : Bool) (minimum : ℕ) (b : Buffers)
     → ExtractionFits (extracted g top cw minimum b).answer (lent_table (extracted g top cw minimum b).lent)
@@ -65,7 +66,7 @@ all_fit g top cw minimum b =
     checks_fit (graph_of g top) cw minimum b (checked g top b.state (room (length b.points) (length b.first) (length b.len) (length b.kind)))
 
 -- what binding's stage is asked, what it then prints, and the states
-module _ (g : Lent) (top : List ℕ) (cw : Bool) (minimum : ℕ) (b : Buffers) {a : Extraction} {b' : Buffers}
+module _ (g : Lent) (top : List ℕ) (cw : Bool) (minimum : ℕ) (b : Buffers) {a : Result Counts Refusal} {b' : Buffers}
     (e : extracted_as a b' ≡ extracted g top cw minimum b) where
   pub extraction_fits : ExtractionFits a (lent_table b')
   extraction_fits =

@@ -47,8 +47,8 @@ fn answer_contours(
         × (state.new ≡ extracted_states g top.now clockwise minimum b)) }
 {
     let settings = Settings {
-        clockwise: clockwise,
-        minimum: minimum,
+        clockwise,
+        minimum,
         drop_straight: false,
     };
     let extraction = extract::extract(

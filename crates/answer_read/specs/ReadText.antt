@@ -1,14 +1,14 @@
 -- The bytes that the program prints for what reading gave: its refusal, or the answer to the graph at the fronts of the lent lists; and the states
 -- that are then left.
-use Rattle.std.specs.Prelude.{ℕ, ◌+◌, List, ◌++◌, take, drop}
+use Rattle.std.specs.Prelude.{ℕ, ◌+◌, List, ◌++◌, take, drop, Result, Ok, Err}
 use Rattle.graph.specs.Graph.{Lent, lent}
 use Rattle.format.specs.declared.FileCounts.{FileCounts}
-use Rattle.format.specs.declared.FileRead.{FileRead}
-use Rattle.format.specs.declared.FileRead.TheVariants as answer
 use Rattle.format.specs.File.{FileLists}
 use Rattle.print.specs.Answer.{printed_refusal}
 use Rattle.writing.specs.Cuts.{Cut}
 use Rattle.answer_graph.specs.GraphText.{graph_text, graph_states}
+use Rattle.turn.specs.Reasons.{number_of}
+use Rattle.turn.specs.declared.Refusal.{Refusal}
 
 -- the lists are long enough to be cut so
 pub record FrontsFit (c : FileCounts) (b : FileLists) : Type 0 where
@@ -39,14 +39,14 @@ abbrev pub front_states : FileCounts → FileLists → List ℕ
 front_states c b =
     graph_states (front_lent c b) (take c.links b.top) c.clockwise c.minimum (take c.links b.state) ++ drop c.links b.state
 
-abbrev pub ReadFits : FileRead → FileLists → Type 0
-ReadFits (answer.Graph c) b = FrontsFit c b
-ReadFits (answer.Refused why) b = Unit
+abbrev pub ReadFits : Result FileCounts Refusal → FileLists → Type 0
+ReadFits (Ok c) b = FrontsFit c b
+ReadFits (Err why) b = Unit
 
-abbrev pub read_text : FileRead → FileLists → List ℕ
-read_text (answer.Graph c) b = front_text c b
-read_text (answer.Refused why) b = printed_refusal why.number why.place
+abbrev pub read_text : Result FileCounts Refusal → FileLists → List ℕ
+read_text (Ok c) b = front_text c b
+read_text (Err why) b = printed_refusal (number_of why.reason) why.place
 
-abbrev pub read_states : FileRead → FileLists → List ℕ
-read_states (answer.Graph c) b = front_states c b
-read_states (answer.Refused why) b = b.state
+abbrev pub read_states : Result FileCounts Refusal → FileLists → List ℕ
+read_states (Ok c) b = front_states c b
+read_states (Err why) b = b.state

@@ -8,7 +8,8 @@ ghost use Rattle.writing.specs.Write.{Wrote};
 ghost use Rattle.answer_read.specs.ReadText.{FrontsFit, front_text, front_states, ReadFits};
 ghost use Rattle.answer_read.specs.Promises.{AnswerReadSays};
 
-use format::{FileCounts, FileRead};
+use format::FileCounts;
+use turn::Refusal;
 
 // Answers the graph that stands at the fronts of the lists that a file was read into.
 fn answer_fronts(
@@ -56,7 +57,7 @@ fn answer_fronts(
 
 // Answers what reading gave: its refusal, or the graph at the fronts of the lists.
 pub fn answer_read(
-    read: FileRead,
+    read: Result<FileCounts, Refusal>,
     ax: &[i32],
     ay: &[i32],
     bx: &[i32],
@@ -79,8 +80,8 @@ pub fn answer_read(
         AnswerReadSays read b out.old state.new out.new result) }
 {
     match read {
-        FileRead::Refused(why) => print_refusal::write_refusal(why.number, why.place, out),
-        FileRead::Graph(counts) => answer_fronts(
+        Err(why) => print_refusal::write_refusal(why, out),
+        Ok(counts) => answer_fronts(
             ax, ay, bx, by, a_id, b_id, top, state, start, list, counts, out,
         ),
     }

@@ -9,11 +9,10 @@ ghost use Rattle.answer_table.specs.BoundText.{bound_text};
 ghost use Rattle.answer_table.specs.ExtractionText.{KeptFits, kept_part, ExtractionFits};
 ghost use Rattle.answer_table.specs.Promises.{AnswerExtractionSays};
 
-use bind::Binding;
 use keep::Counts;
 use print_lines::Totals;
-use scan::Extraction;
-use table::MAX_CONTOURS;
+use table::{Contours, MAX_CONTOURS};
+use turn::Refusal;
 
 // Binds the contours of a table and prints them.
 fn answer_table(
@@ -28,19 +27,21 @@ fn answer_table(
     ensures { (let t : Table = table points.now first.now len.now kind.now in
         Wrote out.old out.new 0 result (bound_text t clockwise)) }
 {
+    let contours = Contours {
+        points,
+        first,
+        len,
+        kind,
+    };
     let mut owner = [0u16; MAX_CONTOURS];
-    match bind::bind(points, first, len, kind, clockwise, &mut owner) {
-        Binding::Refused { number, place } => print_refusal::write_refusal(
-            number,
-            place as usize,
-            out,
-        ),
-        Binding::Bound { shapes, dropped } => {
+    match bind::bind(contours, clockwise, &mut owner) {
+        Err(refusal) => print_refusal::write_refusal(refusal, out),
+        Ok(bound) => {
             let totals = Totals {
                 contours: first.len(),
-                shapes: shapes as usize,
+                shapes: bound.shapes as usize,
                 points: points.len() / 2,
-                dropped: dropped as usize,
+                dropped: bound.dropped as usize,
             };
             print::write_answer(points, first, len, kind, &owner, totals, out)
         }
@@ -76,7 +77,7 @@ fn answer_kept(
 
 // Answers what extraction gave: its refusal, or the contours that it kept of the lent table.
 pub fn answer_extraction(
-    extraction: Extraction,
+    extraction: Result<Counts, Refusal>,
     points: &[i32],
     first: &[u32],
     len: &[u32],
@@ -90,7 +91,7 @@ pub fn answer_extraction(
         AnswerExtractionSays extraction t clockwise out.old out.new result) }
 {
     match extraction {
-        Extraction::Refused { number, place } => print_refusal::write_refusal(number, place, out),
-        Extraction::Done(counts) => answer_kept(points, first, len, kind, counts, clockwise, out),
+        Err(refused) => print_refusal::write_refusal(refused, out),
+        Ok(counts) => answer_kept(points, first, len, kind, counts, clockwise, out),
     }
 }

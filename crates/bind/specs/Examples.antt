@@ -13,37 +13,38 @@ use Rattle.candidates.specs.Candidates.{edge}
 use Rattle.nearest.specs.Search.{kept, offered, keep, nearest, contour_under}
 use Rattle.order.specs.HoleOrder.{slot, inserted, sorted, holes_below}
 use Rattle.owners.specs.Owners.{give_each, owners_of}
-use Rattle.bind.specs.declared.Binding.TheVariants.{Bound, Refused}
-use Rattle.bind.specs.Outcome.{outcome, bound}
+use Rattle.bind.specs.Outcome.{bound_to, outcome, bound}
+use Rattle.turn.specs.Refusals.{refused}
+use Rattle.turn.specs.declared.Reason.TheVariants.{WrongTable, WrongAnchor, NoParent}
 
 -- "both holes get shape 1, the second through the first"; the buffer's tail is kept
-pub e9_bound : bound e9 false (7 ∷ 7 ∷ 7 ∷ 7 ∷ 7 ∷ []) ≡ outcome (Bound 2 0) (0 ∷ 1 ∷ 1 ∷ 1 ∷ 7 ∷ [])
+pub e9_bound : bound e9 false (7 ∷ 7 ∷ 7 ∷ 7 ∷ 7 ∷ []) ≡ outcome (bound_to 2 0) (0 ∷ 1 ∷ 1 ∷ 1 ∷ 7 ∷ [])
 unfolding table_checked anchors_checked lowest count hole_before lies_under wins_tie nearer edge kept offered keep nearest contour_under slot inserted
     sorted holes_below tabulate give_each owners_of
 e9_bound = refl
 
 -- "12 at 3": the buffer stays
-pub e10_bound : bound e10 false (7 ∷ 7 ∷ 7 ∷ 7 ∷ []) ≡ outcome (Refused 12 3) (7 ∷ 7 ∷ 7 ∷ 7 ∷ [])
+pub e10_bound : bound e10 false (7 ∷ 7 ∷ 7 ∷ 7 ∷ []) ≡ outcome (refused NoParent 3) (7 ∷ 7 ∷ 7 ∷ 7 ∷ [])
 unfolding table_checked anchors_checked lowest count hole_before lies_under wins_tie nearer edge kept offered keep nearest contour_under slot inserted
     sorted holes_below tabulate give_each owners_of
 e10_bound = refl
 
 -- "With only the first hull lent, both get 0."
-pub e10_one_lem : bound e10_one false (7 ∷ 7 ∷ 7 ∷ []) ≡ outcome (Bound 1 0) (0 ∷ 0 ∷ 0 ∷ [])
+pub e10_one_lem : bound e10_one false (7 ∷ 7 ∷ 7 ∷ []) ≡ outcome (bound_to 1 0) (0 ∷ 0 ∷ 0 ∷ [])
 unfolding table_checked anchors_checked lowest count hole_before owners_of
 e10_one_lem = refl
 
 -- with no hull both are dropped
-none_bound : bound no_hull false (7 ∷ 7 ∷ 7 ∷ []) ≡ outcome (Bound 0 2) (dropped_owner ∷ dropped_owner ∷ 7 ∷ [])
+none_bound : bound no_hull false (7 ∷ 7 ∷ 7 ∷ []) ≡ outcome (bound_to 0 2) (dropped_owner ∷ dropped_owner ∷ 7 ∷ [])
 unfolding table_checked anchors_checked lowest count hole_before owners_of
 none_bound = refl
 
 -- 10: room for three owners; 11: clockwise output has its anchors at point 1
-cramped : bound e9 false (7 ∷ 7 ∷ 7 ∷ []) ≡ outcome (Refused 10 0) (7 ∷ 7 ∷ 7 ∷ [])
+cramped : bound e9 false (7 ∷ 7 ∷ 7 ∷ []) ≡ outcome (refused WrongTable 0) (7 ∷ 7 ∷ 7 ∷ [])
 unfolding table_checked
 cramped = refl
 
-turned : bound e9 true (7 ∷ 7 ∷ 7 ∷ 7 ∷ []) ≡ outcome (Refused 11 2) (7 ∷ 7 ∷ 7 ∷ 7 ∷ [])
+turned : bound e9 true (7 ∷ 7 ∷ 7 ∷ 7 ∷ []) ≡ outcome (refused WrongAnchor 2) (7 ∷ 7 ∷ 7 ∷ 7 ∷ [])
 unfolding table_checked anchors_checked lowest hole_before
 turned = refl
 
@@ -57,7 +58,7 @@ e9_clockwise =
     ++ (pos 23 ∷ pos 14 ∷ pos 23 ∷ pos 10 ∷ pos 27 ∷ pos 10 ∷ pos 27 ∷ pos 14 ∷ []))
     (0 ∷ 4 ∷ 8 ∷ 12 ∷ []) (4 ∷ 4 ∷ 4 ∷ 4 ∷ []) (0 ∷ 0 ∷ 1 ∷ 1 ∷ [])
 
-e9_clockwise_lem : bound e9_clockwise true (7 ∷ 7 ∷ 7 ∷ 7 ∷ []) ≡ outcome (Bound 2 0) (0 ∷ 1 ∷ 1 ∷ 1 ∷ [])
+e9_clockwise_lem : bound e9_clockwise true (7 ∷ 7 ∷ 7 ∷ 7 ∷ []) ≡ outcome (bound_to 2 0) (0 ∷ 1 ∷ 1 ∷ 1 ∷ [])
 unfolding e9_clockwise table_checked anchors_checked lowest count hole_before lies_under wins_tie nearer edge kept offered keep nearest contour_under slot
     inserted sorted holes_below tabulate give_each owners_of
 e9_clockwise_lem = refl
@@ -75,7 +76,7 @@ abbrev hull_two : List ℤ
 hull_two = pos 30 ∷ pos 10 ∷ pos 30 ∷ pos 0 ∷ pos 40 ∷ pos 0 ∷ pos 40 ∷ pos 10 ∷ []
 
 touched : bound (table (hull_one ++ (touched_hole ++ hull_two)) (0 ∷ 4 ∷ 11 ∷ []) (4 ∷ 7 ∷ 4 ∷ []) (0 ∷ 1 ∷ 0 ∷ [])) false (7 ∷ 7 ∷ 7 ∷ [])
-    ≡ outcome (Bound 2 0) (0 ∷ 0 ∷ 1 ∷ [])
+    ≡ outcome (bound_to 2 0) (0 ∷ 0 ∷ 1 ∷ [])
 unfolding table_checked anchors_checked lowest count hole_before lowest_end lies_under wins_tie nearer edge kept offered keep nearest contour_under slot
     inserted
     sorted holes_below tabulate give_each owners_of
@@ -87,7 +88,7 @@ abbrev pond : List ℤ
 pond = pos 4 ∷ pos 10 ∷ pos 7 ∷ pos 11 ∷ pos 7 ∷ pos 9 ∷ []
 
 touched_twice : bound (table (hull_two ++ (pond ++ (touched_hole ++ hull_one))) (0 ∷ 4 ∷ 7 ∷ 14 ∷ []) (4 ∷ 3 ∷ 7 ∷ 4 ∷ []) (0 ∷ 1 ∷ 1 ∷ 0 ∷ [])) false
-    (7 ∷ 7 ∷ 7 ∷ 7 ∷ []) ≡ outcome (Bound 2 0) (0 ∷ 1 ∷ 1 ∷ 1 ∷ [])
+    (7 ∷ 7 ∷ 7 ∷ 7 ∷ []) ≡ outcome (bound_to 2 0) (0 ∷ 1 ∷ 1 ∷ 1 ∷ [])
 unfolding table_checked anchors_checked lowest count hole_before lowest_end lies_under wins_tie nearer edge kept offered keep nearest contour_under slot
     inserted
     sorted holes_below tabulate give_each owners_of

@@ -1,79 +1,71 @@
 -- The loops that list every point's contour and the next point round it, and the edge that they give.
-use Prim.Native.Nat.{ℕ, ◌+◌, ◌≤◌, ◌<◌}
+use Prim.Native.Nat.{ℕ, ◌+◌, ◌-◌, ◌≤◌, ◌<◌}
 use mathlib.Core.Path.{◌≡◌, ◌∙◌, sym}
-use mathlib.Core.Bool.{true, false}
 use mathlib.Core.List.{List}
 use native.Mathlib.Omega.{arith}
-use lib.ListN.{length, get_or, set}
+use lib.ListN.{length, get_or, set, replicate, length-replicate, get_or-replicate}
+use lib.Lanes.{put_chunk}
+use borrow.Rule.Slice.PartMut.{mid_of, put_mid, mid_len}
+use Rattle.std.proofs.lemmas.Simd.{length-put_chunk, put_chunk_is, get_or-put_chunk_below, get_or-put_chunk_at, get_or-put_chunk_above}
 use native.Mathlib.Nat.{not-suc-le-zero}
 use native.Mathlib.Decide.{ℕ_discrete}
 use lib.Dec.{ltb}
 use borrow.Author.Tests.{lt-ltb, le-ltb}
 use Rattle.laws.specs.Lists.{put_below}
 use Rattle.laws.specs.Test.{pick}
-use Rattle.turn.specs.declared.Point.{Point}
-use Rattle.table.specs.Table.{point_in, Table, first_of, range_end, contour_of, next_in, next}
+use Rattle.table.specs.Table.{Table, first_of, range_end, contour_of, next_in, next}
 use Rattle.table.specs.TableChecks.{start_in}
 use Rattle.table.specs.TableLaws.{start_next}
 use Rattle.table.specs.Passing.{apart, contour_is}
 use Rattle.table.specs.Fronts.{KeptFrom, kept_all, kept_set, kept_less, kept_then}
-use Rattle.candidates.specs.EdgeLists.{EdgeLists, listed_edge, Ranges, ranges, ContourListed, Round, RoundInto}
+use Rattle.candidates.specs.EdgeLists.{Ranges, ranges, ContourListed, Round, RoundInto}
 
--- ---- the ways out of `listed_edge`
-module _ (g : EdgeLists) (k : ℕ) (p q : Point) (ep : p ≡ point_in g.points k) (eq : q ≡ point_in g.points (get_or g.next k 0)) where
-  abbrev contour : ℕ
-  contour = get_or g.of k 0
+-- ---- the loop of `list_contour`: the old list below `from`, the rule from there on
+pub record Listing (from to : ℕ) (next₀ next : List ℕ) (k : ℕ) : Type 0 where
+  pub is : (i : ℕ) → i < k → get_or next i 0 ≡ pick (ltb i from) (get_or next₀ i 0) (next_in from to i)
+  pub kept : KeptFrom 0 k next₀ next
 
-  pub edge_right : g.right ≡ true → record { left = p; right = q; kind = get_or g.kind contour 0; contour = contour } ≡ listed_edge g k
-  unfolding listed_edge
-  edge_right r = rw (r, ep, eq)
+pub listing_start : (from to : ℕ) (next : List ℕ) → Listing from to next next from
+listing_start from to next = record { is = λ i l. rw (lt-ltb i from l); kept = kept_all 0 from next }
 
-  pub edge_left : g.right ≡ false → record { left = q; right = p; kind = get_or g.kind contour 0; contour = contour } ≡ listed_edge g k
-  unfolding listed_edge
-  edge_left r = rw (r, ep, eq)
-
--- ---- the loop of `list_contour`: the old list below `from`, a rule from there on
-abbrev mixed : ℕ → List ℕ → (ℕ → ℕ) → ℕ → ℕ
-mixed from old f i = pick (ltb i from) (get_or old i 0) (f i)
-
-pub record Listing (c from to : ℕ) (next₀ of₀ next of : List ℕ) (k : ℕ) : Type 0 where
-  pub low : from ≤ k
-  pub high : k ≤ to
-  pub of_is : (i : ℕ) → i < k → get_or of i 0 ≡ mixed from of₀ (λ _. c) i
-  pub next_is : (i : ℕ) → i < k → get_or next i 0 ≡ mixed from next₀ (next_in from to) i
-  pub of_kept : KeptFrom 0 k of₀ of
-  pub next_kept : KeptFrom 0 k next₀ next
-
-pub listing_start : (c from to : ℕ) (next of : List ℕ) → from ≤ to → Listing c from to next of next of from
-listing_start c from to next of h = record {
-  low = omega arith;
-  high = h;
-  of_is = λ i l. rw (lt-ltb i from l);
-  next_is = λ i l. rw (lt-ltb i from l);
-  of_kept = kept_all 0 from of;
-  next_kept = kept_all 0 from next;
+pub listing_more : (from to : ℕ) (next₀ next : List ℕ) (k : ℕ) → Listing from to next₀ next k → (r : ℕ) → from ≤ k → k < length next₀
+    → r ≡ next_in from to k → Listing from to next₀ (set next k r) (k + 1)
+listing_more from to next₀ next k l r f n e = record {
+  is = put_below 0 (λ i. pick (ltb i from) (get_or next₀ i 0) (next_in from to i)) next k r (omega (arith, l.kept.len)) (e ∙ rw (le-ltb k from f)) l.is;
+  kept = kept_set 0 k next₀ next l.kept r;
 }
 
-module _ (c from to : ℕ) (next₀ of₀ next of : List ℕ) (k : ℕ) (l : Listing c from to next₀ of₀ next of k) where
-  pub listing_more : (r : ℕ) → k < to → to ≤ length next₀ → to ≤ length of₀ → r ≡ next_in from to k → Listing c from to next₀ of₀ (set next k r)
-      (set of k c) (k + 1)
-  listing_more r h n o e = record {
-    low = omega (arith, l.low);
-    high = omega arith;
-    of_is = put_below 0 (mixed from of₀ (λ _. c)) of k c (omega (arith, l.of_kept.len)) (rw (le-ltb k from l.low)) l.of_is;
-    next_is = put_below 0 (mixed from next₀ (next_in from to)) next k r (omega (arith, l.next_kept.len)) (e ∙ rw (le-ltb k from l.low)) l.next_is;
-    of_kept = kept_set 0 k of₀ of l.of_kept c;
-    next_kept = kept_set 0 k next₀ next l.next_kept r;
-  }
+-- ---- the whole of `list_contour`: its number in the places from..to, and the loop's list
+module _ (c from to : ℕ) (of cs : List ℕ) (f : from ≤ to) (h : to ≤ length of) (e : cs ≡ replicate (length (mid_of from (to - from) of)) c) where
+  abbrev of' : List ℕ
+  of' = put_mid from (to - from) of cs
 
-  pub listing_end : to ≤ k → ContourListed c from to next₀ of₀ next of
-  listing_end h = record {
-    of_below = λ i j. l.of_is i (omega (arith, l.low)) ∙ rw (lt-ltb i from j);
-    next_below = λ i j. l.next_is i (omega (arith, l.low)) ∙ rw (lt-ltb i from j);
-    of_in = λ i j m. l.of_is i (omega arith) ∙ rw (le-ltb i from j);
-    next_in_lem = λ i j m. l.next_is i (omega arith) ∙ rw (le-ltb i from j);
-    of_kept = kept_less 0 k of₀ of l.of_kept to l.high;
-    next_kept = kept_less 0 k next₀ next l.next_kept to l.high;
+  abbrev alike : List ℕ
+  alike = replicate (to - from) c
+
+  long : length alike ≡ to - from
+  long = length-replicate (to - from) c
+
+  placed : of' ≡ put_chunk from of alike
+  placed = rw (e, mid_len from to of h) (sym (rw long at (put_chunk_is {A = ℕ} from of alike (omega (arith, long)))))
+
+  filled_in : (i : ℕ) → from ≤ i → i < to → get_or of' i 0 ≡ c
+  filled_in i j m =
+      let q : from + (i - from) ≡ i = omega arith in
+      rw placed (rw q at (get_or-put_chunk_at {X = ℕ} from of alike (i - from) 0 (omega (arith, long)) (omega (arith, long))))
+      ∙ get_or-replicate (to - from) (i - from) c 0 (omega arith)
+
+  pub listing_end : (next₀ next : List ℕ) → Listing from to next₀ next to → ContourListed c from to next₀ of next of'
+  listing_end next₀ next l = record {
+    of_below = λ i j. rw placed (get_or-put_chunk_below from of alike i 0 j);
+    of_in = filled_in;
+    of_kept = record {
+      len = rw placed (length-put_chunk from of alike);
+      rest = λ i j. rw placed (get_or-put_chunk_above from of alike i 0 (omega (arith, long)));
+    };
+    next_below = λ i j. l.is i (omega arith) ∙ rw (lt-ltb i from j);
+    next_in_lem = λ i j m. l.is i m ∙ rw (le-ltb i from j);
+    next_kept = l.kept;
   }
 
 -- ---- the loop of `list_edges`

@@ -6,6 +6,7 @@ use Rattle.table.specs.TableChecks.{start_in}
 use Rattle.table.specs.Fronts.{KeptFrom}
 use Rattle.table.specs.Table.{Table, table, point_in, first_of, range_end, contour_of, next_in, next}
 use Rattle.edges.specs.declared.Edge.{Edge}
+use Rattle.candidates.specs.declared.Edges.{Edges}
 use Rattle.candidates.specs.Candidates.{edge_of}
 
 -- Edge k begins at point k. `next` is the point after it round its contour, `of` its contour, `kind` a contour's kind;
@@ -19,6 +20,10 @@ pub record EdgeLists : Type 0 where
 
 abbrev pub edge_lists : List ℤ → List ℕ → List ℕ → List ℕ → Bool → EdgeLists
 edge_lists p n o k r = record { points = p; next = n; of = o; kind = k; right = r }
+
+-- the lists of the code's `Edges`
+abbrev pub lists_of : Edges → EdgeLists
+lists_of e = edge_lists e.points.now e.next.now e.of.now e.kind.now e.right
 
 unfoldable pub listed_edge : EdgeLists → ℕ → Edge
 listed_edge g k =

@@ -1,2 +1,3 @@
--- What the contract cites.
+-- What the contracts cite.
+pub mod Holes
 pub mod Promises

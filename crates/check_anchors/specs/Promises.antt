@@ -1,8 +1,7 @@
 -- What the public function promises, written once: its contract names it, and any two outcomes that it allows are equal.
 use Rattle.std.specs.Prelude.{Bool}
 use Rattle.laws.specs.Unique.{Determines}
-use Rattle.turn.specs.declared.Checked.{Checked}
-use Rattle.turn.specs.Refusals.{Tells, tells_once}
+use Rattle.turn.specs.Refusals.{Tells, tells_once, Checked}
 use Rattle.table.specs.Table.{Table}
 use Rattle.anchor.specs.AnchorChecks.{anchors_checked}
 

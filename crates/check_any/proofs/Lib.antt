@@ -1,3 +1,2 @@
 -- The laws that the proofs of the functions cite.
-mod Clears
 mod Copied

@@ -1,8 +1,7 @@
 -- What each public function promises, written once: its contract names it, and any two outcomes that it allows are equal.
 use Rattle.std.specs.Prelude.{List, ℕ}
 use Rattle.laws.specs.Unique.{Determines}
-use Rattle.turn.specs.declared.Checked.{Checked}
-use Rattle.turn.specs.Refusals.{Tells, tells_once}
+use Rattle.turn.specs.Refusals.{Tells, tells_once, Checked}
 use Rattle.graph.specs.Graph.{Lent}
 use Rattle.graph.specs.Checks.{checked}
 use Rattle.check_graph.specs.declared.Room.{Room}
@@ -20,9 +19,3 @@ CheckAnySays = Checks
 
 pub check_any_once : (g : Lent) (top state : List ℕ) (room : Room) → Determines (CheckAnySays g top state room)
 check_any_once = checks_once
-
-abbrev pub CheckFewSays : Lent → List ℕ → List ℕ → Room → Checked → Type 0
-CheckFewSays = Checks
-
-pub check_few_once : (g : Lent) (top state : List ℕ) (room : Room) → Determines (CheckFewSays g top state room)
-check_few_once = checks_once

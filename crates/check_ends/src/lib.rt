@@ -2,7 +2,6 @@
 #![tactic(auto)]
 
 ghost use Rattle.std.specs.Prelude.{◌≡◌, ℕ, ◌-◌, ◌<◌, length};
-ghost use Rattle.laws.specs.Lowest.{lowest};
 ghost use Rattle.turn.specs.declared.Point.{Point};
 ghost use Rattle.turn.specs.Points.{Short, from_to};
 ghost use Rattle.graph.specs.Graph.{point_at, part};
@@ -30,21 +29,19 @@ fn apart_in(
         let b : ℕ → Point = point_at bx.now by.now in
         result ≡ apart_in a b (node_at aid.now) here.now v) }
 {
-    if here.len() == 0 {
+    let [first, rest @ ..] = here else {
         return false;
-    }
-    let home = end_at(ax, ay, bx, by, aid, v, wide(here[0]));
-    let mut i = 1;
-    while i < here.len() {
-        if differ(home, end_at(ax, ay, bx, by, aid, v, wide(here[i]))) {
+    };
+    let home = end_at(ax, ay, bx, by, aid, v, wide(*first));
+    for &e in rest {
+        if differ(home, end_at(ax, ay, bx, by, aid, v, wide(e))) {
             return true;
         }
-        i += 1;
     }
     false
 }
 
-// The lowest node that check 6 refuses, or the number of nodes.
+// The lowest node that check 6 refuses, or none.
 pub fn apart_node(
     ax: &[i32],
     ay: &[i32],
@@ -53,7 +50,7 @@ pub fn apart_node(
     aid: &[u32],
     start: &[u32],
     list: &[u32],
-) -> usize
+) -> Option<usize>
     requires points { Points ax.now ay.now bx.now by.now (length aid.now) }
     requires rising { Rising start.now list.now }
     requires entries { Entries start.now list.now (length aid.now) }
@@ -61,15 +58,12 @@ pub fn apart_node(
         let b : ℕ → Point = point_at bx.now by.now in
         ApartNodeSays a b aid.now start.now list.now result) }
 {
-    let m = start.len() - 1;
-    let mut v = 0;
-    while v < m {
+    for v in 0..start.len() - 1 {
         if apart_in(ax, ay, bx, by, aid, entries(start, list, v), v) {
-            return v;
+            return Some(v);
         }
-        v += 1;
     }
-    m
+    None
 }
 
 // Check 7, of one band: the way from link k's a to its b.
@@ -115,7 +109,7 @@ fn alike(
     )
 }
 
-// The lowest node that check 7 refuses, or the number of nodes: over nodes and pairs of entries, up to the first pair alike.
+// The lowest node that check 7 refuses, or none: over nodes and pairs of entries, up to the first pair alike.
 pub fn alike_node(
     ax: &[i32],
     ay: &[i32],
@@ -125,7 +119,7 @@ pub fn alike_node(
     start: &[u32],
     list: &[u32],
     state: &[u8],
-) -> usize
+) -> Option<usize>
     requires points { Points ax.now ay.now bx.now by.now (length aid.now) }
     requires grids { Grids ax.now ay.now bx.now by.now (length aid.now) }
     requires state_len { length state.now ≡ length aid.now }
@@ -135,23 +129,15 @@ pub fn alike_node(
         let b : ℕ → Point = point_at bx.now by.now in
         AlikeNodeSays a b aid.now start.now list.now state.now result) }
 {
-    let m = start.len() - 1;
-    let mut v = 0;
-    'search: while v < m {
+    for v in 0..start.len() - 1 {
         let here = entries(start, list, v);
-        let mut j = 0;
-        while j < here.len() {
-            let f = wide(here[j]);
-            let mut i = 0;
-            while i < j {
-                if alike(ax, ay, bx, by, aid, state, v, wide(here[i]), f) {
-                    break 'search;
+        for (j, &f) in here.iter().enumerate() {
+            for &e in &here[..j] {
+                if alike(ax, ay, bx, by, aid, state, v, wide(e), wide(f)) {
+                    return Some(v);
                 }
-                i += 1;
             }
-            j += 1;
         }
-        v += 1;
     }
-    v
+    None
 }

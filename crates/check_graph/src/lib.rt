@@ -1,8 +1,8 @@
-// Checks 1 to 7 together. Any graph may be lent: `check_graph` says that it is right, or the number and place of the check that refuses it, or it stops
+// Checks 1 to 7 together. Any graph may be lent: `check_graph` says that it is right, or the reason and place for which a check refuses it, or it stops
 // at a `Cross` of many entries.
 #![tactic(auto)]
 
-ghost use Rattle.std.specs.Prelude.{◌≡◌, ◌-◌, ◌*◌, ◌≤◌, length};
+ghost use Rattle.std.specs.Prelude.{◌≡◌, ◌-◌, ◌*◌, ◌≤◌, length, Ok};
 ghost use Rattle.turn.specs.Limits.{max_links};
 ghost use Rattle.graph.specs.Graph.{Lent, lent};
 ghost use Rattle.graph.specs.Checks.{nodes_checked};
@@ -10,7 +10,7 @@ ghost use Rattle.graph.specs.Known.{Points, Grids, Ids};
 ghost use Rattle.graph.specs.Told.{LinksTold};
 ghost use Rattle.rings.specs.Field.{Spacious, Unled, AllLaid};
 ghost use Rattle.check_graph.specs.declared.Looked.TheVariants.{Right};
-ghost use Rattle.check_graph.specs.Looks.{looked_as, Looks};
+ghost use Rattle.check_graph.specs.Looks.{Looks};
 ghost use Rattle.check_graph.specs.Promises.{CheckGraphSays};
 
 use check_ends::{alike_node, apart_node};
@@ -18,7 +18,7 @@ use check_links::check_links;
 use check_lists::bad_nodes;
 use lay::{Found, lay_nodes};
 use starts::wrong_starts;
-use turn::Checked;
+use turn::{Reason, Refusal};
 
 // What is lent for the answer, by length: the points' buffer, two numbers to a point, and the three lists of the contour table.
 #[derive(Clone, Copy)]
@@ -29,25 +29,11 @@ pub struct Room {
     pub kinds: usize,
 }
 
-// What the checks find: nothing; what they refuse; or a `Cross` of more entries than they are to lay, where they stop.
+// What the checks find where they refuse nothing: that all is right, or a `Cross` of more entries than they are to lay, where they stop.
 #[derive(Clone, Copy)]
 pub enum Looked {
     Right,
-    Wrong { number: u32, place: usize },
     Wide,
-}
-
-// What a check that stops nowhere says.
-fn answer(said: Checked) -> Looked
-    ensures { result ≡ looked_as said }
-{
-    match said {
-        Checked::Fine => Looked::Right,
-        Checked::Refused { number, place } => Looked::Wrong {
-            number: number,
-            place: place,
-        },
-    }
 }
 
 // The order of the checks: what checks 5, 6 and 7 say, each over all nodes before the next.
@@ -61,7 +47,7 @@ fn check_in_order(
     start: &[u32],
     list: &[u32],
     state: &[u8],
-) -> Checked
+) -> Result<(), Refusal>
     requires points { Points ax.now ay.now bx.now by.now (length aid.now) }
     requires grids { Grids ax.now ay.now bx.now by.now (length aid.now) }
     requires state_len { length state.now ≡ length aid.now }
@@ -72,27 +58,24 @@ fn check_in_order(
         result ≡ nodes_checked g state.now) }
 {
     if bad_nodes(aid, bid, start, list) {
-        return Checked::Refused {
-            number: 5,
+        return Err(Refusal {
+            reason: Reason::WrongNodes,
             place: 0,
-        };
+        });
     }
-    let m = start.len() - 1;
-    let v = apart_node(ax, ay, bx, by, aid, start, list);
-    if v < m {
-        return Checked::Refused {
-            number: 6,
+    if let Some(v) = apart_node(ax, ay, bx, by, aid, start, list) {
+        return Err(Refusal {
+            reason: Reason::EndsApart,
             place: v,
-        };
+        });
     }
-    let w = alike_node(ax, ay, bx, by, aid, start, list, state);
-    if w < m {
-        return Checked::Refused {
-            number: 7,
-            place: w,
-        };
+    if let Some(v) = alike_node(ax, ay, bx, by, aid, start, list, state) {
+        return Err(Refusal {
+            reason: Reason::EndsAlike,
+            place: v,
+        });
     }
-    Checked::Fine
+    Ok(())
 }
 
 // What checks 5, 6 and 7 say. A graph that is fine is found so in one pass over its nodes, which leaves the field of its ends; which check refuses,
@@ -111,7 +94,7 @@ fn check_nodes(
     nxt: &mut [u32],
     prv: &mut [u32],
     lead: &mut [u8],
-) -> Looked
+) -> Result<Looked, Refusal>
     requires fact { (let g : Lent = lent ax.now ay.now bx.now by.now aid.now bid.now start.now list.now in
         LinksTold g state.now) }
     requires spacious { (Spacious (length aid.now) (length nxt.old) (length prv.old) (length lead.old)) × (Unled lead.old)
@@ -121,21 +104,24 @@ fn check_nodes(
         Looks g state.now most (nodes_checked g state.now) result) }
     ensures all_laid { (let g : Lent = lent ax.now ay.now bx.now by.now aid.now
         bid.now start.now list.now in
-        result ≡ Right → AllLaid g state.now nxt.new prv.new lead.new) }
+        result ≡ Ok Right → AllLaid g state.now nxt.new prv.new lead.new) }
 {
     // each link has two entries, so a list of any other length is wrong, and may be as long as it likes
     if wrong_starts(start, list) | (list.len() != 2 * aid.len()) {
-        return Looked::Wrong {
-            number: 5,
+        return Err(Refusal {
+            reason: Reason::WrongNodes,
             place: 0,
-        };
+        });
     }
     match lay_nodes(
         ax, ay, bx, by, aid, bid, start, list, state, most, nxt, prv, lead,
     ) {
-        Found::Fault => answer(check_in_order(ax, ay, bx, by, aid, bid, start, list, state)),
-        Found::Nothing => Looked::Right,
-        Found::Wide => Looked::Wide,
+        Found::Fault => {
+            check_in_order(ax, ay, bx, by, aid, bid, start, list, state)?;
+            Ok(Looked::Right)
+        }
+        Found::Nothing => Ok(Looked::Right),
+        Found::Wide => Ok(Looked::Wide),
     }
 }
 
@@ -157,7 +143,7 @@ pub fn check_graph(
     nxt: &mut [u32],
     prv: &mut [u32],
     lead: &mut [u8],
-) -> Looked
+) -> Result<Looked, Refusal>
     requires { (length aid.now ≤ max_links → Spacious (length aid.now) (length nxt.old) (length prv.old) (length lead.old))
         × (Unled lead.old) × (most ≤ 2 * max_links) }
     ensures fact { (let g : Lent = lent ax.now ay.now bx.now by.now aid.now
@@ -165,9 +151,9 @@ pub fn check_graph(
         CheckGraphSays g top.now state.now room most result) }
     ensures all_laid { (let g : Lent = lent ax.now ay.now bx.now by.now aid.now
         bid.now start.now list.now in
-        result ≡ Right → AllLaid g state.now nxt.new prv.new lead.new) }
+        result ≡ Ok Right → AllLaid g state.now nxt.new prv.new lead.new) }
 {
-    match check_links(
+    check_links(
         ax,
         ay,
         bx,
@@ -182,13 +168,8 @@ pub fn check_graph(
         room.firsts,
         room.lens,
         room.kinds,
-    ) {
-        Checked::Refused { number, place } => Looked::Wrong {
-            number: number,
-            place: place,
-        },
-        Checked::Fine => check_nodes(
-            ax, ay, bx, by, aid, bid, start, list, state, most, nxt, prv, lead,
-        ),
-    }
+    )?;
+    check_nodes(
+        ax, ay, bx, by, aid, bid, start, list, state, most, nxt, prv, lead,
+    )
 }

@@ -1,8 +1,7 @@
 -- What each public function promises, written once: its contract names it, and any two outcomes that it allows are equal.
 use Rattle.std.specs.Prelude.{List, ℕ}
 use Rattle.laws.specs.Unique.{Determines}
-use Rattle.turn.specs.declared.Checked.{Checked}
-use Rattle.turn.specs.Refusals.{Tells, tells_once}
+use Rattle.turn.specs.Refusals.{Tells, tells_once, Checked}
 use Rattle.graph.specs.Graph.{Lent}
 use Rattle.graph.specs.Checks.{Room, links_checked}
 

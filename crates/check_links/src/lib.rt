@@ -10,7 +10,7 @@ ghost use Rattle.check_links.specs.Promises.{CheckLinksSays};
 use check_room::no_room;
 use each_link::{bad_link, out_of_order};
 use quick_links::{any_misflagged, any_misnamed, any_misplaced};
-use turn::{Checked, MAX_LINKS};
+use turn::{MAX_LINKS, Reason, Refusal};
 
 // What checks 3 and 4 say. Only a graph with something wrong is asked for the place.
 fn check_each(
@@ -24,7 +24,7 @@ fn check_each(
     list: &[u32],
     top: &[u8],
     state: &[u8],
-) -> Checked
+) -> Result<(), Refusal>
     requires even { Even (lent ax.now ay.now bx.now by.now aid.now bid.now start.now list.now) }
     requires top_len { (length top.now ≡ length aid.now) × (length state.now ≡ length aid.now) }
     requires in_bounds { 1 ≤ length start.now }
@@ -36,19 +36,22 @@ fn check_each(
         | any_misnamed(start.len() - 1, aid, bid)
         | any_misflagged(top, state))
     {
-        return Checked::Fine;
+        return Ok(());
     }
-    let k = bad_link(ax, ay, bx, by, aid, bid, start, list, top, state);
-    if k < aid.len() {
-        return Checked::Refused {
-            number: 3,
+    if let Some(k) = bad_link(ax, ay, bx, by, aid, bid, start, list, top, state) {
+        return Err(Refusal {
+            reason: Reason::WrongLink,
             place: k,
-        };
+        });
     }
-    Checked::Refused {
-        number: 4,
-        place: out_of_order(ax, ay),
+    if let Some(j) = out_of_order(ax, ay) {
+        return Err(Refusal {
+            reason: Reason::LinksOutOfOrder,
+            place: j,
+        });
     }
+    // not reached: what the quick question finds, check 3 or check 4 finds
+    Ok(())
 }
 
 // What checks 1 to 4 say, each over all the input before the next.
@@ -67,25 +70,25 @@ pub fn check_links(
     firsts: usize,
     lens: usize,
     kinds: usize,
-) -> Checked
+) -> Result<(), Refusal>
     ensures { (let g : Lent = lent ax.now ay.now bx.now by.now aid.now
         bid.now start.now list.now in
         CheckLinksSays g top.now state.now (room points firsts lens kinds) result) }
 {
     let n = aid.len();
     if MAX_LINKS < n {
-        return Checked::Refused {
-            number: 1,
+        return Err(Refusal {
+            reason: Reason::TooManyLinks,
             place: 0,
-        };
+        });
     }
     if no_room(
         ax, ay, bx, by, aid, bid, start, list, top, state, points, firsts, lens, kinds,
     ) {
-        return Checked::Refused {
-            number: 2,
+        return Err(Refusal {
+            reason: Reason::WrongLengths,
             place: 0,
-        };
+        });
     }
     check_each(ax, ay, bx, by, aid, bid, start, list, top, state)
 }

@@ -12,32 +12,22 @@ ghost use Rattle.check_lists.specs.Promises.{BadNodesSays};
 use graph::entries;
 use turn::wide;
 
-// One less, or 0.
-fn less_one(x: u32) -> u32
-    ensures { result ≡ x - 1 }
-{
-    if x == 0 { 0 } else { x - 1 }
-}
-
 // Check 5, of the shared graph: whether a node from one start to the next has under two entries. In the starts' own 32 bits, so that the loop
 // over them is compiled for several at a time.
 fn short(from: u32, to: u32) -> bool
     ensures { result ≡ ltb to (from + 2) }
 {
-    less_one(to) <= from
+    to.saturating_sub(1) <= from
 }
 
 // Whether a start falls, or leaves its node under two entries.
+#[tactic(auto, using(laws::specs::Lowest::some_more))]
 fn any_short(start: &[u32]) -> bool
-    requires { 1 ≤ length start.now }
     ensures { result ≡ some (short start.now) (length start.now - 1) }
 {
-    let m = start.len() - 1;
     let mut wrong = false;
-    let mut v = 0;
-    while v < m {
-        wrong = wrong | short(start[v], start[v + 1]);
-        v += 1;
+    for pair in start.windows(2) {
+        wrong |= short(pair[0], pair[1]);
     }
     wrong
 }
@@ -59,7 +49,7 @@ fn stray(aid: &[u32], bid: &[u32], v: usize, e: usize) -> bool
     if aid.len() <= e {
         return true;
     }
-    !(wide(aid[e]) == v) & !(wide(bid[e]) == v)
+    (wide(aid[e]) != v) & (wide(bid[e]) != v)
 }
 
 // Whether node v, with these entries, has such an e.
@@ -67,14 +57,7 @@ fn stray_in(aid: &[u32], bid: &[u32], here: &[u32], v: usize) -> bool
     requires { length bid.now ≡ length aid.now }
     ensures { result ≡ stray_in aid.now bid.now here.now v }
 {
-    let mut i = 0;
-    while i < here.len() {
-        if stray(aid, bid, v, wide(here[i])) {
-            return true;
-        }
-        i += 1;
-    }
-    false
+    here.iter().any(|&e| stray(aid, bid, v, wide(e)))
 }
 
 // Whether some node has an entry that is no link with an end there.
@@ -84,28 +67,24 @@ fn any_stray(aid: &[u32], bid: &[u32], start: &[u32], list: &[u32]) -> bool
     ensures { result ≡ some (stray_at aid.now bid.now start.now list.now)
         (length start.now - 1) }
 {
-    let m = start.len() - 1;
-    let mut v = 0;
-    while v < m {
+    for v in 0..start.len() - 1 {
         if stray_in(aid, bid, entries(start, list, v), v) {
             return true;
         }
-        v += 1;
     }
     false
 }
 
 // How often x stands in a list.
+// By hand: `filter` and `count` are not compiled for several at a time.
 fn count(list: &[u32], x: usize) -> usize
     ensures { result ≡ count x list.now }
 {
     let mut n = 0;
-    let mut i = 0;
-    while i < list.len() {
-        if wide(list[i]) == x {
+    for &e in list {
+        if wide(e) == x {
             n += 1;
         }
-        i += 1;
     }
     n
 }
@@ -125,12 +104,10 @@ fn any_missed(aid: &[u32], bid: &[u32], start: &[u32], list: &[u32]) -> bool
     requires ids { Ids aid.now bid.now (length start.now - 1) }
     ensures { result ≡ some (missed aid.now bid.now start.now list.now) (length aid.now) }
 {
-    let mut k = 0;
-    while k < aid.len() {
+    for k in 0..aid.len() {
         if not_once(start, list, k, wide(aid[k])) | not_once(start, list, k, wide(bid[k])) {
             return true;
         }
-        k += 1;
     }
     false
 }

@@ -4,7 +4,7 @@
 ghost use Rattle.std.specs.Prelude.{◌*◌, ◌≤◌, length};
 ghost use Rattle.clear.specs.Promises.{ClearSays, TrimSays};
 
-use zeros::{restore, zero_bytes, zero_numbers, zero_points};
+use zeros::{restore, zero_from};
 
 // After 8 and 9: the states as before, and nothing written.
 pub fn clear(
@@ -18,10 +18,10 @@ pub fn clear(
         state.new points.new first.new len.new kind.new }
 {
     restore(state);
-    zero_points(points, 0);
-    zero_numbers(first, 0);
-    zero_numbers(len, 0);
-    zero_bytes(kind, 0);
+    zero_from(points, 0);
+    zero_from(first, 0);
+    zero_from(len, 0);
+    zero_from(kind, 0);
 }
 
 // After success: zeros past what was written.
@@ -37,8 +37,8 @@ pub fn trim(
     ensures { TrimSays written contours points.old first.old len.old kind.old
         points.new first.new len.new kind.new }
 {
-    zero_points(points, written * 2);
-    zero_numbers(first, contours);
-    zero_numbers(len, contours);
-    zero_bytes(kind, contours);
+    zero_from(points, written * 2);
+    zero_from(first, contours);
+    zero_from(len, contours);
+    zero_from(kind, contours);
 }

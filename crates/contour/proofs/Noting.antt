@@ -1,4 +1,5 @@
 -- A walk, as the code notes it: what the walk left, the counts after it.
+use Rattle.std.specs.Prelude.{Result, Ok, Err}
 use Prim.Native.Nat.{ℕ, ◌+◌, ◌*◌, ◌-◌, ◌≤◌, ◌<◌}
 use mathlib.Core.Path.{◌≡◌, refl, sym, ap, ◌∙◌, subst}
 use mathlib.Core.Bool.{Bool, true, false, true≢false}
@@ -14,15 +15,13 @@ use Rattle.graph.specs.Graph.{Graph}
 use Rattle.next.specs.Next.{unvisited}
 use Rattle.keep.specs.declared.Counts.{Counts}
 use Rattle.walk.specs.declared.Finished.{Finished}
-use Rattle.walk.specs.declared.Ended.{Ended}
-use Rattle.walk.specs.declared.Ended.TheVariants as ended
-use Rattle.contour.specs.declared.Noted.{Noted}
-use Rattle.contour.specs.declared.Noted.TheVariants as noting
 use Rattle.keep.specs.Tables.{sum_within, Tables, tables, enter, enter_kept, enter_rejected, noted, Within}
 use Rattle.walk.specs.Walk.{Step, Walk, Walked, stuck, done, left, mark_of}
 use Rattle.keep.specs.Ledger.{kept_three}
 use Rattle.walk.specs.Code.{paste, Marks, finished, WalkLeaves, Counted, Sized}
-use Rattle.contour.specs.Notes.{WalkNoted, Fewer, within_less}
+use Rattle.contour.specs.Notes.{WalkNoted, Fewer, within_less, entered}
+use Rattle.turn.specs.declared.Reason.{Reason}
+use Rattle.contour.specs.declared.Entered.{Entered}
 
 pub marks_of : (hole : Bool) → Marks (mark_of hole)
 marks_of true = omega arith
@@ -36,12 +35,12 @@ pub record Finish (g : Graph) (pts : List ℤ) (at : ℕ) (o : Walked) (f : Fini
   pub area_is : f.area ≡ area (map (left g) steps)
   pub written : pts' ≡ paste pts at (map (left g) steps)
 
-module _ (g : Graph) (pts : List ℤ) (at : ℕ) (r : Ended) (st' : List ℕ) (pts' : List ℤ) where
-  pub finish : (o : Walked) (f : Finished) → WalkLeaves g pts at o r st' pts' → r ≡ ended.Done f → Finish g pts at o f st' pts'
-  finish (stuck number) f h e = absurd (true≢false (cc))
+module _ (g : Graph) (pts : List ℤ) (at : ℕ) (r : Result Finished Reason) (st' : List ℕ) (pts' : List ℤ) where
+  pub finish : (o : Walked) (f : Finished) → WalkLeaves g pts at o r st' pts' → r ≡ Ok f → Finish g pts at o f st' pts'
+  finish (stuck reason) f h e = absurd (true≢false (cc))
   finish (done l st) f h e =
       let d : Finished = finished (at + length l) (area (map (left g) l)) in
-      let q : ended.Done f ≡ ended.Done d = sym e ∙ h.0 in
+      let q : Ok f ≡ Ok d = sym e ∙ h.0 in
       let z : f ≡ d = cc in
       record {
         steps = l;
@@ -51,10 +50,10 @@ module _ (g : Graph) (pts : List ℤ) (at : ℕ) (r : Ended) (st' : List ℕ) (p
         written = h.2;
       }
 
-  pub stuck_at : (o : Walked) (number : ℕ) → WalkLeaves g pts at o r st' pts' → r ≡ ended.Stuck number → o ≡ stuck number
-  stuck_at (stuck k) number h e = let q : ended.Stuck k ≡ ended.Stuck number = sym h ∙ e in let z : k ≡ number = cc in ap stuck z
-  stuck_at (done l st) number h e =
-      let q : ended.Done (finished (at + length l) (area (map (left g) l))) ≡ ended.Stuck number = sym h.0 ∙ e in absurd (true≢false (cc))
+  pub stuck_at : (o : Walked) (reason : Reason) → WalkLeaves g pts at o r st' pts' → r ≡ Err reason → o ≡ stuck reason
+  stuck_at (stuck k) reason h e = let q : Err k ≡ Err reason = sym h ∙ e in let z : k ≡ reason = cc in ap stuck z
+  stuck_at (done l st) reason h e =
+      let q : Ok (finished (at + length l) (area (map (left g) l))) ≡ Err reason = sym h.0 ∙ e in absurd (true≢false (cc))
 
 -- ---- the counts after a walk
 module _ (minimum : ℕ) (hole : Bool) (n size rest : ℕ) (a : ℤ) (t : Tables) (w : Within n (size + rest) t.counts) (some : 1 ≤ size)
@@ -83,7 +82,7 @@ module _ (minimum : ℕ) (hole : Bool) (n size rest : ℕ) (a : ℤ) (t : Tables
       }
 
 -- ---- one walk noted: the counts c before it, its points from number `c.points` on
-module _ (n : ℕ) (st st' : List ℕ) (c : Counts) (w : Within n (unvisited st) c) (f : Finished) (r : Ended) (e : r ≡ ended.Done f)
+module _ (n : ℕ) (st st' : List ℕ) (c : Counts) (w : Within n (unvisited st) c) (f : Finished) (r : Result Finished Reason) (e : r ≡ Ok f)
     (some : Counted (c.points + 1) c.points st st' r) (sized : Sized c.points r) where
   abbrev size : ℕ
   size = f.to - c.points
@@ -106,7 +105,7 @@ module _ (n : ℕ) (st st' : List ℕ) (c : Counts) (w : Within n (unvisited st)
   -- as the code enters it
   module _ (minimum : ℕ) (hole : Bool) (first len kind first' len' kind' : List ℕ) (d : Counts)
       (q : (pts : List ℤ) → tables pts first' len' kind' d ≡ enter minimum hole size f.area (tables pts first len kind c)) where
-    pub walk_fewer : (pts : List ℤ) (s : ℕ) → Fewer n st st' (noting.Entered d s)
+    pub walk_fewer : (pts : List ℤ) (s : ℕ) → Fewer n st st' (entered d s)
     walk_fewer pts s =
         let u : unvisited st ≡ size + unvisited st' = omega (arith, counted.0, counted.1) in (
           omega (arith, counted.0, counted.1),
@@ -126,10 +125,10 @@ module _ (n : ℕ) (st st' : List ℕ) (c : Counts) (w : Within n (unvisited st)
           ∙ ap (λ a. enter minimum hole (length h.steps) a (tables pts' first len kind c)) h.area_is
           ∙ ap (λ p. enter minimum hole (length h.steps) (area (map (left g) h.steps)) (tables p first len kind c)) h.written
 
-      pub walk_noted : (s : ℕ) → WalkNoted g minimum (tables pts first len kind c) hole s o (noting.Entered d s) st' pts' first' len' kind'
+      pub walk_noted : (s : ℕ) → WalkNoted g minimum (tables pts first len kind c) hole s o (entered d s) st' pts' first' len' kind'
       walk_noted s =
-          subst (λ x. WalkNoted g minimum (tables pts first len kind c) hole s x (noting.Entered d s) st' pts' first' len' kind') (sym h.is) (
-            ap (λ (x : Tables). noting.Entered x.counts s) entered_is,
+          subst (λ x. WalkNoted g minimum (tables pts first len kind c) hole s x (entered d s) st' pts' first' len' kind') (sym h.is) (
+            ap (λ (x : Tables). entered x.counts s) entered_is,
             refl,
             ap (λ (x : Tables). x.points) entered_is,
             ap (λ (x : Tables). x.first) entered_is,
@@ -137,7 +136,7 @@ module _ (n : ℕ) (st st' : List ℕ) (c : Counts) (w : Within n (unvisited st)
             ap (λ (x : Tables). x.kind) entered_is,
           )
 
-pub stuck_noted : (g : Graph) (minimum : ℕ) (t : Tables) (hole : Bool) (s : ℕ) (o : Walked) (number : ℕ) (r : Noted) (st' : List ℕ) (pts' : List ℤ)
-    (first len kind : List ℕ)
-    → o ≡ stuck number → r ≡ noting.Stuck number → WalkNoted g minimum t hole s o r st' pts' first len kind
-stuck_noted g minimum t hole s o number r st' pts' first len kind e q = subst (λ x. WalkNoted g minimum t hole s x r st' pts' first len kind) (sym e) q
+pub stuck_noted : (g : Graph) (minimum : ℕ) (t : Tables) (hole : Bool) (s : ℕ) (o : Walked) (reason : Reason) (r : Result Entered Reason)
+    (st' : List ℕ) (pts' : List ℤ) (first len kind : List ℕ)
+    → o ≡ stuck reason → r ≡ Err reason → WalkNoted g minimum t hole s o r st' pts' first len kind
+stuck_noted g minimum t hole s o reason r st' pts' first len kind e q = subst (λ x. WalkNoted g minimum t hole s x r st' pts' first len kind) (sym e) q

@@ -13,7 +13,8 @@ ghost use Rattle.contour.specs.Notes.{Fewer, Roomy};
 ghost use Rattle.contour.specs.Promises.{NoteContourSays};
 
 use keep::Counts;
-use walk::{Course, Ended};
+use turn::Reason;
+use walk::Course;
 
 // How outlines are asked for: the output direction, the area below which a walk is rejected, and whether points on a straight line are dropped.
 #[derive(Clone, Copy)]
@@ -23,24 +24,18 @@ pub struct Settings {
     pub drop_straight: bool,
 }
 
-// What becomes of a walk of the scan: entered in the table or the counts, with its first link told, or refused with a number.
+// A walk of the scan, entered in the table or the counts: the counts after it, and its first link.
 #[derive(Clone, Copy)]
-pub enum Noted {
-    Entered { counts: Counts, first: usize },
-    Stuck(u32),
+pub struct Entered {
+    pub counts: Counts,
+    pub first: usize,
 }
 
+// By hand: the states that C lends are numbers.
 fn mark_of(hole: bool) -> u8
     ensures { result ≡ mark_of hole }
 {
     if hole { 2 } else { 3 }
-}
-
-// Whether two flags are equal.
-fn same(a: bool, b: bool) -> bool
-    ensures { result ≡ beq a b }
-{
-    (a & b) | (!a & !b)
 }
 
 // Rules 2 to 6: the walk that starts with link s, a hole's or a hull's, entered in the table or counted as rejected.
@@ -60,7 +55,7 @@ pub fn note_contour(
     kind: &mut [u8],
     s: usize,
     c: Counts,
-) -> Noted
+) -> Result<Entered, Reason>
     requires steered { (Steered nxt.now prv.now state.old) × (Links ax.now ay.now bx.now by.now (length state.old)) }
     requires roomy { Roomy (length state.old) (length points.old) (length first.old) (length len.old) (length kind.old) }
     requires s_in_bounds { (s < length state.old) × (get_or state.old s 1 ≡ 0) × (Within (length state.old) (unvisited state.old) c) }
@@ -70,30 +65,23 @@ pub fn note_contour(
     ensures fewer { Fewer (length state.old) state.old state.new result }
     ensures kept { Kept state.old state.new }
 {
-    let sense = same(hole, settings.clockwise);
+    let sense = hole == settings.clockwise;
     let course = Course {
         forward: !sense,
-        sense: sense,
+        sense,
         mark: mark_of(hole),
     };
     let at = c.points;
-    match walk::find_contour(ax, ay, bx, by, nxt, prv, course, state, points, at, s) {
-        Ended::Stuck(number) => Noted::Stuck(number),
-        Ended::Done(walked) => {
-            let counts = keep::note_walk(
-                first,
-                len,
-                kind,
-                hole,
-                settings.minimum,
-                walked.to,
-                walked.area,
-                c,
-            );
-            Noted::Entered {
-                counts: counts,
-                first: s,
-            }
-        }
-    }
+    let walked = walk::find_contour(ax, ay, bx, by, nxt, prv, course, state, points, at, s)?;
+    let counts = keep::note_walk(
+        first,
+        len,
+        kind,
+        hole,
+        settings.minimum,
+        walked.to,
+        walked.area,
+        c,
+    );
+    Ok(Entered { counts, first: s })
 }

@@ -22,13 +22,17 @@ fn size(out: Stdout, area: i64, minimum: u64) {
     put(out, b"\nsize");
     say(out, turn::absolute(area));
     say(out, minimum);
-    say(out, size::is_kept(18446744073709551615, area, 0) as u64);
-    say(out, size::is_kept(3, area, 1) as u64);
-    say(out, size::is_kept(3, area, minimum) as u64);
-    say(out, size::is_kept(3, area, 9223372036854775807) as u64);
-    say(out, size::is_kept(3, area, 9223372036854775808) as u64);
-    say(out, size::is_kept(3, area, 18446744073709551615) as u64);
-    say(out, size::is_kept(2, area, 0) as u64);
+    for (points, least) in [
+        (usize::MAX, 0),
+        (3, 1),
+        (3, minimum),
+        (3, i64::MAX as u64),
+        (3, 1 << 63),
+        (3, u64::MAX),
+        (2, 0),
+    ] {
+        say(out, size::is_kept(points, area, least) as u64);
+    }
 }
 
 // Whether p is before q, q before p, and whether they differ.
@@ -86,61 +90,70 @@ fn product(out: Stdout, u: Vector, v: Vector)
 
 // Areas at 0, odd, about a minimum, and at both ends of 64 bits; and a minimum whose doubling would wrap to the area.
 fn sizes(out: Stdout) {
-    size(out, 0, 0);
-    size(out, 1, 1);
-    size(out, -1, 1);
-    size(out, 2, 1);
-    size(out, -3, 2);
-    size(out, 33, 16);
-    size(out, -33, 17);
-    size(out, 9223372036854775807, 4611686018427387903);
-    size(out, 9223372036854775807, 4611686018427387904);
-    size(out, -9223372036854775807, 4611686018427387904);
-    size(out, -9223372036854775808, 4611686018427387904);
-    size(out, -9223372036854775808, 4611686018427387905);
-    size(out, 32, 9223372036854775824);
+    for (area, minimum) in [
+        (0, 0),
+        (1, 1),
+        (-1, 1),
+        (2, 1),
+        (-3, 2),
+        (33, 16),
+        (-33, 17),
+        (i64::MAX, 4611686018427387903),
+        (i64::MAX, 4611686018427387904),
+        (-i64::MAX, 4611686018427387904),
+        (i64::MIN, 4611686018427387904),
+        (i64::MIN, 4611686018427387905),
+        (32, 9223372036854775824),
+    ] {
+        size(out, area, minimum);
+    }
 }
 
 // Points and coordinates about 0, at the bounds of the grid, and at both ends of 32 bits.
 fn places(out: Stdout) {
-    order(out, 0, 0, 0, 0);
-    order(out, 0, 0, 0, 1);
-    order(out, 0, 5, 1, -5);
-    order(out, -2147483648, 2147483647, 2147483647, -2147483648);
-    order(out, -2147483648, 2147483647, -2147483648, 2147483647);
-    bound(out, -2147483648);
-    bound(out, -524289);
-    bound(out, -524288);
-    bound(out, 0);
-    bound(out, 524288);
-    bound(out, 524289);
-    bound(out, 2147483647);
+    for (px, py, qx, qy) in [
+        (0, 0, 0, 0),
+        (0, 0, 0, 1),
+        (0, 5, 1, -5),
+        (i32::MIN, i32::MAX, i32::MAX, i32::MIN),
+        (i32::MIN, i32::MAX, i32::MIN, i32::MAX),
+    ] {
+        order(out, px, py, qx, qy);
+    }
+    for z in [i32::MIN, -524289, -524288, 0, 524288, 524289, i32::MAX] {
+        bound(out, z);
+    }
 }
 
 // Turns either way, straight on, of points that are one, and at the corners of the grid.
 fn turns(out: Stdout) {
-    turning(out, 0, 0, 1, 0, 1, 1);
-    turning(out, 0, 0, 1, 1, 2, 2);
-    turning(out, 0, 0, 0, 0, 5, 7);
-    turning(out, 524288, 524288, 524288, 524288, 524288, 524288);
-    turning(out, -524288, -524288, 524288, -524288, 524288, 524288);
-    turning(out, -524288, -524288, 524288, 524288, 524287, 524287);
-    turning(out, -524288, -524288, 524288, 524288, 524287, 524288);
-    turning(out, -524288, -524288, 524288, 524288, 524288, 524287);
+    for (ax, ay, bx, by, cx, cy) in [
+        (0, 0, 1, 0, 1, 1),
+        (0, 0, 1, 1, 2, 2),
+        (0, 0, 0, 0, 5, 7),
+        (524288, 524288, 524288, 524288, 524288, 524288),
+        (-524288, -524288, 524288, -524288, 524288, 524288),
+        (-524288, -524288, 524288, 524288, 524287, 524287),
+        (-524288, -524288, 524288, 524288, 524287, 524288),
+        (-524288, -524288, 524288, 524288, 524288, 524287),
+    ] {
+        turning(out, ax, ay, bx, by, cx, cy);
+    }
 }
 
-// Boxes of either sense, as wide as the grid, and of no height; and point lists that are cut.
+// Point lists that are cut; and boxes of either sense, as wide as the grid, and of no height.
 fn areas(out: Stdout) {
-    area(out, 0, 0, 4, 4, 0);
-    area(out, 0, 0, 4, 4, 1);
-    area(out, 0, 0, 4, 4, 2);
-    area(out, 0, 0, 4, 4, 4);
-    area(out, 0, 0, 4, 4, 6);
-    area(out, 0, 0, 4, 4, 7);
-    area(out, 4, 0, 0, 4, 8);
-    area(out, -524288, -524288, 524288, 524288, 8);
-    area(out, 524288, -524288, -524288, 524288, 8);
-    area(out, -524288, 524288, 524288, 524288, 8);
+    for count in [0, 1, 2, 4, 6, 7] {
+        area(out, 0, 0, 4, 4, count);
+    }
+    for (west, south, east, north) in [
+        (4, 0, 0, 4),
+        (-524288, -524288, 524288, 524288),
+        (524288, -524288, -524288, 524288),
+        (-524288, 524288, 524288, 524288),
+    ] {
+        area(out, west, south, east, north, 8);
+    }
 }
 
 // Vectors that no link has: of length 0, and as long as the grid is wide.
@@ -154,11 +167,9 @@ fn vectors(out: Stdout) {
         x: 1048576,
         y: -1048576,
     };
-    product(out, zero, zero);
-    product(out, zero, up);
-    product(out, up, zero);
-    product(out, down, up);
-    product(out, up, down);
+    for (u, v) in [(zero, zero), (zero, up), (up, zero), (down, up), (up, down)] {
+        product(out, u, v);
+    }
 }
 
 fn main(rt: HostRuntime) {

@@ -1,4 +1,4 @@
-// Checks 3 and 4, link by link: each link by itself, and the lowest that is wrong or out of order.
+// Checks 3 and 4, link by link: each link by itself, and the lowest that is wrong or out of order, or that there is none.
 #![tactic(auto)]
 
 ghost use Rattle.std.specs.Prelude.{◌≡◌, ◌<◌, ◌≤◌, length};
@@ -57,7 +57,7 @@ fn link_wrong(
         | misflagged(top[k], state[k])
 }
 
-// The lowest link that check 3 refuses, among m nodes, or the number of links.
+// The lowest link that check 3 refuses, among m nodes, or none.
 pub fn bad_link(
     ax: &[i32],
     ay: &[i32],
@@ -69,7 +69,7 @@ pub fn bad_link(
     list: &[u32],
     top: &[u8],
     state: &[u8],
-) -> usize
+) -> Option<usize>
     requires even { Even (lent ax.now ay.now bx.now by.now aid.now bid.now start.now list.now) }
     requires top_len { (length top.now ≡ length aid.now) × (length state.now ≡ length aid.now) }
     requires in_bounds { 1 ≤ length start.now }
@@ -77,29 +77,23 @@ pub fn bad_link(
         bid.now start.now list.now in
         BadLinkSays g top.now state.now result) }
 {
-    let n = aid.len();
-    let mut k = 0;
-    while k < n {
+    for k in 0..aid.len() {
         if link_wrong(ax, ay, bx, by, aid, bid, start, list, top, state, k) {
-            return k;
+            return Some(k);
         }
-        k += 1;
     }
-    n
+    None
 }
 
-// Check 4, of the shared graph: the lowest link whose a is before the previous link's a, or the number of links.
-pub fn out_of_order(ax: &[i32], ay: &[i32]) -> usize
+// Check 4, of the shared graph: the lowest link whose a is before the previous link's a, or none.
+pub fn out_of_order(ax: &[i32], ay: &[i32]) -> Option<usize>
     requires { length ay.now ≡ length ax.now }
     ensures { OutOfOrderSays (point_at ax.now ay.now) (length ax.now) result }
 {
-    let n = ax.len();
-    let mut k = 1;
-    while k < n {
+    for k in 1..ax.len() {
         if before(point_at(ax, ay, k), point_at(ax, ay, k - 1)) {
-            return k;
+            return Some(k);
         }
-        k += 1;
     }
-    n
+    None
 }

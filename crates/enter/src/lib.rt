@@ -23,11 +23,5 @@ pub fn enter_contour(
 {
     first[i] = at as u32;
     len[i] = size as u32;
-    kind[i] = kind_of(hole);
-}
-
-fn kind_of(hole: bool) -> u8
-    ensures { result ≡ pick hole 1 0 }
-{
-    if hole { 1 } else { 0 }
+    kind[i] = u8::from(hole);
 }

@@ -2,7 +2,7 @@
 #![tactic(auto)]
 
 ghost use Rattle.std.specs.Prelude.{◌≡◌, ◌≤◌, length};
-ghost use Rattle.extent.specs.Extent.{lesser, greater, alone, spread};
+ghost use Rattle.extent.specs.Extent.{alone, spread};
 ghost use Rattle.extent.specs.Promises.{ExtentOfSays};
 
 use table::point_in;
@@ -15,18 +15,6 @@ pub struct Extent {
     pub bottom: i32,
     pub right: i32,
     pub top: i32,
-}
-
-fn lesser(a: i32, b: i32) -> i32
-    ensures { result ≡ lesser a b }
-{
-    if b < a { b } else { a }
-}
-
-fn greater(a: i32, b: i32) -> i32
-    ensures { result ≡ greater a b }
-{
-    if a < b { b } else { a }
 }
 
 // The extent of one point.
@@ -45,15 +33,11 @@ fn alone(p: Point) -> Extent
 fn spread(e: Extent, p: Point) -> Extent
     ensures { result ≡ spread e p }
 {
-    let left = lesser(e.left, p.x);
-    let bottom = lesser(e.bottom, p.y);
-    let right = greater(e.right, p.x);
-    let top = greater(e.top, p.y);
     Extent {
-        left: left,
-        bottom: bottom,
-        right: right,
-        top: top,
+        left: e.left.min(p.x),
+        bottom: e.bottom.min(p.y),
+        right: e.right.max(p.x),
+        top: e.top.max(p.y),
     }
 }
 
@@ -63,11 +47,8 @@ pub fn extent_of(points: &[i32]) -> Extent
     ensures { ExtentOfSays points.now result }
 {
     let mut e = alone(point_in(points, 0));
-    let n = points.len() / 2;
-    let mut k = 1;
-    while k < n {
+    for k in 1..points.len() / 2 {
         e = spread(e, point_in(points, k));
-        k += 1;
     }
     e
 }

@@ -6,9 +6,9 @@ ghost use Rattle.finish.specs.Finish.{Buffers, buffers};
 ghost use Rattle.extract.specs.Promises.{ExtractSays};
 
 use contour::Settings;
-use extract_few_in::extract_few_in;
 use extract_in::extract_in;
-use scan::Extraction;
+use keep::Counts;
+use turn::Refusal;
 
 // A graph with few links is walked over small arrays, which cost little to make.
 const FEW_LINKS: usize = 128;
@@ -34,7 +34,7 @@ pub fn extract(
     first: &mut [u32],
     len: &mut [u32],
     kind: &mut [u8],
-) -> Extraction
+) -> Result<Counts, Refusal>
     ensures { (let g : Lent = lent ax.now ay.now bx.now by.now aid.now
         bid.now start.now list.now in
         let before : Buffers = buffers state.old points.old first.old len.old
@@ -46,7 +46,7 @@ pub fn extract(
         let mut nxt = [0u32; FEW_ENDS];
         let mut prv = [0u32; FEW_ENDS];
         let mut lead = [0u8; FEW_LINKS];
-        return extract_few_in(
+        return extract_in::<true>(
             ax, ay, bx, by, aid, bid, start, list, top, settings, state, points, first, len, kind,
             &mut nxt, &mut prv, &mut lead,
         );
@@ -54,7 +54,7 @@ pub fn extract(
     let mut nxt = [0u32; MAX_ENDS];
     let mut prv = [0u32; MAX_ENDS];
     let mut lead = [0u8; turn::MAX_LINKS];
-    extract_in(
+    extract_in::<false>(
         ax, ay, bx, by, aid, bid, start, list, top, settings, state, points, first, len, kind,
         &mut nxt, &mut prv, &mut lead,
     )

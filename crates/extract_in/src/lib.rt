@@ -10,12 +10,14 @@ ghost use Rattle.extract_in.specs.Promises.{ExtractInSays};
 
 use check_graph::Room;
 use contour::Settings;
+use keep::Counts;
 use outlines::extract_outlines;
-use scan::Extraction;
-use turn::Checked;
+use turn::Refusal;
 
-// Extraction over lists lent to work in: checks 1 to 7, and the scan over the field of ends that they lay there.
-pub fn extract_in(
+// Extraction over lists lent to work in: checks 1 to 7, and the scan over the field of ends that they lay there. It is compiled once for graphs of few
+// links and once for all others. So the pass over the nodes and the scan are called from two places each, and the compiler keeps them apart: in one
+// function with their callers they would want for registers (a twentieth more instructions at graphs of `Bridge`s).
+pub fn extract_in<const FEW: bool>(
     ax: &[i32],
     ay: &[i32],
     bx: &[i32],
@@ -34,7 +36,7 @@ pub fn extract_in(
     nxt: &mut [u32],
     prv: &mut [u32],
     lead: &mut [u8],
-) -> Extraction
+) -> Result<Counts, Refusal>
     requires { (length aid.now ≤ max_links → Spacious (length aid.now) (length nxt.old) (length prv.old) (length lead.old))
         × (Unled lead.old) }
     ensures { (let g : Lent = lent ax.now ay.now bx.now by.now aid.now
@@ -50,15 +52,10 @@ pub fn extract_in(
         lens: len.len(),
         kinds: kind.len(),
     };
-    match check_any::check_any(
+    check_any::check_any::<FEW>(
         ax, ay, bx, by, aid, bid, start, list, top, state, room, nxt, prv, lead,
-    ) {
-        Checked::Refused { number, place } => Extraction::Refused {
-            number: number,
-            place: place,
-        },
-        Checked::Fine => extract_outlines(
-            ax, ay, bx, by, nxt, prv, lead, top, settings, state, points, first, len, kind,
-        ),
-    }
+    )?;
+    extract_outlines(
+        ax, ay, bx, by, nxt, prv, lead, top, settings, state, points, first, len, kind,
+    )
 }

@@ -5,20 +5,19 @@ use Rattle.std.proofs.Math.Path.{ap}
 use Rattle.laws.specs.Lists.{map_same}
 use Rattle.graph.specs.Graph.{Lent, graph_of, link_count}
 use Rattle.turn.specs.Limits.{max_links}
-use Rattle.turn.specs.declared.Checked.{Checked}
-use Rattle.turn.specs.declared.Checked.TheVariants as check
 use Rattle.graph.specs.Checks.{room, checked}
 use Rattle.graph.specs.Fine.{FineGraph, fine}
 use Rattle.next.specs.Known.{Links}
 use Rattle.next.specs.Fine.{links_known}
 use Rattle.rings.specs.Field.{Spacious, AllLaid, Field}
 use Rattle.rings.proofs.Steering as steering
-use Rattle.scan.specs.declared.Extraction.TheVariants.{Refused}
 use Rattle.scan.specs.Scan.{scan}
 use Rattle.finish.specs.Finish.{Buffers}
 use Rattle.contour.specs.Notes.{Roomy}
 use Rattle.walk.specs.Code.{unmark}
 use Rattle.extraction.specs.Extract.{extracted_as, after_scan, after_checks, extracted}
+use Rattle.turn.specs.Refusals.{Checked, refused, no_fault}
+use Rattle.turn.specs.declared.Reason.{Reason}
 
 -- ---- what the checks give the walks
 module _ (g : Lent) (top st : List ℕ) (points firsts lens kinds : ℕ) (f : FineGraph g top st (room points firsts lens kinds)) where
@@ -73,16 +72,16 @@ module _ (g : Lent) (top : List ℕ) (cw : Bool) (minimum : ℕ) (b : Buffers) w
   abbrev checks : Checked
   checks = checked g top b.state (room (length b.points) (length b.first) (length b.len) (length b.kind))
 
-  pub after_refusal : (number place : ℕ) → checks ≡ check.Refused number place → extracted_as (Refused number place) b ≡ extracted g top cw minimum b
+  pub after_refusal : (reason : Reason) (place : ℕ) → checks ≡ refused reason place → extracted_as (refused reason place) b ≡ extracted g top cw minimum b
   unfolding extracted
-  after_refusal number place e = ap (after_checks (graph_of g top) cw minimum b) (sym e)
+  after_refusal reason place e = ap (after_checks (graph_of g top) cw minimum b) (sym e)
 
-  pub after_fine : checks ≡ check.Fine → after_scan (graph_of g top) minimum b (scan (graph_of g top) cw b.state) ≡ extracted g top cw minimum b
+  pub after_fine : checks ≡ no_fault → after_scan (graph_of g top) minimum b (scan (graph_of g top) cw b.state) ≡ extracted g top cw minimum b
   unfolding extracted
   after_fine e = ap (after_checks (graph_of g top) cw minimum b) (sym e)
 
   -- what a graph that passes them lends to the scan
-  pub lent_on : checks ≡ check.Fine → {nxt prv lead : List ℕ} → AllLaid g b.state nxt prv lead
+  pub lent_on : checks ≡ no_fault → {nxt prv lead : List ℕ} → AllLaid g b.state nxt prv lead
       → (link_count g ≤ max_links → Spacious (link_count g) (length nxt) (length prv) (length lead)) → Lends g top b nxt prv lead
   lent_on e laid wide =
       let f = fine g top b.state (room (length b.points) (length b.first) (length b.len) (length b.kind)) e in (

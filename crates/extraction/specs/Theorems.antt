@@ -2,21 +2,18 @@
 -- other, the states tell which, and the counts add up.
 -- That every walk is closed and has three points or more, and what the totals come to, is proved above, of graphs that
 -- pass the checks (crate tour: ThreePoints, Statement).
-use Rattle.std.specs.Prelude.{ℕ, ◌+◌, ◌≡◌, ◌⊎◌, Bool, true, false, List, [], ◌∷◌, length, get_or, set, pos, ◌+ℤ◌}
+use Rattle.std.specs.Prelude.{ℕ, ◌+◌, ◌≡◌, ◌⊎◌, Bool, true, false, List, [], ◌∷◌, length, get_or, set, pos, ◌+ℤ◌, Ok, Err}
 use Rattle.std.proofs.Common.{arith, sym, ap, ◌∙◌, subst, inl, inr, ⊎_elim, get_or-set_same, get_or-set_other, eqb-true, eq-eqb}
 use Rattle.std.proofs.Math.Decide.{ℕ_discrete}
 use Rattle.std.proofs.Math.Path.{refl}
 use Rattle.std.proofs.Math.IntN.{+ℤ_assoc, +ℤ_idl}
 use Rattle.laws.specs.Test.{pick, true≢false}
 use Rattle.laws.specs.Int.{+ℤ-left}
-use Rattle.turn.specs.declared.Checked.{Checked}
-use Rattle.turn.specs.declared.Checked.TheVariants as check
 use Rattle.graph.specs.Graph.{Graph, Lent, graph_of}
 use Rattle.graph.specs.Checks.{checked, room}
 use Rattle.next.specs.Next.{is_unvisited, unvisited}
 use Rattle.next.specs.States.{unvisited_below}
 use Rattle.keep.specs.declared.Counts.{Counts}
-use Rattle.scan.specs.declared.Extraction.TheVariants.{Done}
 use Rattle.walk.specs.Walk.{Step, Walk, marked, mark_of}
 use Rattle.scan.specs.Scan.{Scanned, stopped, walks, scan}
 use Rattle.keep.specs.Outcome.{states_after, area_of, keeps, kept, rejected, all_points, areas, total, counts_of}
@@ -26,6 +23,7 @@ use Rattle.scan.specs.Visits.{AllFresh, times, scanned}
 use Rattle.keep.specs.Ledger.{all_points_length}
 use Rattle.extraction.specs.Extract.{Extracted, after_walks, after_scan, after_checks, extracted}
 use Rattle.finish.specs.Finish.{Buffers}
+use Rattle.turn.specs.Refusals.{Checked}
 
 -- ---- a state at entry and at exit: as it was, or 0 and then 2 or 3
 abbrev pub TwoOrThree : ℕ → Type 0
@@ -110,8 +108,8 @@ module _ (g : Lent) (top : List ℕ) (cw : Bool) (minimum : ℕ) (b : Buffers) (
   G = graph_of g top
 
   by_scan : (o : Scanned) → scan G cw b.state ≡ o → extracted g top cw minimum b ≡ after_scan G minimum b o
-      → (after_scan G minimum b o).answer ≡ Done c → Success g top cw minimum b c
-  by_scan (stopped number place) e q d = absurd (true≢false (cc) refl)
+      → (after_scan G minimum b o).answer ≡ Ok c → Success g top cw minimum b c
+  by_scan (stopped reason place) e q d = absurd (true≢false (cc) refl)
   by_scan (walks ws after) e q d =
       let s = scanned G cw b.state ws after e in
       let k : counts_of G minimum ws ≡ c = cc in
@@ -136,11 +134,11 @@ module _ (g : Lent) (top : List ℕ) (cw : Bool) (minimum : ℕ) (b : Buffers) (
         totals = subst (λ (x : Counts). x.kept_area +ℤ x.rejected_area ≡ total (areas G ws)) k (kept_and_rejected G minimum ws);
       }
 
-  by_checks : (k : Checked) → extracted g top cw minimum b ≡ after_checks G cw minimum b k → (after_checks G cw minimum b k).answer ≡ Done c
+  by_checks : (k : Checked) → extracted g top cw minimum b ≡ after_checks G cw minimum b k → (after_checks G cw minimum b k).answer ≡ Ok c
       → Success g top cw minimum b c
-  by_checks (check.Refused number place) q d = absurd (true≢false (cc) refl)
-  by_checks check.Fine q d = by_scan (scan G cw b.state) refl q d
+  by_checks (Err r) q d = absurd (true≢false (cc) refl)
+  by_checks (Ok u) q d = by_scan (scan G cw b.state) refl q d
 
-  pub success : (extracted g top cw minimum b).answer ≡ Done c → Success g top cw minimum b c
+  pub success : (extracted g top cw minimum b).answer ≡ Ok c → Success g top cw minimum b c
   unfolding extracted
   success d = by_checks (checked g top b.state (room (length b.points) (length b.first) (length b.len) (length b.kind))) refl d

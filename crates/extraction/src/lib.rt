@@ -10,7 +10,8 @@ ghost use Rattle.finish.specs.Finish.{buffers};
 ghost use Rattle.extraction.specs.Promises.{ExtractFineSays};
 
 use contour::Settings;
-use scan::Extraction;
+use keep::Counts;
+use turn::Refusal;
 
 // Extraction of a graph that passes checks 1 to 7, over the field of its ends.
 pub fn extract_fine(
@@ -28,7 +29,7 @@ pub fn extract_fine(
     first: &mut [u32],
     len: &mut [u32],
     kind: &mut [u8],
-) -> Extraction
+) -> Result<Counts, Refusal>
     requires fielded { Fielded ax.now ay.now bx.now by.now top.now nxt.now prv.now lead.now state.old }
     requires links { (Links ax.now ay.now bx.now by.now (length state.old)) × (length top.now ≡ length state.old) }
     requires roomy { Roomy (length state.old) (length points.old) (length first.old) (length len.old) (length kind.old) }

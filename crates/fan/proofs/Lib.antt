@@ -1,4 +1,4 @@
--- Laws of the sort, of the copy and of its parts; leaves first.
+-- Laws of the sort and of the copy's parts; leaves first.
 pub mod Turns
-pub mod Copies
+pub mod Moves
 pub mod Parts

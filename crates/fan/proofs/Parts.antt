@@ -2,14 +2,14 @@
 use Prim.Native.Nat.{ℕ, zero, suc, ◌+◌, ◌-◌, ◌≤◌, ◌<◌}
 use native.Mathlib.Omega.{arith}
 use native.Mathlib.Decide.{ℕ_discrete, dec_le}
-use mathlib.Core.Path.{◌≡◌, refl, sym, ap, ◌∙◌, subst}
+use mathlib.Core.Path.{◌≡◌, sym, ap, ◌∙◌, subst}
 use mathlib.Core.List.{List, ◌++◌}
 use lib.ListN.{length, get_or, take, drop, length-append, length-take, length-drop, get_or-append}
 use lib.Seq.{get_or-take, get_or-drop, get_or-append-add, length-take-le, take_at, drop_at, ext_get_or}
 use Rattle.graph.specs.Graph.{part}
 use Rattle.graph.specs.Passes.{Rising}
 use Rattle.graph.specs.Total.{starts_within, part_length}
-use Rattle.fan.specs.Rearranged.{Rearranged, unmoved, moved_twice}
+use Rattle.fan.specs.Rearranged.{Rearranged, moved_twice}
 use Rattle.fan.specs.Arranged.{Arranged, few_entries, still_rising}
 
 -- ---- k entries from a on are replaced by ys
@@ -127,10 +127,6 @@ module _ {start list xs : List ℕ} (rising : Rising start list) (c : Arranged s
           let g : length (part start list v) ≤ few_entries = subst (λ (w : ℕ). length (part start list w) ≤ few_entries) e f in
           rw e (there xs ys a k within long ∙ stays (omega (arith, g, (c.each v l).len)) ∙ c.few v l g)
       same u h f (no n) = others u h n ∙ c.few u h f
-
--- a copy is arranged
-pub arranged_copy : {start list copy : List ℕ} → copy ≡ list → Arranged start list copy
-arranged_copy {list = list} e = rw e (record { len = refl; each = λ v l. unmoved _; few = λ v l f. refl })
 
 -- as the code has it: the part from `from` to before `to`
 pub arranged_part : {start list xs ys : List ℕ} → Rising start list → Arranged start list xs → (v : ℕ) → v < length start - 1 → (from to : ℕ)

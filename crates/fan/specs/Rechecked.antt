@@ -7,10 +7,10 @@ use Rattle.laws.specs.Count.{count, count_two}
 use Rattle.laws.specs.Lowest.{some, none_of}
 use Rattle.laws.specs.Fails.{or_fails, some_fails, ne_fails}
 use Rattle.turn.specs.declared.Point.{Point}
-use Rattle.turn.specs.declared.Checked.{Checked}
-use Rattle.turn.specs.declared.Checked.TheVariants.{Refused}
 use Rattle.turn.specs.Angle.{same_direction}
-use Rattle.turn.specs.Refusals.{refuse_at, followed_by}
+use Rattle.turn.specs.declared.Reason.{Reason}
+use Rattle.turn.specs.declared.Reason.TheVariants.{EndsApart, EndsAlike}
+use Rattle.turn.specs.Refusals.{refuse_at, followed_by, Checked, refused}
 use Rattle.graph.specs.Graph.{Lent, lent, part}
 use Rattle.graph.specs.Checks.{Room, a_of, b_of, node_at, entries_of, bad_starts, stray, stray_at, missed, bad_nodes, away, apart, apart_at, skipped, alike}
 use Rattle.graph.specs.Checks.{alike_at, each_checked, links_checked, nodes_checked, checked}
@@ -99,8 +99,8 @@ module _ (ax ay bx by : List ℤ) (a_id b_id start list copy state : List ℕ) (
           (single v l)
 
     -- ---- together
-    refuse_same : (number : ℕ) (s t : ℕ → Bool) (x y : Checked) → ((k : ℕ) → k < m → s k ≡ t k) → x ≡ y → refuse_at number s m x ≡ refuse_at number t m y
-    refuse_same number s t x y h e = ap₂ (λ (n : ℕ) (z : Checked). pick (ltb n m) (Refused number n) z) (lowest_same s t m h) e
+    refuse_same : (reason : Reason) (s t : ℕ → Bool) (x y : Checked) → ((k : ℕ) → k < m → s k ≡ t k) → x ≡ y → refuse_at reason s m x ≡ refuse_at reason t m y
+    refuse_same reason s t x y h e = ap₂ (λ (n : ℕ) (z : Checked). pick (ltb n m) (refused reason n) z) (lowest_same s t m h) e
 
     else_same : (r s : Bool) (x y z : Checked) → r ≡ s → (s ≡ false → y ≡ z) → pick r x y ≡ pick s x z
     else_same r true x y z e h = rw e
@@ -110,7 +110,7 @@ module _ (ax ay bx by : List ℤ) (a_id b_id start list copy state : List ℕ) (
     unfolding nodes_checked
     nodes_again = else_same _ _ _ _ _ bad_same λ e.
         let single = single_entries a_id b_id start list e in
-        refuse_same 6 _ _ _ _ (apart_same single) (refuse_same 7 _ _ _ _ (alike_same single) refl)
+        refuse_same EndsApart _ _ _ _ (apart_same single) (refuse_same EndsAlike _ _ _ _ (alike_same single) refl)
 
     pub checked_again : (top : List ℕ) (r : Room) → checked copied top state r ≡ checked listed top state r
     unfolding checked links_checked each_checked

@@ -2,8 +2,7 @@
 // laid. In what order they are laid decides time alone: what is proved of the sort is that it keeps the entries.
 #![tactic(auto)]
 
-ghost use Rattle.std.specs.Prelude.{◌≡◌, ℕ, ◌+◌, ◌-◌, ◌*◌, ◌<◌, ◌≤◌, leb, length, get_or};
-ghost use Rattle.laws.specs.Lowest.{some};
+ghost use Rattle.std.specs.Prelude.{◌≡◌, ℕ, ◌+◌, ◌-◌, ◌*◌, ◌<◌, ◌≤◌, length};
 ghost use Rattle.turn.specs.Limits.{max_links};
 ghost use Rattle.graph.specs.Passes.{Rising};
 ghost use Rattle.graph.specs.Known.{Points, Grids};
@@ -61,25 +60,12 @@ fn out_of_order(
     requires { Sortable ax.now ay.now bx.now by.now aid.now list.now }
     ensures { result ≡ out_of_order ax.now ay.now bx.now by.now aid.now v list.now }
 {
-    let mut i = 0;
-    while i + 1 < list.len() {
-        if stands_later(ax, ay, bx, by, aid, v, wide(list[i]), wide(list[i + 1])) {
+    for p in list.windows(2) {
+        if stands_later(ax, ay, bx, by, aid, v, wide(p[0]), wide(p[1])) {
             return true;
         }
-        i += 1;
     }
     false
-}
-
-// The entries at i and j change places.
-fn swap(list: &mut [u32], i: usize, j: usize)
-    requires { (i < length list.old) × (j < length list.old) }
-    ensures { Rearranged list.old list.new }
-{
-    let x = list[i];
-    let y = list[j];
-    list[i] = y;
-    list[j] = x;
 }
 
 // Of a heap of the first n entries: the later one of those under place i, of which there is one at least.
@@ -99,12 +85,11 @@ fn later_child(
     ensures { (i < result) × (result < n) }
 {
     let c = 2 * i + 1;
-    if c + 1 < n {
-        if stands_later(ax, ay, bx, by, aid, v, wide(list[c + 1]), wide(list[c])) {
-            return c + 1;
-        }
+    if c + 1 < n && stands_later(ax, ay, bx, by, aid, v, wide(list[c + 1]), wide(list[c])) {
+        c + 1
+    } else {
+        c
     }
-    c
 }
 
 // Of a heap of the first n entries: the one at place `top` goes down until none under it is later.
@@ -129,7 +114,7 @@ fn sift_down(
         if !stands_later(ax, ay, bx, by, aid, v, wide(list[c]), wide(list[i])) {
             return;
         }
-        swap(list, i, c);
+        list.swap(i, c);
         i = c;
     }
 }
@@ -148,9 +133,7 @@ fn make_heap(
     ensures { Rearranged list.old list.new }
 {
     let n = list.len();
-    let mut i = n / 2;
-    while 0 < i {
-        i -= 1;
+    for i in (0..n / 2).rev() {
         sift_down(ax, ay, bx, by, aid, v, list, i, n);
     }
 }
@@ -168,10 +151,8 @@ fn empty_heap(
     requires { Sortable ax.now ay.now bx.now by.now aid.now list.old }
     ensures { Rearranged list.old list.new }
 {
-    let mut n = list.len();
-    while 1 < n {
-        n -= 1;
-        swap(list, 0, n);
+    for n in (1..list.len()).rev() {
+        list.swap(0, n);
         sift_down(ax, ay, bx, by, aid, v, list, 0, n);
     }
 }
@@ -196,20 +177,6 @@ fn put_in_order(
     empty_heap(ax, ay, bx, by, aid, v, list);
 }
 
-// Whether an entry is none of n links.
-fn some_stray(here: &[u32], n: usize) -> bool
-    ensures { result ≡ some (λ i. leb n (get_or here.now i 0)) (length here.now) }
-{
-    let mut i = 0;
-    while i < here.len() {
-        if n <= wide(here[i]) {
-            return true;
-        }
-        i += 1;
-    }
-    false
-}
-
 // The entries of node v are put into the ring's order, if they are many. Where they are more than the links, or one is no link,
 // they stay as they are: check 5 refuses such a node.
 fn order_node(
@@ -231,22 +198,10 @@ fn order_node(
     if (here.len() <= FEW_ENTRIES) | (n < here.len()) {
         return;
     }
-    if some_stray(here, n) {
+    if here.iter().any(|&e| n <= wide(e)) {
         return;
     }
     put_in_order(ax, ay, bx, by, aid, v, here);
-}
-
-// The list is copied.
-fn copy_list(list: &[u32], copy: &mut [u32])
-    requires { length copy.old ≡ length list.now }
-    ensures { copy.new ≡ list.now }
-{
-    let mut j = 0;
-    while j < list.len() {
-        copy[j] = list[j];
-        j += 1;
-    }
 }
 
 // The list is copied, with the entries of every node that has many in the ring's order.
@@ -266,13 +221,10 @@ pub fn arrange(
     requires rising { (Rising start.now list.now) × (length copy.old ≡ length list.now) }
     ensures { ArrangeSays start.now list.now copy.new }
 {
-    copy_list(list, copy);
-    let m = start.len() - 1;
-    let mut v = 0;
-    while v < m {
+    copy.copy_from_slice(list);
+    for v in 0..start.len() - 1 {
         let from = wide(start[v]);
         let to = wide(start[v + 1]);
         order_node(ax, ay, bx, by, aid, v, &mut copy[from..to]);
-        v += 1;
     }
 }

@@ -1,10 +1,11 @@
 -- What each public function promises, written once: its contract names it, and any two outcomes that it allows are equal.
-use Rattle.std.specs.Prelude.{◌≡◌}
+use Rattle.std.specs.Prelude.{◌≡◌, Result}
 use Rattle.laws.specs.Unique.{same_part}
-use Rattle.scan.specs.declared.Extraction.{Extraction}
 use Rattle.finish.specs.Finish.{Buffers, finished_by}
+use Rattle.turn.specs.declared.Refusal.{Refusal}
+use Rattle.keep.specs.declared.Counts.{Counts}
 
-abbrev pub FinishSays : Extraction → Buffers → Buffers → Type 0
+abbrev pub FinishSays : Result Counts Refusal → Buffers → Buffers → Type 0
 FinishSays answer before after = after ≡ finished_by answer before
 
 -- each of the five buffers
@@ -24,5 +25,5 @@ same_buffers p q = record {
   kind = same_part (λ (o : Buffers). o.kind) p q;
 }
 
-pub finish_once : (answer : Extraction) (before b c : Buffers) → FinishSays answer before b → FinishSays answer before c → SameBuffers b c
+pub finish_once : (answer : Result Counts Refusal) (before b c : Buffers) → FinishSays answer before b → FinishSays answer before c → SameBuffers b c
 finish_once answer before b c p q = same_buffers p q

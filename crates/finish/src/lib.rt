@@ -6,11 +6,12 @@ ghost use Rattle.finish.specs.Finish.{buffers, Holds};
 ghost use Rattle.finish.specs.Promises.{FinishSays};
 
 use clear::{clear, trim};
-use scan::Extraction;
+use keep::Counts;
+use turn::Refusal;
 
 // The buffers, as the scan's answer has them.
 pub fn finish(
-    answer: Extraction,
+    answer: Result<Counts, Refusal>,
     state: &mut [u8],
     points: &mut [i32],
     first: &mut [u32],
@@ -22,13 +23,10 @@ pub fn finish(
         (buffers state.new points.new first.new len.new kind.new) }
 {
     match answer {
-        Extraction::Refused {
-            number: _,
-            place: _,
-        } => {
+        Err(_) => {
             clear(state, points, first, len, kind);
         }
-        Extraction::Done(c) => {
+        Ok(c) => {
             trim(points, first, len, kind, c.points, c.contours);
         }
     }

@@ -1,4 +1,5 @@
 -- Rule 1 by the field of ends, over plain values: the named link of a `Bridge`, and the two answers.
+use Rattle.std.specs.Prelude.{Option, Some}
 use Prim.Native.Nat.{ℕ, ◌*◌, ◌≤◌, ◌<◌}
 use native.Mathlib.Omega.{arith}
 use mathlib.Core.Path.{◌≡◌, sym, ap, ◌∙◌, subst}
@@ -12,8 +13,6 @@ use Rattle.laws.specs.Test.{pick, pick_ind}
 use Rattle.turn.specs.Points.{clockwise}
 use Rattle.turn.specs.Limits.{max_links}
 use Rattle.graph.specs.Graph.{Graph, point_at}
-use Rattle.next.specs.declared.Next.{Next}
-use Rattle.next.specs.declared.Next.TheVariants.{Link}
 use Rattle.next.specs.Next.{is_unvisited, only_unvisited, first_link}
 use Rattle.next.specs.Known.{NamesUnvisited}
 use Rattle.next.specs.States.{unvisited_below, unvisited_read, is_unvisited_lem, only_unvisited_lem, names_unvisited}
@@ -50,7 +49,7 @@ module _ (held : ℕ) (cw : Bool) (k e : ℕ) where
 -- ---- the answers, where the scan stands at link k, the lowest that is unvisited
 module _ (ax ay bx by : List ℤ) (nxt lead st : List ℕ) (k : ℕ) (o : is_unvisited st k ≡ true)
     (low : (x : ℕ) → is_unvisited st x ≡ true → k ≤ x) where
-  abbrev Answers : List ℕ → ℕ → Next → Type 0
+  abbrev Answers : List ℕ → Option ℕ → Option ℕ → Type 0
   Answers prv held r =
       ((g : Graph) → Firsts g nxt lead st → Reads g ax ay bx by → Resumes g nxt prv st k held → r ≡ first_link g st k) × NamesUnvisited st r
 
@@ -90,34 +89,34 @@ module _ (ax ay bx by : List ℤ) (nxt lead st : List ℕ) (k : ℕ) (o : is_unv
       above = above b.graph b.firsts;
     }
 
-    pub cross_answers : (prv : List ℕ) (held s : ℕ) → is_unvisited st s ≡ true
-        → ((g : Graph) (v : ℕ) (answer : Next) → Above g v (next_of nxt) (wraps_at nxt) (length st) st answer (a_end k) k → Link s ≡ answer)
-        → Answers prv held (Link s)
+    pub cross_answers : (prv : List ℕ) (held : Option ℕ) (s : ℕ) → is_unvisited st s ≡ true
+        → ((g : Graph) (v : ℕ) (answer : Option ℕ) → Above g v (next_of nxt) (wraps_at nxt) (length st) st answer (a_end k) k → Some s ≡ answer)
+        → Answers prv held (Some s)
     cross_answers prv held s u h = (λ g f _ _. h g (g.a_node k) (first_link g st k) (above g f), names_unvisited st s u)
 
-    -- down from held, which was named before
-    module _ (prv : List ℕ) (held : ℕ) (l : held < length st) where
-      down : (g : Graph) → Firsts g nxt lead st → Resumes g nxt prv st k held → LeftAt g (g.a_node k) prv st held (first_link g st k) (a_end held)
+    -- down from link h, which was named before
+    module _ (prv : List ℕ) (held : Option ℕ) (h : ℕ) (l : held ≡ Some h) where
+      down : (g : Graph) → Firsts g nxt lead st → Resumes g nxt prv st k held → LeftAt g (g.a_node k) prv st h (first_link g st k) (a_end h)
       down g f d =
-          subst (λ n. Left g (g.a_node k) (a_end held) (prev_of prv) n st (first_link g st k) (a_end held)) f.size (d l c).left
+          subst (λ n. Left g (g.a_node k) (a_end h) (prev_of prv) n st (first_link g st k) (a_end h)) f.size (d h l c).left
 
-      pub falls : Asked ax ay bx by nxt prv lead st k held → Falls prv st held
+      pub falls : Asked ax ay bx by nxt prv lead st k held → Falls prv st h
       falls a =
           let g = a.begun.graph in let f = a.begun.firsts in let is = (above g f).is in
           record {
             few = subst (λ n. n ≤ max_links) f.size f.few;
             prv_long = a.prv_long;
-            visited = (a.resumes l c).visited;
+            visited = (a.resumes h l c).visited;
             graph = g;
             node = g.a_node k;
             link = last_or st k (above g f).rest;
             fresh = is_unvisited_lem st (last_or st k (above g f).rest) (subst (NamesUnvisited st) (sym is) (first_unvisited_lem g st k o));
-            left = subst (λ n. LeftAt g (g.a_node k) prv st held n (a_end held)) (sym is) (down g f a.resumes);
+            left = subst (λ n. LeftAt g (g.a_node k) prv st h n (a_end h)) (sym is) (down g f a.resumes);
           }
 
       pub again_answers : (s : ℕ) → is_unvisited st s ≡ true
-          → ((g : Graph) (v : ℕ) (answer : Next) → LeftAt g v prv st held answer (a_end held) → Link s ≡ answer) → Answers prv held (Link s)
-      again_answers s u h = (λ g f _ d. h g (g.a_node k) (first_link g st k) (down g f d), names_unvisited st s u)
+          → ((g : Graph) (v : ℕ) (answer : Option ℕ) → LeftAt g v prv st h answer (a_end h) → Some s ≡ answer) → Answers prv held (Some s)
+      again_answers s u e = (λ g f _ d. e g (g.a_node k) (first_link g st k) (down g f d), names_unvisited st s u)
 
   -- ---- at a `Bridge`, whose other entry is e
   module _ (c : get_or nxt (a_end k) 0 < cross_mark) (e : ℕ) (q : e ≡ link_of (get_or nxt (a_end k) 0)) where
@@ -140,7 +139,7 @@ module _ (ax ay bx by : List ℤ) (nxt lead st : List ℕ) (k : ℕ) (o : is_unv
         subst (λ y. y < length st) (sym i)
         (leading_below (get_or lead k 0) (turns e) k e (length st) (unvisited_below st k o) (other_below b))
 
-    pub bridge_answers : (prv : List ℕ) (held x : ℕ) (r : Next) → x ≡ leading (get_or lead k 0) (turns e) k e → r ≡ only_unvisited st x
+    pub bridge_answers : (prv : List ℕ) (held : Option ℕ) (x : ℕ) (r : Option ℕ) → x ≡ leading (get_or lead k 0) (turns e) k e → r ≡ only_unvisited st x
         → Answers prv held r
     bridge_answers prv held x r i j = (
       λ g f h _. j ∙ ap (only_unvisited st) (i ∙ named_is g h) ∙ sym ((f.bridge k (inside g f) unskipped c).1 st),

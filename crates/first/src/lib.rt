@@ -10,7 +10,6 @@ ghost use Rattle.first.specs.Leading.{leading, Asked};
 ghost use Rattle.first.specs.Promises.{FindLeftTopLinkSays};
 
 use graph::point_at;
-use next::Next;
 use rings::CROSS;
 use topmost::next_below;
 use turn::wide;
@@ -47,8 +46,8 @@ pub fn find_left_top_link(
     lead: &[u8],
     state: &[u8],
     k: usize,
-    held: usize,
-) -> Next
+    held: Option<usize>,
+) -> Option<usize>
     requires asked { Asked ax.now ay.now bx.now by.now nxt.now prv.now lead.now state.now k held }
     requires links { Links ax.now ay.now bx.now by.now (length state.now) }
     requires k_value { (is_unvisited state.now k ≡ true) × ((x : ℕ) → is_unvisited state.now x ≡ true → k ≤ x) }
@@ -58,10 +57,10 @@ pub fn find_left_top_link(
 {
     let f = nxt[2 * k];
     if CROSS <= f {
-        if held < state.len() {
-            return Next::Link(next_below(prv, state, held));
+        if let Some(held) = held {
+            return Some(next_below(prv, state, held));
         }
-        return Next::Link(topmost::topmost(nxt, state, k));
+        return Some(topmost::topmost(nxt, state, k));
     }
     let named = leading(ax, ay, bx, by, lead[k], k, wide(f) / 2);
     next::only_unvisited(state, named)

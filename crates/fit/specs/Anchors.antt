@@ -2,17 +2,15 @@
 use Prim.Native.Nat.{ℕ, zero, suc, ◌≤◌, ◌<◌}
 use Rattle.std.proofs.Common.{arith, sym, ap, ◌∙◌, subst, ⊎_elim}
 use Rattle.std.proofs.Math.Decide.{ℕ_discrete, dec_le}
-use Rattle.std.specs.Prelude.{◌≡◌, Bool, true, false, not, length, set, ltb}
+use Rattle.std.specs.Prelude.{◌≡◌, Bool, true, false, not, length, set, ltb, Option, Some, None}
 use Rattle.std.proofs.Math.Path.{refl}
 use mathlib.Core.List.{List, [], ◌∷◌, Memᴰ}
 use Rattle.laws.specs.Test.{pick, pick_ind, true≢false}
-use Rattle.laws.specs.Lowest.{None, some_of}
+use Rattle.laws.specs.Lowest.{NoneBelow, some_of}
 use Rattle.turn.specs.Points.{before, clockwise}
 use Rattle.graph.specs.Graph.{Graph, Lent, graph_of}
 use Rattle.graph.specs.Checks.{Room}
 use Rattle.graph.specs.Fine.{FineGraph}
-use Rattle.next.specs.declared.Next.{Next}
-use Rattle.next.specs.declared.Next.TheVariants.{Link, Nothing}
 use Rattle.next.specs.Next.{is_unvisited, unvisited, only_unvisited, next_link, first_link, topmost}
 use Rattle.next.specs.States.{unvisited_below}
 use Rattle.next.specs.Topmost.{first_at_bridge, first_at_cross, first_among}
@@ -24,13 +22,13 @@ use Rattle.outlines.specs.Grid.{marked_length}
 
 -- ---- rule 1 names an entry of the node
 module _ (g : Graph) (st : List ℕ) (k : ℕ) (m : Memᴰ k (g.entries (g.a_node k))) where
-  only_is : (c s : ℕ) → only_unvisited st c ≡ Link s → s ≡ c
-  only_is c s = pick_ind (is_unvisited st c) (Link c) Nothing (λ n. n ≡ Link s → s ≡ c) (λ _ e. cc) (λ _ e. let x : ◌≡◌ {A = ℕ} 0 1 = cc in absurd (no x))
+  only_is : (c s : ℕ) → only_unvisited st c ≡ Some s → s ≡ c
+  only_is c s = pick_ind (is_unvisited st c) (Some c) None (λ n. n ≡ Some s → s ≡ c) (λ _ e. cc) (λ _ e. let x : ◌≡◌ {A = ℕ} 0 1 = cc in absurd (no x))
     where
       no : ◌≡◌ {A = ℕ} 0 1 → ⊥
       no x = omega arith
 
-  by_list : (l : List ℕ) → g.entries (g.a_node k) ≡ l → (s : ℕ) → first_link g st k ≡ Link s → length l ≡ 2 → Memᴰ s l
+  by_list : (l : List ℕ) → g.entries (g.a_node k) ≡ l → (s : ℕ) → first_link g st k ≡ Some s → length l ≡ 2 → Memᴰ s l
   by_list [] q s e h = absurd (no h)
     where
       no : ◌≡◌ {A = ℕ} 0 2 → ⊥
@@ -49,12 +47,12 @@ module _ (g : Graph) (st : List ℕ) (k : ℕ) (m : Memᴰ k (g.entries (g.a_nod
       no : (n : ℕ) → suc (suc (suc n)) ≡ 2 → ⊥
       no n h = omega arith
 
-  pub first_in : (s : ℕ) → first_link g st k ≡ Link s → Memᴰ s (g.entries (g.a_node k))
+  pub first_in : (s : ℕ) → first_link g st k ≡ Some s → Memᴰ s (g.entries (g.a_node k))
   first_in s e = elim (ℕ_discrete (length (g.entries (g.a_node k))) 2) [ yes h ↦ by_list (g.entries (g.a_node k)) refl s e h | no n ↦ cross n ]
     where
       cross : (length (g.entries (g.a_node k)) ≡ 2 → ⊥) → Memᴰ s (g.entries (g.a_node k))
       cross n =
-          let q : Link (topmost g st k k (g.entries (g.a_node k))) ≡ Link s = sym (first_at_cross g st k n) ∙ e in
+          let q : Some (topmost g st k k (g.entries (g.a_node k))) ≡ Some s = sym (first_at_cross g st k n) ∙ e in
           let i : topmost g st k k (g.entries (g.a_node k)) ≡ s = cc in
           subst (λ u. Memᴰ u (g.entries (g.a_node k))) i (first_among g st k n m)
 
@@ -91,11 +89,11 @@ from_first g forward sense mark st s = by (next_link g (not sense) (set st s mar
     ahead : ℕ
     ahead = pick forward (g.b_node s) (g.a_node s)
 
-    by : (o : Next) → First (record { link = s; forward = forward })
+    by : (o : Option ℕ) → First (record { link = s; forward = forward })
         (on_next (λ last. cons_step (record { link = s; forward = forward })
         (walk_on (suc (unvisited (set st s mark))) g sense home last mark ahead s (set st s mark))) o)
-    by Nothing = tt
-    by (Link last) =
+    by None = tt
+    by (Some last) =
         first_cons (record { link = s; forward = forward }) (walk_on (suc (unvisited (set st s mark))) g sense home last mark ahead s (set st s mark))
 
 module _ (g : Lent) (top st₀ : List ℕ) (r : Room) (f : FineGraph g top st₀ r) (cw : Bool) where
@@ -103,7 +101,7 @@ module _ (g : Lent) (top st₀ : List ℕ) (r : Room) (f : FineGraph g top st₀
   G = graph_of g top
 
   -- the lowest unvisited link's a is least; a link at that node has it too
-  module _ (st : List ℕ) (long : length st ≡ G.n) (k : ℕ) (o : is_unvisited st k ≡ true) (low : None (is_unvisited st) k) where
+  module _ (st : List ℕ) (long : length st ≡ G.n) (k : ℕ) (o : is_unvisited st k ≡ true) (low : NoneBelow (is_unvisited st) k) where
     from_k : (j : ℕ) → is_unvisited st j ≡ true → k ≤ j
     from_k j oj = elim (dec_le k j) [ yes h ↦ h | no n ↦ absurd (true≢false oj (low j (below n))) ]
       where
@@ -124,7 +122,7 @@ module _ (g : Lent) (top st₀ : List ℕ) (r : Room) (f : FineGraph g top st₀
         absurd (true≢false (subst (λ u. before (G.a s) u ≡ true) (sym p) (f.links.strict s (in_graph s os))) (not_before s os)))
         (f.lists.only (G.a_node k) s m)
 
-    pub begins : (s : ℕ) → first_link G st k ≡ Link s → (j : ℕ) → is_unvisited st j ≡ true → before (G.a j) (G.a s) ≡ false
+    pub begins : (s : ℕ) → first_link G st k ≡ Some s → (j : ℕ) → is_unvisited st j ≡ true → before (G.a j) (G.a s) ≡ false
     begins s e j oj =
         let os : is_unvisited st s ≡ true = subst (LinkUnvisited st) e (first_is_unvisited G st k o) in
         subst (λ u. before (G.a j) u ≡ false) (sym (same_a s os (first_in G st k (f.lists.at_a k (in_graph k o)) s e))) (not_before j oj)
@@ -147,11 +145,11 @@ module _ (g : Lent) (top st₀ : List ℕ) (r : Room) (f : FineGraph g top st₀
       led_cons w st (go after) (record { link = s; rest = fs.0; steps_are = fs.1; hole_is = refl; unvisited_one = os; least = l })
       (subst (λ a. Led a (go after)) v.0 (h after (ap length v.0 ∙ marked_length (mark_of (G.top s)) u st)))
 
-  led_at : (go : List ℕ → Scanned) (st : List ℕ) (k : ℕ) (n : Next) → first_link G st k ≡ n → length st ≡ G.n → is_unvisited st k ≡ true
-      → None (is_unvisited st) k
+  led_at : (go : List ℕ → Scanned) (st : List ℕ) (k : ℕ) (n : Option ℕ) → first_link G st k ≡ n → length st ≡ G.n → is_unvisited st k ≡ true
+      → NoneBelow (is_unvisited st) k
       → ((after : List ℕ) → length after ≡ length st → Led after (go after)) → Led st (scan_at G cw go st k n)
-  led_at go st k Nothing e long o low h = tt
-  led_at go st k (Link s) e long o low h =
+  led_at go st k None e long o low h = tt
+  led_at go st k (Some s) e long o low h =
       let os : is_unvisited st s ≡ true = subst (LinkUnvisited st) e (first_is_unvisited G st k o) in
       led_after go st k s (walk_of G cw st s) os (begins st long k o low s e) (from_first G (not (sense_of G cw s)) (sense_of G cw s) (mark_of (G.top s)) st s)
       (from_visits G (not (sense_of G cw s)) (sense_of G cw s) (mark_of (G.top s)) st s os) h

@@ -1,12 +1,11 @@
 -- The areas add up: a contour's range in the table holds its walk's points, and the areas of all contours sum to the kept total that extraction returns.
-use Rattle.std.specs.Prelude.{ℕ, zero, suc, ◌+◌, ◌<◌, ◌≡◌, refl, Bool, List, [], ◌∷◌, ◌++◌, length, get_or, take, drop, ℤ, pos, ◌+ℤ◌}
+use Rattle.std.specs.Prelude.{ℕ, zero, suc, ◌+◌, ◌<◌, ◌≡◌, refl, Bool, List, [], ◌∷◌, ◌++◌, length, get_or, take, drop, ℤ, pos, ◌+ℤ◌, Ok}
 use Rattle.std.proofs.Common.{arith, sym, ap, ap₂, ◌∙◌, take_at}
 use Rattle.std.proofs.lemmas.List.{length-map}
 use Rattle.std.proofs.Math.Seq.{drop-append-add}
 use Rattle.turn.specs.Area.{area}
 use Rattle.graph.specs.Graph.{Graph, Lent, graph_of}
 use Rattle.keep.specs.declared.Counts.{Counts}
-use Rattle.scan.specs.declared.Extraction.TheVariants.{Done}
 use Rattle.walk.specs.Walk.{Walk, left, points}
 use Rattle.keep.specs.Outcome.{area_of, areas, total, kept, lens, firsts, all_points}
 use Rattle.keep.specs.Ledger.{points_back}
@@ -61,7 +60,7 @@ module _ (g : Graph) where
       ∙ sum_areas ks
 
 -- The theorem: after a success the contours in the lent buffers enclose just the kept total that is returned.
-pub kept_enclosed : (g : Lent) (top : List ℕ) (cw : Bool) (minimum : ℕ) (b b' : Buffers) (c : Counts) → extracted_as (Done c) b'
+pub kept_enclosed : (g : Lent) (top : List ℕ) (cw : Bool) (minimum : ℕ) (b b' : Buffers) (c : Counts) → extracted_as (Ok c) b'
     ≡ extracted g top cw minimum b → enclosed (written_table c b') ≡ c.kept_area
 kept_enclosed g top cw minimum b b' c h =
     let q = ran g top cw minimum b b' c h in

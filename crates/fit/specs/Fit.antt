@@ -1,5 +1,5 @@
 -- The layers fit: whatever extraction writes on success passes binding's checks 10 and 11, so that binding can answer neither.
-use Rattle.std.specs.Prelude.{ℕ, zero, suc, ◌+◌, ◌*◌, ◌-◌, ◌≤◌, ◌<◌, ◌≡◌, Bool, true, false, length, get_or, take}
+use Rattle.std.specs.Prelude.{ℕ, zero, suc, ◌+◌, ◌*◌, ◌-◌, ◌≤◌, ◌<◌, ◌≡◌, Bool, true, false, length, get_or, take, Ok, Err}
 use Rattle.std.proofs.Common.{arith, sym, ap, ap₂, ◌∙◌, subst, take_at, eqb-true}
 use Rattle.std.proofs.Math.Path.{refl}
 use mathlib.Core.List.{List, [], ◌∷◌, map, Memᴰ}
@@ -8,11 +8,9 @@ use Rattle.laws.specs.Test.{pick}
 use Rattle.turn.specs.Points.{before}
 use Rattle.graph.specs.Graph.{Graph, Lent, graph_of}
 use Rattle.graph.specs.Checks.{Room, room, checked}
-use Rattle.turn.specs.declared.Checked.{Checked}
 use Rattle.graph.specs.Fine.{FineGraph, fine}
 use Rattle.next.specs.Next.{unvisited}
 use Rattle.keep.specs.declared.Counts.{Counts}
-use Rattle.scan.specs.declared.Extraction.TheVariants.{Done}
 use Rattle.walk.specs.Walk.{Step, Walk, left}
 use Rattle.scan.specs.Scan.{Scanned, stopped, walks, scan}
 use Rattle.keep.specs.Outcome.{kept, lens, firsts, kinds, all_points, coordinates, sum, counts_of}
@@ -26,15 +24,15 @@ use Rattle.table.specs.Table.{Table, table, first_of, range_end, contour_count, 
 use Rattle.anchor.specs.Anchor.{anchor_point}
 use Rattle.table.specs.TableChecks.{table_checked}
 use Rattle.anchor.specs.AnchorChecks.{anchors_checked}
-use Rattle.turn.specs.declared.Checked.TheVariants as check
 use Rattle.table.specs.Passing.{passes_sound}
 use Rattle.anchor.specs.Anchoring.{passes_anchored}
 use Rattle.fit.specs.Places.{table_of, walk_at, lens_length, lens_at, kinds_at, point_at_lem}
 use Rattle.fit.specs.Sizes.{table_sound, at_walks, three, links_in}
 use Rattle.fit.specs.Anchors.{AllBegin, Led, scan_begins}
 use Rattle.fit.specs.Leads.{lead, Leads, all_lead, all_ordered, kept_ordered, ordered_at, anchor_lead}
+use Rattle.turn.specs.Refusals.{Checked, no_fault}
 
-module _ (g : Lent) (top st : List ℕ) (r : Room) (e : checked g top st r ≡ check.Fine) (cw : Bool) (minimum : ℕ) (ws : List Walk) (after : List ℕ)
+module _ (g : Lent) (top st : List ℕ) (r : Room) (e : checked g top st r ≡ no_fault) (cw : Bool) (minimum : ℕ) (ws : List Walk) (after : List ℕ)
     (s : scan (graph_of g top) cw st ≡ walks ws after) where
   abbrev G : Graph
   G = graph_of g top
@@ -49,7 +47,7 @@ module _ (g : Lent) (top st : List ℕ) (r : Room) (e : checked g top st r ≡ c
   many = firsts_length 0 (lens ks) ∙ lens_length ks
 
   -- check 10
-  pub passes_10 : (owners : ℕ) → length ks ≤ owners → table_checked t owners ≡ check.Fine
+  pub passes_10 : (owners : ℕ) → length ks ≤ owners → table_checked t owners ≡ no_fault
   passes_10 owners h = (passes_sound t owners).from (table_sound g top st r e cw minimum ws after s, rw many h)
 
   -- ---- check 11
@@ -107,7 +105,7 @@ module _ (g : Lent) (top st : List ℕ) (r : Room) (e : checked g top st r ≡ c
       each (q ∷ l) a zero h = a q (Memᴰ.head refl)
       each (q ∷ l) a (suc i) h = each l (λ x m. a x (Memᴰ.tail m)) i (omega arith)
 
-  pub passes_11 : anchors_checked t cw ≡ check.Fine
+  pub passes_11 : anchors_checked t cw ≡ no_fault
   passes_11 = (passes_anchored t cw).from (record {
     least = least;
     order = λ c d h k hc hd.
@@ -129,7 +127,7 @@ module _ (g : Lent) (top : List ℕ) (cw : Bool) (minimum : ℕ) (b b' : Buffers
 
   -- the run behind a success: the checks passed, and these walks were done
   pub record Ran : Type 0 where
-    pub fine_graph : checked g top b.state rooms ≡ check.Fine
+    pub fine_graph : checked g top b.state rooms ≡ no_fault
     pub all : List Walk
     pub states : List ℕ
     pub scanned_as : scan H cw b.state ≡ walks all states
@@ -140,11 +138,11 @@ module _ (g : Lent) (top : List ℕ) (cw : Bool) (minimum : ℕ) (b b' : Buffers
   zero_one : ◌≡◌ {A = ℕ} 0 1 → ⊥
   zero_one x = omega arith
 
-  by_scan : (o : Scanned) → scan H cw b.state ≡ o → checked g top b.state rooms ≡ check.Fine → extracted_as (Done c) b' ≡ after_scan H minimum b o → Ran
+  by_scan : (o : Scanned) → scan H cw b.state ≡ o → checked g top b.state rooms ≡ no_fault → extracted_as (Ok c) b' ≡ after_scan H minimum b o → Ran
   by_scan (stopped number place) q k h = let z = ap (λ (x : Extracted). x.answer) h in let x : ◌≡◌ {A = ℕ} 0 1 = cc in absurd (zero_one x)
   by_scan (walks ws after) q k h =
       let ks : List Walk = kept H minimum ws in
-      let z : Done c ≡ Done (counts_of H minimum ws) = ap (λ (x : Extracted). x.answer) h in
+      let z : Ok c ≡ Ok (counts_of H minimum ws) = ap (λ (x : Extracted). x.answer) h in
       let d : c ≡ counts_of H minimum ws = cc in
       let n : c.contours ≡ length ks = ap (λ (x : Counts). x.contours) d in
       let m : c.points ≡ sum (lens ks) = ap (λ (x : Counts). x.points) d in
@@ -158,22 +156,22 @@ module _ (g : Lent) (top : List ℕ) (cw : Bool) (minimum : ℕ) (b b' : Buffers
       ∙ take_at (kinds ks) _ c.contours (length-map ks (λ w. pick w.hole 1 0) ∙ sym n) in
       record { fine_graph = k; all = ws; states = after; scanned_as = q; table_is = λ i. table (p i) (x i) (y i) (v i); contours_are = n; counts_are = d }
 
-  by_checks : (o : Checked) → checked g top b.state rooms ≡ o → extracted_as (Done c) b' ≡ after_checks H cw minimum b o → Ran
-  by_checks (check.Refused number place) q h = let z = ap (λ (x : Extracted). x.answer) h in let x : ◌≡◌ {A = ℕ} 0 1 = cc in absurd (zero_one x)
-  by_checks check.Fine q h = by_scan (scan H cw b.state) refl q h
+  by_checks : (o : Checked) → checked g top b.state rooms ≡ o → extracted_as (Ok c) b' ≡ after_checks H cw minimum b o → Ran
+  by_checks (Err r) q h = let z = ap (λ (x : Extracted). x.answer) h in let x : ◌≡◌ {A = ℕ} 0 1 = cc in absurd (zero_one x)
+  by_checks (Ok u) q h = by_scan (scan H cw b.state) refl q h
 
-  pub ran : extracted_as (Done c) b' ≡ extracted g top cw minimum b → Ran
+  pub ran : extracted_as (Ok c) b' ≡ extracted g top cw minimum b → Ran
   unfolding extracted
   ran h = by_checks (checked g top b.state rooms) refl h
 
   -- The theorem: what `extract` writes passes checks 10 and 11, with room for an owner for each contour.
-  pub extraction_passes : (owners : ℕ) → c.contours ≤ owners → extracted_as (Done c) b' ≡ extracted g top cw minimum b
-      → (table_checked (written_table c b') owners ≡ check.Fine) × (anchors_checked (written_table c b') cw ≡ check.Fine)
+  pub extraction_passes : (owners : ℕ) → c.contours ≤ owners → extracted_as (Ok c) b' ≡ extracted g top cw minimum b
+      → (table_checked (written_table c b') owners ≡ no_fault) × (anchors_checked (written_table c b') cw ≡ no_fault)
   extraction_passes owners l h =
       let q = ran h in (
-        subst (λ t. table_checked t owners ≡ check.Fine) (sym q.table_is)
+        subst (λ t. table_checked t owners ≡ no_fault) (sym q.table_is)
             (passes_10 g top b.state rooms q.fine_graph cw minimum q.all q.states q.scanned_as owners
             (subst (λ k. k ≤ owners) q.contours_are l)),
-        subst (λ t. anchors_checked t cw ≡ check.Fine) (sym q.table_is)
+        subst (λ t. anchors_checked t cw ≡ no_fault) (sym q.table_is)
             (passes_11 g top b.state rooms q.fine_graph cw minimum q.all q.states q.scanned_as),
       )

@@ -1,5 +1,5 @@
 -- After extraction and binding have succeeded, a lookup finds every contour, with the kind and the owner that were written.
-use Rattle.std.specs.Prelude.{ℕ, ◌+◌, ◌≤◌, ◌<◌, ◌≡◌, Bool, true, false, ◌&&◌, List, [], ◌∷◌, length, set, take, drop, replicate, eqb, ltb}
+use Rattle.std.specs.Prelude.{ℕ, ◌+◌, ◌≤◌, ◌<◌, ◌≡◌, Bool, true, false, ◌&&◌, List, [], ◌∷◌, length, set, take, drop, replicate, eqb, ltb, Some, Ok, Err}
 use Rattle.std.proofs.Common.{arith, sym, ap, ◌∙◌, length-set, length-append, length-drop, get_or-set_other, eq-eqb, eqb-true, lt-ltb}
 use Rattle.std.proofs.Math.Path.{refl}
 use Rattle.std.proofs.Math.ListN.{get_or, get_or-append}
@@ -10,26 +10,21 @@ use Rattle.laws.specs.Lists.{tabulate, tabulate_length, tabulate_at, over_front}
 use Rattle.table.specs.Table.{Table, contour_count, kind_of, hull_count, shape_of, hulls, dropped_owner}
 use Rattle.table.specs.TableChecks.{table_checked}
 use Rattle.anchor.specs.AnchorChecks.{anchors_checked, both_checked}
-use Rattle.turn.specs.Refusals.{first_fine}
-use Rattle.turn.specs.declared.Checked.{Checked}
-use Rattle.turn.specs.declared.Checked.TheVariants.{Fine, Refused}
+use Rattle.turn.specs.Refusals.{first_fine, Checked, refused, no_fault}
 use Rattle.table.specs.Sound.{Sound}
 use Rattle.table.specs.Passing.{passes_sound}
 use Rattle.lookup.specs.Lookups.{owner_right, record_of, looked_up}
 use Rattle.lookup.specs.LookupLaws.{found_record_lem}
-use Rattle.lookup.specs.declared.records.Lookup.TheVariants.{Found}
-use Rattle.bind.specs.declared.Binding.TheVariants as binding
-use Rattle.owners.specs.declared.Given.{Given}
-use Rattle.owners.specs.declared.Given.TheVariants.{All, Stuck}
 use Rattle.owners.specs.Owners.{Owned, owned, given, give_each, first_owner, searched_owners, owners_of, contour_below}
-use Rattle.bind.specs.Outcome.{Outcome, outcome, handed, handed_by, bound_after, bound}
+use Rattle.bind.specs.Outcome.{bound_to, Outcome, outcome, handed, handed_by, bound_after, bound}
 use Rattle.order.specs.HoleOrder.{binding_order}
 use Rattle.order.specs.OrderLaws.{each_once}
 use Rattle.owners.specs.OwnerLaws.{owners_below}
 use Rattle.laws.specs.Count.{count, count_more, count_most}
+use Rattle.turn.specs.declared.Reason.TheVariants.{NoParent}
 
 -- ---- giving leaves the owners of contours that are not gone through
-split : {x y : List ℕ} {r q : Given} → owned r x ≡ owned q y → (r ≡ q) × (x ≡ y)
+split : {x y : List ℕ} {r q : Checked} → owned r x ≡ owned q y → (r ≡ q) × (x ≡ y)
 split e = (ap (λ (w : Owned). w.answer) e, ap (λ (w : Owned). w.owners) e)
 
 zero_one : ◌≡◌ {A = ℕ} 0 1 → ⊥
@@ -39,7 +34,7 @@ pub record Left (l old new : List ℕ) : Type 0 where
   pub long : length new ≡ length old
   pub same : (c : ℕ) → count c l ≡ 0 → get_or new c 0 ≡ get_or old c 0
 
-left : (under : ℕ → ℕ) (l old new : List ℕ) → give_each under l old ≡ owned All new → Left l old new
+left : (under : ℕ → ℕ) (l old new : List ℕ) → give_each under l old ≡ owned no_fault new → Left l old new
 unfolding give_each count
 left under [] old new e = let q = split e in record { long = ap length (sym q.1); same = λ c h. ap (λ (x : List ℕ). get_or x c 0) (sym q.1) }
 left under (d ∷ l) old new e = go (eqb (given (under d) old) dropped_owner) e (left under l (set old d (given (under d) old)) new)
@@ -56,9 +51,9 @@ left under (d ∷ l) old new e = go (eqb (given (under d) old) dropped_owner) e 
         one : (c : ℕ) → c ≡ d → ◌≡◌ {A = ℕ} (pick (eqb d c) 1 0) 1
         one c q = rw (eq-eqb d c (sym q))
 
-    go : (b : Bool) → pick b (owned (Stuck d) old) (give_each under l (set old d (given (under d) old))) ≡ owned All new
-        → (give_each under l (set old d (given (under d) old)) ≡ owned All new → Left l (set old d (given (under d) old)) new) → Left (d ∷ l) old new
-    go true q r = let z : Stuck d ≡ All = (split q).0 in let x : ◌≡◌ {A = ℕ} 0 1 = cc in absurd (zero_one x)
+    go : (b : Bool) → pick b (owned (refused NoParent d) old) (give_each under l (set old d (given (under d) old))) ≡ owned no_fault new
+        → (give_each under l (set old d (given (under d) old)) ≡ owned no_fault new → Left l (set old d (given (under d) old)) new) → Left (d ∷ l) old new
+    go true q r = let z : refused NoParent d ≡ no_fault = (split q).0 in let x : ◌≡◌ {A = ℕ} 0 1 = cc in absurd (zero_one x)
     go false q r = joined (r q)
 
 -- ---- the owners that binding works out
@@ -85,7 +80,7 @@ module _ (t : Table) (s : Sound t) (cw : Bool) (l : List ℕ) where
       by false e true f = eq-eqb o dropped_owner (b (eqb-false _ _ e) (eqb-true _ _ f))
       by false e false f = lt-ltb o (hull_count t) (d (eqb-false _ _ e) (eqb-false _ _ f))
 
-  searched : searched_owners t cw ≡ owned All l → Left (binding_order t cw) (tabulate (first_owner t.kind) (contour_count t)) l
+  searched : searched_owners t cw ≡ owned no_fault l → Left (binding_order t cw) (tabulate (first_owner t.kind) (contour_count t)) l
   searched e = left (contour_below t cw) (binding_order t cw) (tabulate (first_owner t.kind) (contour_count t)) l e
 
   not_hole : (c : ℕ) → kind_of t c ≡ 0 → count c (binding_order t cw) ≡ 0
@@ -95,19 +90,19 @@ module _ (t : Table) (s : Sound t) (cw : Bool) (l : List ℕ) where
       off true = refl
       off false = refl
 
-  hull_own : searched_owners t cw ≡ owned All l → (c : ℕ) → c < contour_count t → kind_of t c ≡ 0 → get_or l c 0 ≡ shape_of t c
+  hull_own : searched_owners t cw ≡ owned no_fault l → (c : ℕ) → c < contour_count t → kind_of t c ≡ 0 → get_or l c 0 ≡ shape_of t c
   hull_own e c h k = (searched e).same c (not_hole c k) ∙ tabulate_at 0 (first_owner t.kind) (contour_count t) c h ∙ rw (eq-eqb (kind_of t c) 0 k)
 
-  pub owners_right : owners_of t cw ≡ owned All l → Right t l
+  pub owners_right : owners_of t cw ≡ owned no_fault l → Right t l
   unfolding owners_of
   owners_right e = go (eqb (hull_count t) 0) refl (eqb (hull_count t) 1) refl e
     where
-      all_below : owners_of t cw ≡ owned All l → 0 < hull_count t → (c : ℕ) → c < contour_count t → get_or l c 0 < hull_count t
+      all_below : owners_of t cw ≡ owned no_fault l → 0 < hull_count t → (c : ℕ) → c < contour_count t → get_or l c 0 < hull_count t
       all_below q h = owners_below t s h cw l q
 
       go : (a : Bool) → eqb (hull_count t) 0 ≡ a → (b : Bool) → eqb (hull_count t) 1 ≡ b
-          → pick a (owned All (replicate (contour_count t) dropped_owner)) (pick b (owned All (replicate (contour_count t) 0)) (searched_owners t cw))
-          ≡ owned All l → Right t l
+          → pick a (owned no_fault (replicate (contour_count t) dropped_owner)) (pick b (owned no_fault (replicate (contour_count t) 0)) (searched_owners t cw))
+          ≡ owned no_fault l → Right t l
       go true f b k q =
           let z : replicate (contour_count t) dropped_owner ≡ l = (split q).1 in
           let n : hull_count t ≡ 0 = eqb-true _ _ f in
@@ -164,25 +159,25 @@ owners_whole t cw =
 
 -- ---- binding
 module _ (t : Table) (cw : Bool) (buffer owner : List ℕ) (shapes dropped : ℕ) where
-  by_checked : (o : Checked) → both_checked t (length buffer) cw ≡ o → outcome (binding.Bound shapes dropped) owner ≡ bound_after o t cw buffer
-      → (both_checked t (length buffer) cw ≡ Fine) × (outcome (binding.Bound shapes dropped) owner ≡ handed t (owners_of t cw) buffer)
-  by_checked (Refused number place) q h = let z = ap (λ (x : Outcome). x.answer) h in let x : ◌≡◌ {A = ℕ} 0 1 = cc in absurd (zero_one x)
-  by_checked Fine q h = (q, h)
+  by_checked : (o : Checked) → both_checked t (length buffer) cw ≡ o → outcome (bound_to shapes dropped) owner ≡ bound_after o t cw buffer
+      → (both_checked t (length buffer) cw ≡ no_fault) × (outcome (bound_to shapes dropped) owner ≡ handed t (owners_of t cw) buffer)
+  by_checked (Err r) q h = let z = ap (λ (x : Outcome). x.answer) h in let x : ◌≡◌ {A = ℕ} 0 1 = cc in absurd (zero_one x)
+  by_checked (Ok u) q h = (q, h)
 
-  by_given : (w : Owned) → outcome (binding.Bound shapes dropped) owner ≡ handed t w buffer → (w.answer ≡ All) × (owner ≡ over_front w.owners buffer)
+  by_given : (w : Owned) → outcome (bound_to shapes dropped) owner ≡ handed t w buffer → (w.answer ≡ no_fault) × (owner ≡ over_front w.owners buffer)
   by_given w h = go w.answer refl h
     where
-      go : (a : Given) → w.answer ≡ a → outcome (binding.Bound shapes dropped) owner ≡ handed_by t a w.owners buffer → (w.answer ≡ All)
+      go : (a : Checked) → w.answer ≡ a → outcome (bound_to shapes dropped) owner ≡ handed_by t a w.owners buffer → (w.answer ≡ no_fault)
           × (owner ≡ over_front w.owners buffer)
-      go All q h = (q, ap (λ (x : Outcome). x.owner) h)
-      go (Stuck c) q h = let z = ap (λ (x : Outcome). x.answer) h in let x : ◌≡◌ {A = ℕ} 0 1 = cc in absurd (zero_one x)
+      go (Ok u) q h = (q, ap (λ (x : Outcome). x.owner) h)
+      go (Err r) q h = let z = ap (λ (x : Outcome). x.answer) h in let x : ◌≡◌ {A = ℕ} 0 1 = cc in absurd (zero_one x)
 
-  -- The theorem: where binding answers Bound, a lookup finds every contour below the count, and its record has the kind and the owner that were written.
-  pub every_found : outcome (binding.Bound shapes dropped) owner ≡ bound t cw buffer → (c : ℕ) → c < contour_count t → looked_up t owner c
-      ≡ Found (record_of t owner c)
+  -- The theorem: where binding answers a `Bound`, a lookup finds every contour below the count, and its record has the kind and the owner that were written.
+  pub every_found : outcome (bound_to shapes dropped) owner ≡ bound t cw buffer → (c : ℕ) → c < contour_count t → looked_up t owner c
+      ≡ Some (record_of t owner c)
   every_found h c l =
       let q = by_checked (both_checked t (length buffer) cw) refl h in
-      let ten : table_checked t (length buffer) ≡ Fine = first_fine (table_checked t (length buffer)) (anchors_checked t cw) q.0 in
+      let ten : table_checked t (length buffer) ≡ no_fault = first_fine (table_checked t (length buffer)) (anchors_checked t cw) q.0 in
       let p = (passes_sound t (length buffer)).to ten in
       let w = by_given (owners_of t cw) q.1 in
       let r : Right t (owners_of t cw).owners = owners_right t p.0 cw (owners_of t cw).owners

@@ -10,7 +10,6 @@ use Rattle.turn.specs.declared.Point.{Point}
 use Rattle.turn.specs.Points.{differ, Grid, OnGrid}
 use Rattle.graph.specs.Graph.{Graph, Lent, graph_of}
 use Rattle.graph.specs.Checks.{Room, checked}
-use Rattle.turn.specs.declared.Checked.TheVariants.{Fine}
 use Rattle.graph.specs.Fine.{FineGraph, fine}
 use Rattle.walk.specs.Walk.{Step, Walk, left, points}
 use Rattle.scan.specs.Scan.{walks, scan}
@@ -29,6 +28,7 @@ use Rattle.fit.specs.Rounds.{left_grid, line_next, line_last}
 use Rattle.straighten.specs.Reread.{origin}
 use Rattle.outlines.specs.Grid.{walked_below, kept_of, kept_sum, points_on_grid}
 use Rattle.walk.specs.States.{unvisited_some}
+use Rattle.turn.specs.Refusals.{no_fault}
 
 -- points on the grid, written as x and y in turn
 pub grid_of : (l : List Point) → ((q : Point) → Memᴰ q l → OnGrid q) → Grid (coordinates l)
@@ -40,7 +40,7 @@ grid_of (q ∷ l) a zero h = (a q (Memᴰ.head refl)).0
 grid_of (q ∷ l) a (suc zero) h = (a q (Memᴰ.head refl)).1
 grid_of (q ∷ l) a (suc (suc i)) h = grid_of l (λ x m. a x (Memᴰ.tail m)) i (omega arith)
 
-module _ (g : Lent) (top st : List ℕ) (r : Room) (e : checked g top st r ≡ Fine) (cw : Bool) (minimum : ℕ) (ws : List Walk) (after : List ℕ)
+module _ (g : Lent) (top st : List ℕ) (r : Room) (e : checked g top st r ≡ no_fault) (cw : Bool) (minimum : ℕ) (ws : List Walk) (after : List ℕ)
     (s : scan (graph_of g top) cw st ≡ walks ws after) where
   abbrev G : Graph
   G = graph_of g top

@@ -1,5 +1,5 @@
 -- E1 to E10 of document 01: one table, each row an input with the whole of its answer, proved by one statement.
-use Rattle.std.specs.Prelude.{ℕ, ◌+◌, ◌≡◌, refl, Bool, true, false, List, [], ◌∷◌, replicate, ℤ, pos, neg_ℤ}
+use Rattle.std.specs.Prelude.{ℕ, ◌+◌, ◌≡◌, refl, Bool, true, false, List, [], ◌∷◌, replicate, ℤ, pos, neg_ℤ, Ok}
 use Rattle.laws.specs.Lowest.{lowest}
 use Rattle.laws.specs.Count.{count}
 use Rattle.graph.specs.Graph.{Graph, Lent, lent, graph_of}
@@ -7,7 +7,6 @@ use Rattle.graph.specs.Examples.{square, tops, unvisited}
 use Rattle.next.specs.Next.{next_link, first_link}
 use Rattle.walk.specs.Walk.{Walk, walk_on, walk_from}
 use Rattle.keep.specs.Outcome.{areas, rejected}
-use Rattle.scan.specs.declared.Extraction.TheVariants.{Done, Refused}
 use Rattle.scan.specs.Scan.{Scanned, stopped, walks, scan_on, scan}
 use Rattle.extraction.specs.Extract.{Extracted, extracted_as, extracted}
 use Rattle.finish.specs.Finish.{Buffers, buffers}
@@ -20,9 +19,10 @@ use Rattle.candidates.specs.Candidates.{edge}
 use Rattle.nearest.specs.Search.{kept, offered, keep, nearest, contour_under}
 use Rattle.order.specs.HoleOrder.{slot}
 use Rattle.owners.specs.Owners.{contour_below}
-use Rattle.bind.specs.declared.Binding.TheVariants as binding
-use Rattle.bind.specs.Outcome.{Outcome, outcome, bound}
+use Rattle.bind.specs.Outcome.{bound_to, Outcome, outcome, bound}
 use Rattle.bind.specs.Examples.{e9_bound, e10_bound, e10_one_lem}
+use Rattle.turn.specs.Refusals.{refused}
+use Rattle.turn.specs.declared.Reason.TheVariants.{NoNextLink, NoParent}
 
 -- a graph that is lent to extraction, with all that is then answered and left in the lent buffers, or with the doubled areas of the walks
 -- that are rejected; a table that is lent to binding, or the contour whose edge is the nearest under a hole's anchor
@@ -33,7 +33,7 @@ pub data Row : Type 0 where
   through : (t : Table) (clockwise : Bool) (hole contour : ℕ) → Row
 
 abbrev walks_of : Scanned → List Walk
-walks_of (stopped number place) = []
+walks_of (stopped reason place) = []
 walks_of (walks ws st) = ws
 
 -- the doubled areas of the rejected walks, one by one
@@ -67,7 +67,7 @@ triangle =
 
 -- one hull (0,4) (0,0) (4,0) (4,4), doubled area 32
 abbrev hull : Extracted
-hull = extracted_as (Done (record { contours = 1; points = 4; rejected = 0; walked = 4; left_out = 0; kept_area = p 32; rejected_area = p 0 }))
+hull = extracted_as (Ok (record { contours = 1; points = 4; rejected = 0; walked = 4; left_out = 0; kept_area = p 32; rejected_area = p 0 }))
     (buffers (3 ∷ 3 ∷ 3 ∷ 3 ∷ []) (p 0 ∷ p 4 ∷ p 0 ∷ p 0 ∷ p 4 ∷ p 0 ∷ p 4 ∷ p 4 ∷ p 0 ∷ p 0 ∷ []) none (4 ∷ 0 ∷ []) none)
 
 -- The buffers that are lent hold nines, with room to spare, and the owners sevens.
@@ -75,42 +75,42 @@ abbrev pub rows : List Row
 rows =
     -- E1: no links, no nodes: done, nothing found
     extraction (lent [] [] [] [] [] [] (0 ∷ []) []) [] false 0 (nines [] 1 1)
-    (extracted_as (Done (record { contours = 0; points = 0; rejected = 0; walked = 0; left_out = 0; kept_area = p 0; rejected_area = p 0 }))
+    (extracted_as (Ok (record { contours = 0; points = 0; rejected = 0; walked = 0; left_out = 0; kept_area = p 0; rejected_area = p 0 }))
     (buffers [] (p 0 ∷ p 0 ∷ []) (0 ∷ []) (0 ∷ []) (0 ∷ [])))
     -- E2: the square, counterclockwise, minimum 0
     ∷ extraction square tops false 0 (nines unvisited 5 2) hull
     -- E3: E2 clockwise: (0,0) (0,4) (4,4) (4,0)
     ∷ extraction square tops true 0 (nines unvisited 5 2)
-    (extracted_as (Done (record { contours = 1; points = 4; rejected = 0; walked = 4; left_out = 0; kept_area = m 32; rejected_area = p 0 }))
+    (extracted_as (Ok (record { contours = 1; points = 4; rejected = 0; walked = 4; left_out = 0; kept_area = m 32; rejected_area = p 0 }))
     (buffers (3 ∷ 3 ∷ 3 ∷ 3 ∷ []) (p 0 ∷ p 0 ∷ p 0 ∷ p 4 ∷ p 4 ∷ p 4 ∷ p 4 ∷ p 0 ∷ p 0 ∷ p 0 ∷ []) none (4 ∷ 0 ∷ []) none))
     -- E4: E2 with minimum 16 kept
     ∷ extraction square tops false 16 (nines unvisited 5 2) hull
     -- E5: 17 rejected, links walked 4
     ∷ extraction square tops false 17 (nines unvisited 5 2)
-    (extracted_as (Done (record { contours = 0; points = 0; rejected = 1; walked = 4; left_out = 0; kept_area = p 0; rejected_area = p 32 }))
+    (extracted_as (Ok (record { contours = 0; points = 0; rejected = 1; walked = 4; left_out = 0; kept_area = p 0; rejected_area = p 32 }))
     (buffers (3 ∷ 3 ∷ 3 ∷ 3 ∷ []) (replicate 10 (p 0)) none none none))
     -- E6: the triangle of doubled area 1: minimum 0 keeps, 1 rejects
     ∷ extraction triangle (0 ∷ 1 ∷ 0 ∷ []) false 0 (nines (0 ∷ 0 ∷ 0 ∷ []) 3 1)
-    (extracted_as (Done (record { contours = 1; points = 3; rejected = 0; walked = 3; left_out = 0; kept_area = p 1; rejected_area = p 0 }))
+    (extracted_as (Ok (record { contours = 1; points = 3; rejected = 0; walked = 3; left_out = 0; kept_area = p 1; rejected_area = p 0 }))
     (buffers (3 ∷ 3 ∷ 3 ∷ []) (p 0 ∷ p 1 ∷ p 0 ∷ p 0 ∷ p 1 ∷ p 0 ∷ []) (0 ∷ []) (3 ∷ []) (0 ∷ [])))
     ∷ extraction triangle (0 ∷ 1 ∷ 0 ∷ []) false 1 (nines (0 ∷ 0 ∷ 0 ∷ []) 3 1)
-    (extracted_as (Done (record { contours = 0; points = 0; rejected = 1; walked = 3; left_out = 0; kept_area = p 0; rejected_area = p 1 }))
+    (extracted_as (Ok (record { contours = 0; points = 0; rejected = 1; walked = 3; left_out = 0; kept_area = p 0; rejected_area = p 1 }))
     (buffers (3 ∷ 3 ∷ 3 ∷ []) (replicate 6 (p 0)) (0 ∷ []) (0 ∷ []) (0 ∷ [])))
     -- E7: E2 with link 0 skipped: 8 at 1
     ∷ extraction square tops false 0 (nines (1 ∷ 0 ∷ 0 ∷ 0 ∷ []) 5 2)
-    (extracted_as (Refused 8 1) (buffers (1 ∷ 0 ∷ 0 ∷ 0 ∷ []) (replicate 10 (p 0)) none none none))
+    (extracted_as (refused NoNextLink 1) (buffers (1 ∷ 0 ∷ 0 ∷ 0 ∷ []) (replicate 10 (p 0)) none none none))
     -- E8: two walks of doubled area 2 rejected; one hull (10,-10) (0,0) (10,-20), doubled 100
     ∷ extraction fan fan_tops false 2 (nines (replicate 9 0) 9 3)
-    (extracted_as (Done (record { contours = 1; points = 3; rejected = 2; walked = 9; left_out = 0; kept_area = p 100; rejected_area = p 4 }))
+    (extracted_as (Ok (record { contours = 1; points = 3; rejected = 2; walked = 9; left_out = 0; kept_area = p 100; rejected_area = p 4 }))
     (buffers (replicate 9 3) (p 10 ∷ m 10 ∷ p 0 ∷ p 0 ∷ p 10 ∷ m 20 ∷ replicate 12 (p 0)) (0 ∷ 0 ∷ 0 ∷ []) (3 ∷ 0 ∷ 0 ∷ []) (0 ∷ 0 ∷ 0 ∷ [])))
     ∷ rejections fan fan_tops false 2 (replicate 9 0) (p 2 ∷ p 2 ∷ [])
     -- E9: both holes get shape 1, the first from the hull, contour 1, the second through the first, contour 2
-    ∷ hole_binding e9 false (7 ∷ 7 ∷ 7 ∷ 7 ∷ 7 ∷ []) (outcome (binding.Bound 2 0) (0 ∷ 1 ∷ 1 ∷ 1 ∷ 7 ∷ []))
+    ∷ hole_binding e9 false (7 ∷ 7 ∷ 7 ∷ 7 ∷ 7 ∷ []) (outcome (bound_to 2 0) (0 ∷ 1 ∷ 1 ∷ 1 ∷ 7 ∷ []))
     ∷ through e9 false 2 1
     ∷ through e9 false 3 2
     -- E10: 12 at 3; with only the first hull lent, both get 0
-    ∷ hole_binding e10 false (7 ∷ 7 ∷ 7 ∷ 7 ∷ []) (outcome (binding.Refused 12 3) (7 ∷ 7 ∷ 7 ∷ 7 ∷ []))
-    ∷ hole_binding e10_one false (7 ∷ 7 ∷ 7 ∷ []) (outcome (binding.Bound 1 0) (0 ∷ 0 ∷ 0 ∷ []))
+    ∷ hole_binding e10 false (7 ∷ 7 ∷ 7 ∷ 7 ∷ []) (outcome (refused NoParent 3) (7 ∷ 7 ∷ 7 ∷ 7 ∷ []))
+    ∷ hole_binding e10_one false (7 ∷ 7 ∷ 7 ∷ []) (outcome (bound_to 1 0) (0 ∷ 0 ∷ 0 ∷ []))
     ∷ []
 
 e8_rejects : Holds (rejections fan fan_tops false 2 (replicate 9 0) (p 2 ∷ p 2 ∷ []))

@@ -1,10 +1,10 @@
 -- The first `file_bytes` bytes decide every input: a reader need not look further.
 use Prim.Native.Nat.{ℕ, zero, suc, ◌+◌, ◌*◌, ◌≤◌, ◌<◌}
-use Rattle.std.specs.Prelude.{◌≡◌, Bool, List, [], ◌∷◌, ltb, leb, length, take, drop}
+use Rattle.std.specs.Prelude.{◌≡◌, Bool, List, [], ◌∷◌, ltb, leb, length, take, drop, Option, Some, None, Result, Ok, Err}
 use Rattle.std.proofs.Math.Path.{refl, ap, ap₂}
 use Rattle.std.proofs.Common.{sym, ◌∙◌, subst, arith, length-take, length-drop, get_or-drop, length-take-le, take_all, ext_get_or}
 use Rattle.std.proofs.Math.Bool.{true, false}
-use borrow.Author.Tests.{le-leb, ne_eqb, eqb-true, ltb-true, ltb-false}
+use borrow.Author.Tests.{le-leb, ne_eqb, ltb-true, ltb-false}
 use Rattle.std.proofs.Math.Dec.{eqb}
 use Rattle.std.proofs.Math.Seq.{get_or-take}
 use Rattle.laws.specs.Test.{pick}
@@ -15,12 +15,13 @@ use Rattle.format_records.specs.Records.{length_at, body_at, record_end, head_nu
 use Rattle.format_records.specs.Records.{RunBodies, ran, fault, with, on_step, run_from, run_at, looks, settings_right, Form, form, refused, on_ran}
 use Rattle.format_records.specs.Records.{nodes_after, form_of}
 use Rattle.format.specs.File.{file_from, file_of}
-use Rattle.format_records.specs.Steps.{Told, next_tells, link_zero, node_zero}
+use Rattle.format_records.specs.Steps.{Told, next_tells, link_none, node_none}
 use Rattle.format_shape.specs.Runs.{RecordsStand, stands}
 use Rattle.format_shape.specs.Forms.{form_placed}
 use Rattle.format_records.specs.declared.Run.{Run}
-use Rattle.format_records.specs.declared.RunStep.{RunStep}
-use Rattle.format_records.specs.declared.RunStep.TheVariants.{Next, Other, Fault}
+use Rattle.turn.specs.declared.Reason.{Reason}
+use Rattle.turn.specs.declared.Reason.TheVariants.{WrongFile}
+use Rattle.turn.specs.declared.Refusal.{Refusal}
 
 -- a place before the end
 before_end : (n p l : ℕ) → p + 6 ≤ n → n ≤ l → p ≡ l → ⊥
@@ -59,20 +60,19 @@ module _ (n : ℕ) (enough : file_bytes ≤ n) (s : List ℕ) (more : n < length
 
   -- a step that looks at these bytes alone
   module _ (kind : ℕ) (r : Run) (h : r.at + 6 ≤ n)
-      (fine : head_number kind r.count r.size (length_at s r.at) ≡ 0 → record_end s r.at ≤ n) where
+      (fine : head_number kind r.count r.size (length_at s r.at) ≡ None → record_end s r.at ≤ n) where
     same_length : length_at (take n s) r.at ≡ length_at s r.at
     same_length = same_u32 r.at (omega arith)
 
     same_number : record_number kind (take n s) r ≡ record_number kind s r
     unfolding record_number
-    same_number = rw same_length (by_test (eqb (head_number kind r.count r.size (length_at s r.at)) 0) refl)
+    same_number = rw same_length (by_head (head_number kind r.count r.size (length_at s r.at)) refl)
       where
-        by_test : (b : Bool) → eqb (head_number kind r.count r.size (length_at s r.at)) 0 ≡ b
-            → first_number (head_number kind r.count r.size (length_at s r.at)) (pick (leb (record_end s r.at) (length (take n s))) 0 13)
-            ≡ first_number (head_number kind r.count r.size (length_at s r.at)) (body_number s r.at)
-        by_test false e = rw e
-        by_test true e =
-            let k = fine (eqb-true (head_number kind r.count r.size (length_at s r.at)) 0 e) in
+        by_head : (m : Option Reason) → head_number kind r.count r.size (length_at s r.at) ≡ m
+            → first_number m (pick (leb (record_end s r.at) (length (take n s))) None (Some WrongFile)) ≡ first_number m (body_number s r.at)
+        by_head (Some reason) e = refl
+        by_head None e =
+            let k = fine e in
             rw (short_length, le-leb (record_end s r.at) n k, le-leb (record_end s r.at) (length s) (omega arith))
 
     same_step : step_at kind (take n s) r ≡ step_at kind s r
@@ -82,23 +82,24 @@ module _ (n : ℕ) (enough : file_bytes ≤ n) (s : List ℕ) (more : n < length
 
   -- a run that stays within these bytes, by a bound that its records keep
   module _ (kind : ℕ) (Within : Run → Type 0) (near : (r : Run) → Within r → r.at + 6 ≤ n)
-      (fine : (r : Run) → Within r → head_number kind r.count r.size (length_at s r.at) ≡ 0 → record_end s r.at ≤ n)
+      (fine : (r : Run) → Within r → head_number kind r.count r.size (length_at s r.at) ≡ None → record_end s r.at ≤ n)
       (keeps : (r : Run) → Within r → Told kind s r → Within (past s r)) where
     by_step : (m : ℕ) (r : Run) → Within r → ((y : Run) → Within y → run_from m kind (take n s) y ≡ run_from m kind s y)
-        → (x : RunStep) → step_at kind s r ≡ x
+        → (x : Result (Option Run) Refusal) → step_at kind s r ≡ x
         → on_step x (λ y. with (body_at (take n s) r.at) (run_from m kind (take n s) y)) (ran r [])
         ≡ on_step x (λ y. with (body_at s r.at) (run_from m kind s y)) (ran r [])
-    by_step m r w ih (Next y) e =
+    by_step m r w ih (Ok (Some y)) e =
         let t = next_tells kind s r y e in
         ap₂ with (same_body r.at (near r w) (fine r w t.1.number)) (ih y (subst Within (sym t.0) (keeps r w t.1)))
-    by_step m r w ih Other e = refl
-    by_step m r w ih (Fault f) e = refl
+    by_step m r w ih (Ok None) e = refl
+    by_step m r w ih (Err f) e = refl
 
     same_run : (m : ℕ) (r : Run) → Within r → run_from m kind (take n s) r ≡ run_from m kind s r
     unfolding run_from
     same_run zero r w = refl
     same_run (suc m) r w =
-        ap (λ (x : RunStep). on_step x (λ y. with (body_at (take n s) r.at) (run_from m kind (take n s) y)) (ran r [])) (same_step kind r (near r w) (fine r w))
+        ap (λ (x : Result (Option Run) Refusal). on_step x (λ y. with (body_at (take n s) r.at) (run_from m kind (take n s) y)) (ran r []))
+        (same_step kind r (near r w) (fine r w))
         ∙ by_step m r w (λ y v. same_run m y v) (step_at kind s r) refl
 
     within_end : (bs : List (List ℕ)) (r r' : Run) → Within r → RecordsStand kind s r bs r' → Within r'
@@ -114,12 +115,12 @@ module _ (n : ℕ) (enough : file_bytes ≤ n) (s : List ℕ) (more : n < length
   links_near : (r : Run) → LinksWithin r → r.at + 6 ≤ n
   links_near r w = omega (arith, w.place, w.few)
 
-  links_fine : (r : Run) → LinksWithin r → head_number 1 r.count r.size (length_at s r.at) ≡ 0 → record_end s r.at ≤ n
-  links_fine r w z = let l = link_zero r.count (length_at s r.at) z in omega (arith, w.place, w.few, l.0, l.1)
+  links_fine : (r : Run) → LinksWithin r → head_number 1 r.count r.size (length_at s r.at) ≡ None → record_end s r.at ≤ n
+  links_fine r w z = let l = link_none r.count (length_at s r.at) z in omega (arith, w.place, w.few, l.0, l.1)
 
   links_keep : (r : Run) → LinksWithin r → Told 1 s r → LinksWithin (past s r)
   links_keep r w t =
-      let l = link_zero r.count (length_at s r.at) t.number in
+      let l = link_none r.count (length_at s r.at) t.number in
       record { place = omega (arith, w.place, l.0); few = omega (arith, l.1) }
 
   links_begin : LinksWithin (run_to 15 0 0)
@@ -145,12 +146,12 @@ module _ (n : ℕ) (enough : file_bytes ≤ n) (s : List ℕ) (more : n < length
     nodes_near : (r : Run) → NodesWithin r → r.at + 6 ≤ n
     nodes_near r w = omega (arith, w.place, w.few, w.small)
 
-    nodes_fine : (r : Run) → NodesWithin r → head_number 2 r.count r.size (length_at s r.at) ≡ 0 → record_end s r.at ≤ n
-    nodes_fine r w z = let l = node_zero r.count r.size (length_at s r.at) z in omega (arith, w.place, w.few, w.small, l.1, l.2)
+    nodes_fine : (r : Run) → NodesWithin r → head_number 2 r.count r.size (length_at s r.at) ≡ None → record_end s r.at ≤ n
+    nodes_fine r w z = let l = node_none r.count r.size (length_at s r.at) z in omega (arith, w.place, w.few, w.small, l.1, l.2)
 
     nodes_keep : (r : Run) → NodesWithin r → Told 2 s r → NodesWithin (past s r)
     nodes_keep r w t =
-        let l = node_zero r.count r.size (length_at s r.at) t.number in
+        let l = node_none r.count r.size (length_at s r.at) t.number in
         record { place = omega (arith, w.place); few = omega (arith, l.1); small = omega (arith, l.2) }
 
     nodes_begin : NodesWithin (run_to a 0 0)
@@ -165,12 +166,12 @@ module _ (n : ℕ) (enough : file_bytes ≤ n) (s : List ℕ) (more : n < length
 
     same_after : (ls : List (List ℕ)) → nodes_after (take n s) ls a ≡ nodes_after s ls a
     same_after ls =
-        ap (λ (t : RunBodies). on_ran t (λ x ns. pick (eqb x.at (length (take n s))) (form ls ns) (refused (refusal 13 x.at)))) same_nodes
+        ap (λ (t : RunBodies). on_ran t (λ x ns. pick (eqb x.at (length (take n s))) (form ls ns) (refused (refusal WrongFile x.at)))) same_nodes
         ∙ by (run_at 2 s a) refl
       where
         by : (t : RunBodies) → run_at 2 s a ≡ t
-            → on_ran t (λ x ns. pick (eqb x.at (length (take n s))) (form ls ns) (refused (refusal 13 x.at)))
-            ≡ on_ran t (λ x ns. pick (eqb x.at (length s)) (form ls ns) (refused (refusal 13 x.at)))
+            → on_ran t (λ x ns. pick (eqb x.at (length (take n s))) (form ls ns) (refused (refusal WrongFile x.at)))
+            ≡ on_ran t (λ x ns. pick (eqb x.at (length s)) (form ls ns) (refused (refusal WrongFile x.at)))
         by (fault f) e = refl
         by (ran x ns) e =
             let k = nodes_end x ns (stands 2 s looks (run_to a 0 0) x ns e) in
@@ -196,7 +197,7 @@ module _ (n : ℕ) (enough : file_bytes ≤ n) (s : List ℕ) (more : n < length
   same_form : form_of (take n s) ≡ form_of s
   unfolding form_of
   same_form =
-      ap₂ (λ b (x : Form). pick b x (refused (refusal 13 0))) same_settings
+      ap₂ (λ b (x : Form). pick b x (refused (refusal WrongFile 0))) same_settings
       (ap (λ (t : RunBodies). on_ran t (λ r ls. nodes_after (take n s) ls r.at)) same_links ∙ by (run_at 1 s 15) refl)
     where
       by : (t : RunBodies) → run_at 1 s 15 ≡ t → on_ran t (λ r ls. nodes_after (take n s) ls r.at) ≡ on_ran t (λ r ls. nodes_after s ls r.at)

@@ -1,13 +1,12 @@
 -- What a file says: the lists of a graph with its settings, or a refusal; and what reading it leaves in the lent buffers.
-use Rattle.std.specs.Prelude.{ℕ, ◌+◌, ◌-◌, ◌/◌, ◌≤◌, Bool, List, [], ◌∷◌, map, eqb, ℤ, length, get_or}
+use Rattle.std.specs.Prelude.{ℕ, ◌+◌, ◌-◌, ◌/◌, ◌≤◌, Bool, List, [], ◌∷◌, map, eqb, ℤ, length, get_or, Result, Ok, Err}
 use Rattle.writing.specs.Put.{at_front}
 use Rattle.format_numbers.specs.Bytes.{u16_at, u64_at, i32_at}
 use Rattle.turn.specs.Limits.{max_links}
 use Rattle.format_records.specs.Limits.{max_nodes, max_entries}
 use Rattle.format_records.specs.Records.{Form, form, refused, form_of, flat_list}
-use Rattle.format_records.specs.declared.Refusal.{Refusal}
-use Rattle.format.specs.declared.FileRead.{FileRead}
-use Rattle.format.specs.declared.FileRead.TheVariants as answer
+use Rattle.turn.specs.declared.Refusal.{Refusal}
+use Rattle.format.specs.declared.FileCounts.{FileCounts}
 
 -- "start positions (m + 1 of them) into one flat list", the first at e
 unfoldable pub starts_of : ℕ → List (List ℕ) → List ℕ
@@ -99,17 +98,17 @@ contents_into g b =
 
 -- the answer, and the buffers
 pub record Reading : Type 0 where
-  pub answer : FileRead
+  pub answer : Result FileCounts Refusal
   pub lent : FileLists
 
-abbrev pub reading : FileRead → FileLists → Reading
+abbrev pub reading : Result FileCounts Refusal → FileLists → Reading
 reading r b = record { answer = r; lent = b }
 
 -- a refusal leaves the buffers alone
 abbrev pub read_into : File → FileLists → Reading
 read_into (holding g) b =
     reading
-    (answer.Graph (record {
+    (Ok (record {
       links = length g.a_id;
       nodes = length g.start - 1;
       entries = length g.list;
@@ -117,4 +116,4 @@ read_into (holding g) b =
       minimum = g.minimum;
     }))
     (contents_into g b)
-read_into (refused_file e) b = reading (answer.Refused e) b
+read_into (refused_file e) b = reading (Err e) b

@@ -1,5 +1,5 @@
 -- The lists that are read where the records of a file of right form stand are the definition's.
-use Rattle.std.specs.Prelude.{ℕ, zero, suc, ◌+◌, ◌*◌, ◌/◌, ◌≤◌, ◌<◌, ◌≡◌, refl, Bool, List, [], ◌∷◌, ◌++◌, map, eqb, ℤ, length, drop}
+use Rattle.std.specs.Prelude.{ℕ, zero, suc, ◌+◌, ◌*◌, ◌/◌, ◌≤◌, ◌<◌, ◌≡◌, refl, Bool, List, [], ◌∷◌, ◌++◌, map, eqb, ℤ, length, drop, Ok, Err}
 use Rattle.std.proofs.Common.{sym, ap, ◌∙◌, add_assoc, add-zero, arith, get_or-take, get_or-drop}
 use Rattle.std.proofs.Math.Path.{ap₂}
 use Rattle.std.proofs.Math.ListN.{get_or}
@@ -13,14 +13,12 @@ use Rattle.format.specs.File.{starts_of, file_of, FileLists, file_lists, reading
 use Rattle.format_shape.specs.Shape.{file_shape_of}
 use Rattle.format_lists.specs.Columns.{Columns, columns, column, links_into}
 use Rattle.format_lists.specs.NodeLists.{entries_from, starts_from, NodesStand}
-use Rattle.format_records.specs.Steps.{link_zero, node_zero}
+use Rattle.format_records.specs.Steps.{link_none, node_none}
 use Rattle.format_shape.specs.Runs.{RecordsStand}
 use Rattle.format_shape.specs.Forms.{length_body, stands_count, stands_few, stands_inside, stands_links, settings_long, Formed, wronged, FormPlaced}
 use Rattle.format_shape.specs.Forms.{form_placed}
 use Rattle.format_records.specs.declared.Run.{Run}
-use Rattle.format_records.specs.declared.Refusal.{Refusal}
-use Rattle.format.specs.declared.FileRead.TheVariants as answer
-use Rattle.format_shape.specs.declared.FileShape.TheVariants as shape
+use Rattle.turn.specs.declared.Refusal.{Refusal}
 
 -- ---- the bytes of a body, where they stand in the file
 
@@ -47,7 +45,7 @@ column_is : {A : Type 0} (s : List ℕ) (f : ℕ → A) (g : List ℕ → A) (j 
 unfolding every
 column_is s f g j agree [] r r' h = refl
 column_is s f g j agree (b ∷ bs) r r' h =
-    let l = (link_zero r.count (length_at s r.at) h.0.number).0 in
+    let l = (link_none r.count (length_at s r.at) h.0.number).0 in
     let e : r.at + 6 + j + 28 ≡ record_end s r.at + 6 + j = omega arith in
     ap₂ (λ (x : _) (xs : List _). x ∷ xs) (agree r.at l ∙ ap g (sym h.1))
     (ap (λ i. every f 28 i (length bs)) e ∙ column_is s f g j agree bs (past s r) r' h.2)
@@ -88,7 +86,7 @@ nodes_stand : (s : List ℕ) (bs : List (List ℕ)) (r r' : Run) (e : ℕ) → r
 unfolding NodesStand
 nodes_stand s [] r r' e z few h = few
 nodes_stand s (b ∷ bs) r r' e z few h =
-    let n = node_zero r.count r.size (length_at s r.at) h.0.number in
+    let n = node_none r.count r.size (length_at s r.at) h.0.number in
     let room : e + length_at s r.at / 2 ≤ max_entries = omega (arith, n.2) in
     (h.0.whole, (n.0, (room, nodes_stand s bs (past s r) r' (e + length_at s r.at / 2) (omega (arith, n.0)) room h.2)))
 
@@ -105,8 +103,8 @@ over_by e b = ap (λ (l : List _). at_front l b) e
 same_reading : {n n' m m' e e' min min' : ℕ} {w w' : Bool} {ax ax' ay ay' bx bx' by by' : List ℤ} {a a' b b' t t' s s' st st' l l' : List ℕ}
     → n ≡ n' → m ≡ m' → e ≡ e' → w ≡ w' → min ≡ min'
     → ax ≡ ax' → ay ≡ ay' → bx ≡ bx' → by ≡ by' → a ≡ a' → b ≡ b' → t ≡ t' → s ≡ s' → st ≡ st' → l ≡ l'
-    → reading (answer.Graph (record { links = n; nodes = m; entries = e; clockwise = w; minimum = min })) (file_lists ax ay bx by a b t s st l)
-    ≡ reading (answer.Graph (record { links = n'; nodes = m'; entries = e'; clockwise = w'; minimum = min' })) (file_lists ax' ay' bx' by' a' b' t' s' st' l')
+    → reading (Ok (record { links = n; nodes = m; entries = e; clockwise = w; minimum = min })) (file_lists ax ay bx by a b t s st l)
+    ≡ reading (Ok (record { links = n'; nodes = m'; entries = e'; clockwise = w'; minimum = min' })) (file_lists ax' ay' bx' by' a' b' t' s' st' l')
 same_reading e1 e2 e3 e4 e5 e6 e7 e8 e9 e10 e11 e12 e13 e14 e15 = rw (e1, e2, e3, e4, e5, e6, e7, e8, e9, e10, e11, e12, e13, e14, e15)
 
 -- what the functions that fill the lists are asked, and what they then leave
@@ -182,7 +180,7 @@ module _ (s : List ℕ) (n m e : ℕ) (f : Formed s n m e) where
       → c ≡ links_into s n (columns b.ax b.ay b.bx b.by b.a_id b.b_id b.top b.state)
       → start ≡ at_front (starts_from s m (15 + 28 * n) 0) b.start
       → list ≡ at_front (entries_from s m (15 + 28 * n)) b.list
-      → reading (answer.Graph (record { links = n; nodes = m; entries = e; clockwise = clockwise; minimum = minimum }))
+      → reading (Ok (record { links = n; nodes = m; entries = e; clockwise = clockwise; minimum = minimum }))
       (file_lists c.ax c.ay c.bx c.by c.a_id c.b_id c.top c.state start list)
       ≡ read_into (file_of s) b
   read_right b clockwise minimum c start list p q h i j =
@@ -199,5 +197,5 @@ module _ (s : List ℕ) (n m e : ℕ) (f : Formed s n m e) where
       (i ∙ starts_of_lem b.start)
       (j ∙ entries_of_lem b.list))
 
-pub read_wrong : (s : List ℕ) (e : Refusal) (b : FileLists) → shape.Wrong e ≡ file_shape_of (form_of s) → reading (answer.Refused e) b ≡ read_into (file_of s) b
+pub read_wrong : (s : List ℕ) (e : Refusal) (b : FileLists) → Err e ≡ file_shape_of (form_of s) → reading (Err e) b ≡ read_into (file_of s) b
 read_wrong s e b h = rw (wronged s e h)

@@ -1,6 +1,6 @@
 -- Writing the file of a graph and reading it gives the graph back.
 use Prim.Native.Nat.{ℕ, zero, suc, ◌+◌, ◌-◌, ◌*◌, ◌/◌, ◌%◌, ◌≤◌, ◌<◌}
-use Rattle.std.specs.Prelude.{◌≡◌, Bool, true, false, eqb, ℤ, pos, negsuc, take, drop}
+use Rattle.std.specs.Prelude.{◌≡◌, Bool, true, false, eqb, ℤ, pos, negsuc, take, drop, Some, None, Ok}
 use Rattle.std.proofs.Math.Path.{refl, sym, ap, ap₂}
 use Rattle.std.proofs.Common.{◌∙◌, subst, add_assoc, add-zero}
 use mathlib.Core.List.{List, [], ◌∷◌, ◌++◌, map, append_assoc, append-nil}
@@ -21,7 +21,6 @@ use Rattle.format.specs.Encoded.{little, bits_of, record_bytes, records_bytes, L
 use Rattle.format.specs.Encoded.{positions, graph_contents, LinkFits, LinksFit, NodeFits, NodesFit, FileFits}
 use Rattle.format_records.specs.Steps.{step_cut, step_kind, step_next}
 use Rattle.format_records.specs.declared.Run.{Run}
-use Rattle.format_records.specs.declared.RunStep.TheVariants.{Next, Other}
 
 -- ---- numbers read where they were written
 
@@ -80,19 +79,19 @@ module _ (kind : ℕ) (body rest : List ℕ) (k : kind < 65536) (l : length body
 abbrev HeadsRight : ℕ → ℕ → ℕ → List (List ℕ) → Type 0
 HeadsRight kind count size [] = Unit
 HeadsRight kind count size (b ∷ bs) =
-    (head_number kind count size (length b) ≡ 0) × (length b < 4294967296) × HeadsRight kind (count + 1) (size + length b) bs
+    (head_number kind count size (length b) ≡ None) × (length b < 4294967296) × HeadsRight kind (count + 1) (size + length b) bs
 
 record Reaches (kind n : ℕ) (s : List ℕ) (r : Run) (bs : List (List ℕ)) (place : ℕ) : Type 0 where
   last : Run
   is : run_from n kind s r ≡ ran last bs
   ends : last.at ≡ place
 
-module _ (kind : ℕ) (k : kind < 65536) (s : List ℕ) (place : ℕ) (stop : (r : Run) → r.at ≡ place → step_at kind s r ≡ Other) where
+module _ (kind : ℕ) (k : kind < 65536) (s : List ℕ) (place : ℕ) (stop : (r : Run) → r.at ≡ place → step_at kind s r ≡ Ok None) where
   reached : (n : ℕ) (r : Run) → r.at ≡ place → Reaches kind (suc n) s r [] place
   unfolding run_from
   reached n r e = record { last = r; is = rw (stop r e); ends = e }
 
-  one_step : (n : ℕ) (r : Run) (b : List ℕ) (bs : List (List ℕ)) → step_at kind s r ≡ Next (past s r) → body_at s r.at ≡ b
+  one_step : (n : ℕ) (r : Run) (b : List ℕ) (bs : List (List ℕ)) → step_at kind s r ≡ Ok (Some (past s r)) → body_at s r.at ≡ b
       → Reaches kind n s (past s r) bs place → Reaches kind (suc n) s r (b ∷ bs) place
   unfolding run_from
   one_step n r b bs e q h =
@@ -126,8 +125,8 @@ module _ (kind : ℕ) (k : kind < 65536) (s : List ℕ) (place : ℕ) (stop : (r
 -- ---- the form
 
 -- the nodes' first record does not belong to the links
-not_a_link : (before : List ℕ) (ns : List (List ℕ)) → HeadsRight 2 0 0 ns → (r : Run) → r.at ≡ length before → step_at 1 (before ++ records_bytes 2 ns) r ≡
-    Other
+not_a_link : (before : List ℕ) (ns : List (List ℕ)) → HeadsRight 2 0 0 ns → (r : Run) → r.at ≡ length before
+    → step_at 1 (before ++ records_bytes 2 ns) r ≡ Ok None
 unfolding records_bytes
 not_a_link before [] g r p = step_cut 1 (before ++ []) r (omega (arith, length-append before []))
 not_a_link before (b ∷ bs) g r p =
@@ -162,7 +161,7 @@ module _ (settings : List ℕ) (nine : length settings ≡ 9) (dir : get_or sett
       (length (record_bytes 3 settings ++ records_bytes 1 links))
   links_reach =
       reaches 1 (omega arith) _ (length (record_bytes 3 settings ++ records_bytes 1 links))
-      (λ r p. subst (λ (t : List ℕ). step_at 1 t r ≡ Other) regrouped (not_a_link (record_bytes 3 settings ++ records_bytes 1 links) nodes goes-nodes r p))
+      (λ r p. subst (λ (t : List ℕ). step_at 1 t r ≡ Ok None) regrouped (not_a_link (record_bytes 3 settings ++ records_bytes 1 links) nodes goes-nodes r p))
       links max_links (record_bytes 3 settings) (records_bytes 2 nodes) (run_to 15 0 0) few_links goes-links (omega (arith, nine))
       (length-append (record_bytes 3 settings) (records_bytes 1 links)) refl
 
@@ -291,7 +290,7 @@ nodes_go (n ∷ ns) count size h r =
       nodes_go ns (count + 1) (size + length (node_body n)) (omega arith) (omega arith),
     )
   where
-    right_head : (len : ℕ) → len % 2 ≡ 0 → size + len ≤ 2 * max_entries → node_number count size len ≡ 0
+    right_head : (len : ℕ) → len % 2 ≡ 0 → size + len ≤ 2 * max_entries → node_number count size len ≡ None
     right_head len e f = rw (eq-eqb (len % 2) 0 e, lt-ltb count max_nodes (omega arith), le-leb (size + len) (2 * max_entries) f)
 
 -- ---- the whole file

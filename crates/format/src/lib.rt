@@ -7,9 +7,9 @@
 ghost use Rattle.format.specs.File.{FileLists, file_lists, FileRoom};
 ghost use Rattle.format.specs.Promises.{ReadGraphSays};
 
-use format_records::{MAX_ENTRIES, MAX_NODES, Refusal};
-use format_shape::FileShape;
-use turn::MAX_LINKS;
+use format_records::{MAX_ENTRIES, MAX_NODES};
+use format_shape::Sizes;
+use turn::{MAX_LINKS, Refusal};
 
 // The bytes that decide every input: the settings, as many links, nodes and entries as may be, and one head more.
 pub const FILE_BYTES: usize = 15 + MAX_LINKS * 28 + MAX_NODES * 6 + MAX_ENTRIES * 2 + 6;
@@ -22,13 +22,6 @@ pub struct FileCounts {
     pub entries: usize,
     pub clockwise: bool,
     pub minimum: u64,
-}
-
-// What came of reading: a graph in the lent lists, or a refusal.
-#[derive(Clone, Copy)]
-pub enum FileRead {
-    Graph(FileCounts),
-    Refused(Refusal),
 }
 
 // Reads a file into the lent lists. It asks for the room of the largest file, which the program has in arrays of these
@@ -45,7 +38,7 @@ pub fn read_graph(
     state: &mut [u8],
     start: &mut [u32],
     list: &mut [u32],
-) -> FileRead
+) -> Result<FileCounts, Refusal>
     requires { (let before : FileLists = file_lists ax.old ay.old bx.old by.old a_id.old b_id.old
         top.old state.old start.old list.old in
         FileRoom before) }
@@ -57,22 +50,18 @@ pub fn read_graph(
         start.new list.new in
         ReadGraphSays s.now before result after) }
 {
-    match format_shape::shape_of(s) {
-        FileShape::Wrong(e) => FileRead::Refused(e),
-        FileShape::Right {
-            links,
-            nodes,
-            entries,
-        } => {
-            format_lists::fill_links(s, links, ax, ay, bx, by, a_id, b_id, top, state);
-            format_lists::fill_nodes(s, 15 + 28 * links, nodes, start, list);
-            FileRead::Graph(FileCounts {
-                links,
-                nodes,
-                entries,
-                clockwise: s[6] == 1,
-                minimum: format_numbers::u64_at(s, 7),
-            })
-        }
-    }
+    let Sizes {
+        links,
+        nodes,
+        entries,
+    } = format_shape::shape_of(s)?;
+    format_lists::fill_links(s, links, ax, ay, bx, by, a_id, b_id, top, state);
+    format_lists::fill_nodes(s, 15 + 28 * links, nodes, start, list);
+    Ok(FileCounts {
+        links,
+        nodes,
+        entries,
+        clockwise: s[6] == 1,
+        minimum: format_numbers::u64_at(s, 7),
+    })
 }

@@ -1,2 +1,2 @@
--- The loops that fill the lists.
+-- What the proofs cite.
 pub mod Fill

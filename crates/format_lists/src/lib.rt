@@ -46,15 +46,13 @@ pub fn fill_nodes(s: &[u8], from: usize, m: usize, start: &mut [u32], list: &mut
         start.new list.new }
 {
     let mut at = from;
-    let mut e: u32 = 0;
-    let mut k = 0;
-    while k < m {
-        start[k] = e;
+    let mut e = 0;
+    for first in start[..m].iter_mut() {
+        *first = e;
         let len = format_numbers::u32_at(s, at);
         format_fill::fill_u16(s, at + 6, 2, (len / 2) as usize, list, e as usize);
         at += 6 + len as usize;
         e += len / 2;
-        k += 1;
     }
     start[m] = e;
 }

@@ -1,13 +1,14 @@
 -- The form of the file: "four-byte length of the body, two-byte kind, body"; one record of kind 3, then any of kind 1, then any of kind 2.
 use Rattle.std.specs.Prelude.{ℕ, zero, suc, ◌+◌, ◌*◌, ◌/◌, ◌%◌, Bool, ◌&&◌, List, [], ◌∷◌, ◌++◌, eqb, ltb, leb, length, get_or, take, drop}
+use Rattle.std.specs.Prelude.{Option, Some, None, Result, Ok, Err}
 use Rattle.laws.specs.Test.{pick}
 use Rattle.format_numbers.specs.Bytes.{u16_at, u32_at, every}
 use Rattle.turn.specs.Limits.{max_links}
 use Rattle.format_records.specs.Limits.{max_nodes, max_entries, max_records}
 use Rattle.format_records.specs.declared.Run.{Run}
-use Rattle.format_records.specs.declared.Refusal.{Refusal}
-use Rattle.format_records.specs.declared.RunStep.{RunStep}
-use Rattle.format_records.specs.declared.RunStep.TheVariants.{Next, Other, Fault}
+use Rattle.turn.specs.declared.Reason.{Reason}
+use Rattle.turn.specs.declared.Reason.TheVariants.{TooManyLinks, WrongNodes, WrongFile}
+use Rattle.turn.specs.declared.Refusal.{Refusal}
 
 -- ---- one record, whose first byte is at an offset
 
@@ -28,32 +29,38 @@ record_end s at = at + 6 + length_at s at
 abbrev pub headed : ℕ → List ℕ → ℕ → Bool
 headed kind s at = leb (at + 6) (length s) && eqb (kind_at s at) kind
 
--- ---- what a head may say, by document 01's numbers; 0 where it is right
+-- ---- why a head is refused, if it is
 
 -- "links, 22 bytes"; "a 4,097th link ends the reading with 1"
-abbrev pub link_number : ℕ → ℕ → ℕ
-link_number count len = pick (eqb len 22) (pick (ltb count max_links) 0 1) 13
+abbrev pub link_number : ℕ → ℕ → Option Reason
+link_number count len = pick (eqb len 22) (pick (ltb count max_links) None (Some TooManyLinks)) (Some WrongFile)
 
 -- "one a node, 16-bit link numbers"; "a 4,097th node or 8,193rd list entry with 5"; `size` is that of the bodies before it, in bytes
-abbrev pub node_number : ℕ → ℕ → ℕ → ℕ
-node_number count size len = pick (eqb (len % 2) 0) (pick (ltb count max_nodes && leb (size + len) (2 * max_entries)) 0 5) 13
+abbrev pub node_number : ℕ → ℕ → ℕ → Option Reason
+node_number count size len =
+    pick (eqb (len % 2) 0) (pick (ltb count max_nodes && leb (size + len) (2 * max_entries)) None (Some WrongNodes)) (Some WrongFile)
 
-abbrev pub head_number : ℕ → ℕ → ℕ → ℕ → ℕ
+abbrev pub head_number : ℕ → ℕ → ℕ → ℕ → Option Reason
 head_number kind count size len = pick (eqb kind 1) (link_number count len) (node_number count size len)
 
 -- the limits are judged at the head, whether or not the body is cut; a cut body is 13
-abbrev pub body_number : List ℕ → ℕ → ℕ
-body_number s at = pick (leb (record_end s at) (length s)) 0 13
+abbrev pub body_number : List ℕ → ℕ → Option Reason
+body_number s at = pick (leb (record_end s at) (length s)) None (Some WrongFile)
 
-abbrev pub first_number : ℕ → ℕ → ℕ
-first_number a b = pick (eqb a 0) b a
+abbrev pub first_number : Option Reason → Option Reason → Option Reason
+first_number None b = b
+first_number (Some a) b = Some a
 
-unfoldable pub record_number : ℕ → List ℕ → Run → ℕ
+unfoldable pub record_number : ℕ → List ℕ → Run → Option Reason
 record_number kind s r = first_number (head_number kind r.count r.size (length_at s r.at)) (body_number s r.at)
 
 -- "Place returned": 13 the record's offset, 1 and 5 nothing
-abbrev pub refusal : ℕ → ℕ → Refusal
-refusal number at = record { number = number; place = pick (eqb number 13) at 0 }
+abbrev pub place_told : Reason → ℕ → ℕ
+place_told WrongFile at = at
+place_told reason at = 0
+
+abbrev pub refusal : Reason → ℕ → Refusal
+refusal reason at = record { reason = reason; place = place_told reason at }
 
 -- ---- the records of one kind that come one after the other
 
@@ -63,12 +70,14 @@ run_to at count size = record { at = at; count = count; size = size }
 abbrev pub past : List ℕ → Run → Run
 past s r = run_to (record_end s r.at) (r.count + 1) (r.size + length_at s r.at)
 
+-- one more of the run, or at fault
+abbrev pub next_or_fault : Option Reason → ℕ → Run → Result (Option Run) Refusal
+next_or_fault None at next = Ok (Some next)
+next_or_fault (Some reason) at next = Err (refusal reason at)
+
 -- the record at the run's end: one more of the run, something else, or at fault
-unfoldable pub step_at : ℕ → List ℕ → Run → RunStep
-step_at kind s r =
-    pick (headed kind s r.at)
-    (pick (eqb (record_number kind s r) 0) (Next (past s r)) (Fault (refusal (record_number kind s r) r.at)))
-    Other
+unfoldable pub step_at : ℕ → List ℕ → Run → Result (Option Run) Refusal
+step_at kind s r = pick (headed kind s r.at) (next_or_fault (record_number kind s r) r.at (past s r)) (Ok None)
 
 -- the run's end and the bodies of its records, or a refusal
 pub data RunBodies : Type 0 where
@@ -79,10 +88,10 @@ abbrev pub with : List ℕ → RunBodies → RunBodies
 with b (ran r bs) = ran r (b ∷ bs)
 with b (fault e) = fault e
 
-abbrev pub on_step : RunStep → (Run → RunBodies) → RunBodies → RunBodies
-on_step (Next r) go stop = go r
-on_step Other go stop = stop
-on_step (Fault e) go stop = fault e
+abbrev pub on_step : Result (Option Run) Refusal → (Run → RunBodies) → RunBodies → RunBodies
+on_step (Ok (Some r)) go stop = go r
+on_step (Ok None) go stop = stop
+on_step (Err e) go stop = fault e
 
 -- the rest of a run, in at most so many looks
 unfoldable pub run_from : ℕ → ℕ → List ℕ → Run → RunBodies
@@ -114,10 +123,10 @@ on_ran (fault e) go = refused e
 -- after the nodes the file ends; "any other kind, order or a cut record is 13"
 abbrev pub nodes_after : List ℕ → List (List ℕ) → ℕ → Form
 nodes_after s links at =
-    on_ran (run_at 2 s at) (λ r nodes. pick (eqb r.at (length s)) (form links nodes) (refused (refusal 13 r.at)))
+    on_ran (run_at 2 s at) (λ r nodes. pick (eqb r.at (length s)) (form links nodes) (refused (refusal WrongFile r.at)))
 
 unfoldable pub form_of : List ℕ → Form
-form_of s = pick (settings_right s) (on_ran (run_at 1 s 15) (λ r links. nodes_after s links r.at)) (refused (refusal 13 0))
+form_of s = pick (settings_right s) (on_ran (run_at 1 s 15) (λ r links. nodes_after s links r.at)) (refused (refusal WrongFile 0))
 
 -- ---- the entries of the nodes
 

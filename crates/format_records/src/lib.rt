@@ -4,19 +4,12 @@
 ghost use Rattle.std.specs.Prelude.{◌+◌, ◌^◌, ◌<◌};
 ghost use Rattle.format_records.specs.Promises.{HeadNumberSays, RefusedSays};
 
-use turn::MAX_LINKS;
+use turn::{MAX_LINKS, Reason, Refusal};
 
 // "a 4,097th node or 8,193rd list entry" ends the reading with 5, as a link past MAX_LINKS does with 1.
 pub const MAX_NODES: usize = 4096;
 
 pub const MAX_ENTRIES: usize = 8192;
-
-// Why a file is refused: document 01's number, and the place.
-#[derive(Clone, Copy)]
-pub struct Refusal {
-    pub number: u32,
-    pub place: usize,
-}
 
 // Records of one kind that come one after the other: the offset after them, how many, and the bytes of their bodies.
 #[derive(Clone, Copy)]
@@ -26,43 +19,39 @@ pub struct Run {
     pub size: usize,
 }
 
-// What stands at a run's end: one record more, something else, or a record of the kind that is at fault.
-#[derive(Clone, Copy)]
-pub enum RunStep {
-    Next(Run),
-    Other,
-    Fault(Refusal),
-}
-
-// Document 01's number for a head of kind 1 or 2, or 0.
-pub fn head_number(kind: u32, count: usize, size: usize, len: usize) -> u32
+// Why a head of kind 1 or 2 is refused, if it is.
+pub fn head_number(kind: u32, count: usize, size: usize, len: usize) -> Option<Reason>
     requires { size + len < 2 ^ 64 }
     ensures { HeadNumberSays kind count size len result }
 {
     if kind == 1 {
         if len != 22 {
-            return 13;
+            return Some(Reason::WrongFile);
         }
-        if count < MAX_LINKS { 0 } else { 1 }
+        if count < MAX_LINKS {
+            None
+        } else {
+            Some(Reason::TooManyLinks)
+        }
     } else {
         if len % 2 != 0 {
-            return 13;
+            return Some(Reason::WrongFile);
         }
         if (count < MAX_NODES) & (size + len <= 2 * MAX_ENTRIES) {
-            0
+            None
         } else {
-            5
+            Some(Reason::WrongNodes)
         }
     }
 }
 
 // A refusal of a record at an offset: 13 names the offset, 1 and 5 nothing.
-pub fn refused(number: u32, at: usize) -> Refusal
-    ensures { RefusedSays number at result }
+pub fn refused(reason: Reason, at: usize) -> Refusal
+    ensures { RefusedSays reason at result }
 {
-    if number == 13 {
-        Refusal { number, place: at }
+    if reason == Reason::WrongFile {
+        Refusal { reason, place: at }
     } else {
-        Refusal { number, place: 0 }
+        Refusal { reason, place: 0 }
     }
 }

@@ -1,5 +1,5 @@
 -- What a file of right form holds: where its links and nodes stand, how many they are, and that the lists read there are those of the definition.
-use Rattle.std.specs.Prelude.{ℕ, ◌+◌, ◌*◌, ◌/◌, ◌≤◌, ◌≡◌, refl, true, false, List, [], ◌∷◌, leb, eqb, length}
+use Rattle.std.specs.Prelude.{ℕ, ◌+◌, ◌*◌, ◌/◌, ◌≤◌, ◌≡◌, refl, true, false, List, [], ◌∷◌, leb, eqb, length, Result, Ok, Err}
 use Rattle.std.proofs.Common.{sym, ap, ap₂, ◌∙◌, subst, arith, length-take, length-drop, length-append}
 use borrow.Author.Tests.{eq-eqb, ne_eqb, leb-true, eqb-true}
 use Rattle.laws.specs.Test.{and_true, pick_ind, pick}
@@ -7,14 +7,13 @@ use Rattle.format_numbers.specs.Bytes.{u16_at, length_every}
 use Rattle.format_records.specs.Limits.{max_records}
 use Rattle.format_records.specs.Records.{length_at, body_at, refusal, run_to, past, RunBodies, ran, fault, run_at, looks, form, nodes_after, form_of}
 use Rattle.format_records.specs.Records.{settings_right, node_entries, flat_list, on_ran, Form, refused}
-use Rattle.format_shape.specs.Shape.{run_end_of, file_shape_of}
-use Rattle.format_records.specs.Steps.{Told, link_zero, node_zero, count_below}
+use Rattle.format_shape.specs.Shape.{run_end_of, sizes_of, right_sizes, file_shape_of}
+use Rattle.format_records.specs.Steps.{Told, link_none, node_none, count_below}
 use Rattle.format_shape.specs.Runs.{never, RecordsStand, stands}
 use Rattle.format_records.specs.declared.Run.{Run}
-use Rattle.format_records.specs.declared.Refusal.{Refusal}
-use Rattle.format_shape.specs.declared.RunEnd.TheVariants as end
-use Rattle.format_shape.specs.declared.FileShape.{FileShape}
-use Rattle.format_shape.specs.declared.FileShape.TheVariants as shape
+use Rattle.turn.specs.declared.Reason.TheVariants.{WrongFile}
+use Rattle.turn.specs.declared.Refusal.{Refusal}
+use Rattle.format_shape.specs.declared.Sizes.{Sizes}
 
 -- ---- a run's end with the bodies that were taken
 
@@ -22,11 +21,11 @@ pub record Taken (t : RunBodies) (r : Run) : Type 0 where
   pub bodies : List (List ℕ)
   pub is : t ≡ ran r bodies
 
-pub taken : (t : RunBodies) (r : Run) → end.To r ≡ run_end_of t → Taken t r
+pub taken : (t : RunBodies) (r : Run) → Ok r ≡ run_end_of t → Taken t r
 taken (ran x bs) r e = record { bodies = bs; is = (cc) }
 taken (fault f) r e = let z : ◌≡◌ {A = ℕ} 0 1 = cc in absurd (never z)
 
-pub faulted : (t : RunBodies) (f : Refusal) → end.Fault f ≡ run_end_of t → t ≡ fault f
+pub faulted : (t : RunBodies) (f : Refusal) → Err f ≡ run_end_of t → t ≡ fault f
 faulted (fault g) f e = cc
 faulted (ran x bs) f e = let z : ◌≡◌ {A = ℕ} 0 1 = cc in absurd (never z)
 
@@ -54,7 +53,7 @@ pub stands_links : (s : List ℕ) (bs : List (List ℕ)) (r r' : Run) → Record
 stands_links s [] r r' h = let e : r'.at ≡ r.at = ap (λ (x : Run). x.at) (sym h) in omega arith
 stands_links s (b ∷ bs) r r' h =
     let e = stands_links s bs (past s r) r' h.2 in
-    let l = (link_zero r.count (length_at s r.at) h.0.number).0 in
+    let l = (link_none r.count (length_at s r.at) h.0.number).0 in
     omega arith
 
 -- two bytes an entry
@@ -63,7 +62,7 @@ unfolding flat_list
 stands_nodes s [] r r' h = let e : r'.size ≡ r.size = ap (λ (x : Run). x.size) (sym h) in omega arith
 stands_nodes s (b ∷ bs) r r' h =
     let e = stands_nodes s bs (past s r) r' h.2 in
-    let z = node_zero r.count r.size (length_at s r.at) h.0.number in
+    let z = node_none r.count r.size (length_at s r.at) h.0.number in
     let l : length b ≡ length_at s r.at = ap length h.1 ∙ length_body 2 s r h.0 in
     omega (arith, z.0, length-append (node_entries b) (flat_list bs), length_every (u16_at b) 2 0 (length b / 2))
 
@@ -71,10 +70,10 @@ stands_nodes s (b ∷ bs) r r' h =
 
 module _ (s : List ℕ) (at : ℕ) (r : Run) (links : List (List ℕ)) (n : ℕ) (count : length links ≡ n) where
   whole : (bodies : List (List ℕ)) → run_at 2 s at ≡ ran r bodies → r.at ≡ length s → r.count ≡ length bodies → r.size / 2 ≡ length (flat_list bodies)
-      → shape.Right n r.count (r.size / 2) ≡ file_shape_of (nodes_after s links at)
-  whole bodies is e c z = rw (is, eq-eqb r.at (length s) e, count) (ap₂ (shape.Right n) c z)
+      → right_sizes n r.count (r.size / 2) ≡ file_shape_of (nodes_after s links at)
+  whole bodies is e c z = rw (is, eq-eqb r.at (length s) e, count) (ap₂ (right_sizes n) c z)
 
-  pub nodes_right : end.To r ≡ run_end_of (run_at 2 s at) → r.at ≡ length s → shape.Right n r.count (r.size / 2) ≡ file_shape_of (nodes_after s links at)
+  pub nodes_right : Ok r ≡ run_end_of (run_at 2 s at) → r.at ≡ length s → right_sizes n r.count (r.size / 2) ≡ file_shape_of (nodes_after s links at)
   nodes_right h e =
       let t = taken (run_at 2 s at) r h in
       let st = stands 2 s looks (run_to at 0 0) r t.bodies t.is in
@@ -82,15 +81,15 @@ module _ (s : List ℕ) (at : ℕ) (r : Run) (links : List (List ℕ)) (n : ℕ)
       let z : r.size / 2 ≡ length (flat_list t.bodies) = omega (arith, stands_nodes s t.bodies (run_to at 0 0) r st) in
       whole t.bodies t.is e c z
 
-  pub nodes_wrong : end.To r ≡ run_end_of (run_at 2 s at) → (r.at ≡ length s → ⊥) → shape.Wrong (refusal 13 r.at) ≡ file_shape_of (nodes_after s links at)
+  pub nodes_wrong : Ok r ≡ run_end_of (run_at 2 s at) → (r.at ≡ length s → ⊥) → Err (refusal WrongFile r.at) ≡ file_shape_of (nodes_after s links at)
   nodes_wrong h e = let t = taken (run_at 2 s at) r h in rw (t.is, ne_eqb r.at (length s) e)
 
-pub nodes_fault : (s : List ℕ) (at : ℕ) (f : Refusal) (links : List (List ℕ)) → end.Fault f ≡ run_end_of (run_at 2 s at) → shape.Wrong f
+pub nodes_fault : (s : List ℕ) (at : ℕ) (f : Refusal) (links : List (List ℕ)) → Err f ≡ run_end_of (run_at 2 s at) → Err f
     ≡ file_shape_of (nodes_after s links at)
 nodes_fault s at f links h = rw (faulted (run_at 2 s at) f h)
 
 module _ (s : List ℕ) where
-  pub settings_wrong : settings_right s ≡ false → shape.Wrong (refusal 13 0) ≡ file_shape_of (form_of s)
+  pub settings_wrong : settings_right s ≡ false → Err (refusal WrongFile 0) ≡ file_shape_of (form_of s)
   unfolding form_of
   settings_wrong h = rw h
 
@@ -98,18 +97,19 @@ module _ (s : List ℕ) where
   unfolding settings_right
   settings_long h = leb-true 15 (length s) (and_true (leb 15 (length s)) _ h).0
 
-  pub links_fault : settings_right s ≡ true → (f : Refusal) → end.Fault f ≡ run_end_of (run_at 1 s 15) → shape.Wrong f ≡ file_shape_of (form_of s)
+  pub links_fault : settings_right s ≡ true → (f : Refusal) → Err f ≡ run_end_of (run_at 1 s 15) → Err f ≡ file_shape_of (form_of s)
   unfolding form_of
   links_fault h f e = rw (h, faulted (run_at 1 s 15) f e)
 
   -- the end of the links lies within the file
-  pub links_inside : settings_right s ≡ true → (r : Run) → end.To r ≡ run_end_of (run_at 1 s 15) → r.at ≤ length s
+  pub links_inside : settings_right s ≡ true → (r : Run) → Ok r ≡ run_end_of (run_at 1 s 15) → r.at ≤ length s
   links_inside h r e =
       let t = taken (run_at 1 s 15) r e in
       stands_inside 1 s t.bodies (run_to 15 0 0) r (settings_long h) (stands 1 s looks (run_to 15 0 0) r t.bodies t.is)
 
-  pub links_then : settings_right s ≡ true → (r : Run) → end.To r ≡ run_end_of (run_at 1 s 15)
-      → (x : FileShape) → ((bodies : List (List ℕ)) → length bodies ≡ r.count → x ≡ file_shape_of (nodes_after s bodies r.at)) → x ≡ file_shape_of (form_of s)
+  pub links_then : settings_right s ≡ true → (r : Run) → Ok r ≡ run_end_of (run_at 1 s 15)
+      → (x : Result Sizes Refusal)
+      → ((bodies : List (List ℕ)) → length bodies ≡ r.count → x ≡ file_shape_of (nodes_after s bodies r.at)) → x ≡ file_shape_of (form_of s)
   unfolding form_of
   links_then h r e x f =
       let t = taken (run_at 1 s 15) r e in
@@ -129,10 +129,10 @@ pub record FormPlaced (s : List ℕ) (links nodes : List (List ℕ)) : Type 0 wh
 
 module _ (s : List ℕ) (links nodes : List (List ℕ)) (right : settings_right s ≡ true) where
   placed_nodes : (ls : List (List ℕ)) (r : Run) (t : RunBodies) → RecordsStand 1 s (run_to 15 0 0) ls r → run_at 2 s r.at ≡ t
-      → on_ran t (λ x ns. pick (eqb x.at (length s)) (form ls ns) (refused (refusal 13 x.at))) ≡ form links nodes → FormPlaced s links nodes
+      → on_ran t (λ x ns. pick (eqb x.at (length s)) (form ls ns) (refused (refusal WrongFile x.at))) ≡ form links nodes → FormPlaced s links nodes
   placed_nodes ls r (fault f) st q = λ e. let z : ◌≡◌ {A = ℕ} 0 1 = cc in absurd (never z)
   placed_nodes ls r (ran x ns) st q =
-      pick_ind (eqb x.at (length s)) (form ls ns) (refused (refusal 13 x.at)) (λ z. z ≡ form links nodes → FormPlaced s links nodes)
+      pick_ind (eqb x.at (length s)) (form ls ns) (refused (refusal WrongFile x.at)) (λ z. z ≡ form links nodes → FormPlaced s links nodes)
       (λ h e.
       let p : ls ≡ links = cc in
       let p' : ns ≡ nodes = cc in
@@ -153,7 +153,7 @@ module _ (s : List ℕ) (links nodes : List (List ℕ)) (right : settings_right 
 pub form_placed : (s : List ℕ) (links nodes : List (List ℕ)) → form_of s ≡ form links nodes → FormPlaced s links nodes
 unfolding form_of
 form_placed s links nodes =
-    pick_ind (settings_right s) (on_ran (run_at 1 s 15) (λ r ls. nodes_after s ls r.at)) (refused (refusal 13 0))
+    pick_ind (settings_right s) (on_ran (run_at 1 s 15) (λ r ls. nodes_after s ls r.at)) (refused (refusal WrongFile 0))
     (λ z. z ≡ form links nodes → FormPlaced s links nodes)
     (λ h e. placed_links s links nodes h (run_at 1 s 15) refl e)
     (λ h e. let z : ◌≡◌ {A = ℕ} 0 1 = cc in absurd (never z))
@@ -166,16 +166,25 @@ pub record Formed (s : List ℕ) (n m e : ℕ) : Type 0 where
   pub m_is : m ≡ length nodes
   pub e_is : e ≡ length (flat_list nodes)
 
-pub formed : (s : List ℕ) (n m e : ℕ) → shape.Right n m e ≡ file_shape_of (form_of s) → Formed s n m e
+pub formed : (s : List ℕ) (n m e : ℕ) → right_sizes n m e ≡ file_shape_of (form_of s) → Formed s n m e
 formed s n m e = by (form_of s) refl
   where
-    by : (x : Form) → form_of s ≡ x → shape.Right n m e ≡ file_shape_of x → Formed s n m e
-    by (form ls ns) q h = record { links = ls; nodes = ns; is = q; n_is = (cc); m_is = (cc); e_is = (cc) }
+    by : (x : Form) → form_of s ≡ x → right_sizes n m e ≡ file_shape_of x → Formed s n m e
+    by (form ls ns) q h =
+        let z : sizes_of n m e ≡ sizes_of (length ls) (length ns) (length (flat_list ns)) = cc in
+        record {
+          links = ls;
+          nodes = ns;
+          is = q;
+          n_is = ap (λ (x : Sizes). x.links) z;
+          m_is = ap (λ (x : Sizes). x.nodes) z;
+          e_is = ap (λ (x : Sizes). x.entries) z;
+        }
     by (refused f) q h = let z : ◌≡◌ {A = ℕ} 0 1 = cc in absurd (never z)
 
-pub wronged : (s : List ℕ) (f : Refusal) → shape.Wrong f ≡ file_shape_of (form_of s) → form_of s ≡ refused f
+pub wronged : (s : List ℕ) (f : Refusal) → Err f ≡ file_shape_of (form_of s) → form_of s ≡ refused f
 wronged s f = by (form_of s)
   where
-    by : (x : Form) → shape.Wrong f ≡ file_shape_of x → x ≡ refused f
+    by : (x : Form) → Err f ≡ file_shape_of x → x ≡ refused f
     by (refused g) h = cc
     by (form ls ns) h = let z : ◌≡◌ {A = ℕ} 0 1 = cc in absurd (never z)

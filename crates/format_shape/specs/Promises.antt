@@ -1,11 +1,12 @@
 -- What the public function promises, written once: its contract names it, and any two outcomes that it allows are equal.
-use Rattle.std.specs.Prelude.{ℕ, ◌≡◌, List}
+use Rattle.std.specs.Prelude.{ℕ, ◌≡◌, List, Result}
 use Rattle.laws.specs.Unique.{Determines, by_equation}
 use Rattle.format_records.specs.Records.{form_of}
 use Rattle.format_shape.specs.Shape.{file_shape_of}
-use Rattle.format_shape.specs.declared.FileShape.{FileShape}
+use Rattle.turn.specs.declared.Refusal.{Refusal}
+use Rattle.format_shape.specs.declared.Sizes.{Sizes}
 
-abbrev pub ShapeOfSays : List ℕ → FileShape → Type 0
+abbrev pub ShapeOfSays : List ℕ → Result Sizes Refusal → Type 0
 ShapeOfSays s r = r ≡ file_shape_of (form_of s)
 
 pub shape_of_once : (s : List ℕ) → Determines (ShapeOfSays s)

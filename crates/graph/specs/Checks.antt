@@ -8,11 +8,10 @@ use Rattle.turn.specs.declared.Vector.{Vector}
 use Rattle.turn.specs.Limits.{max_links}
 use Rattle.turn.specs.Points.{before, differ, off_grid, from_to}
 use Rattle.turn.specs.Angle.{same_direction}
-use Rattle.turn.specs.Refusals.{refuse_if, refuse_at, followed_by}
-use Rattle.turn.specs.declared.Checked.{Checked}
-use Rattle.turn.specs.declared.Checked.TheVariants.{Fine}
+use Rattle.turn.specs.Refusals.{refuse_if, refuse_at, followed_by, Checked, no_fault}
 use Rattle.graph.specs.Graph.{Lent, Graph, link_count, node_count, point_at, part}
 use Rattle.laws.specs.Count.{count}
+use Rattle.turn.specs.declared.Reason.TheVariants.{TooManyLinks, WrongLengths, WrongLink, LinksOutOfOrder, WrongNodes, EndsApart, EndsAlike}
 
 -- What is lent for the answer, by length: the points' buffer, two numbers to a point, and the three lists of the contour table.
 pub record Room : Type 0 where
@@ -160,25 +159,25 @@ alike_at a b a_node state entries v = some_two (λ i j. alike a b a_node state v
 -- 3 and 4, of each link
 unfoldable pub each_checked : Lent → List ℕ → List ℕ → Checked
 each_checked g top state =
-    refuse_at 3 (link_wrong g top state) (link_count g)
-    (refuse_at 4 (out_of_order (a_of g)) (link_count g)
-    Fine)
+    refuse_at WrongLink (link_wrong g top state) (link_count g)
+    (refuse_at LinksOutOfOrder (out_of_order (a_of g)) (link_count g)
+    no_fault)
 
 -- 1 to 4, of all that is said of the links; 1 is "n above 4,096"
 unfoldable pub links_checked : Lent → List ℕ → List ℕ → Room → Checked
 links_checked g top state r =
-    refuse_if 1 (ltb max_links (link_count g))
-    (refuse_if 2
+    refuse_if TooManyLinks (ltb max_links (link_count g))
+    (refuse_if WrongLengths
     (unlike g || few_points (link_count g) r.points || unlike_band (link_count g) top state || few_contours (link_count g) r.firsts r.lens r.kinds)
     (each_checked g top state))
 
 -- 5 to 7, of the nodes
 unfoldable pub nodes_checked : Lent → List ℕ → Checked
 nodes_checked g state =
-    refuse_if 5 (bad_nodes g.a_id g.b_id g.start g.list)
-    (refuse_at 6 (apart_at (a_of g) (b_of g) (node_at g.a_id) (entries_of g)) (node_count g)
-    (refuse_at 7 (alike_at (a_of g) (b_of g) (node_at g.a_id) state (entries_of g)) (node_count g)
-    Fine))
+    refuse_if WrongNodes (bad_nodes g.a_id g.b_id g.start g.list)
+    (refuse_at EndsApart (apart_at (a_of g) (b_of g) (node_at g.a_id) (entries_of g)) (node_count g)
+    (refuse_at EndsAlike (alike_at (a_of g) (b_of g) (node_at g.a_id) state (entries_of g)) (node_count g)
+    no_fault))
 
 unfoldable pub checked : Lent → List ℕ → List ℕ → Room → Checked
 checked g top state r = followed_by (links_checked g top state r) (nodes_checked g state)

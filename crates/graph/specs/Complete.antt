@@ -6,7 +6,6 @@ use Rattle.laws.specs.Lowest.{some, some_no}
 use Rattle.laws.specs.Count.{count, count_two}
 use Rattle.laws.specs.Fails.{eq_fails}
 use Rattle.turn.specs.declared.Point.{Point}
-use Rattle.turn.specs.declared.Checked.TheVariants.{Fine}
 use Rattle.graph.specs.Graph.{Lent, node_count}
 use Rattle.graph.specs.Checks.{room, a_of, b_of, node_at, entries_of, stray, stray_in, apart, alike, nodes_checked}
 use Rattle.graph.specs.Quick.{clash_at, bridge_wrong, node_wrong}
@@ -15,6 +14,7 @@ use Rattle.graph.specs.Tests.{rising, no_stray, together, unlike_ways}
 use Rattle.graph.specs.Total.{part_length}
 use Rattle.graph.specs.Exact.{by_nodes}
 use Rattle.graph.specs.Sound.{FineNode}
+use Rattle.turn.specs.Refusals.{no_fault}
 
 -- tests that fail, joined
 two_no : {s t : Bool} → s ≡ false → t ≡ false → s || t ≡ false
@@ -50,7 +50,7 @@ module _ (a_id b_id : List ℕ) (a b : ℕ → Point) (a_node : ℕ → ℕ) (st
       ∙ some_no (clash_at a b a_node state l v) (length l) no_clash)
 
 -- ---- every node of a graph in which checks 5 to 7 find nothing
-module _ (g : Lent) (state : List ℕ) (any : 1 ≤ length g.start) (fine : nodes_checked g state ≡ Fine) (v : ℕ) (below : v < node_count g) where
+module _ (g : Lent) (state : List ℕ) (any : 1 ≤ length g.start) (fine : nodes_checked g state ≡ no_fault) (v : ℕ) (below : v < node_count g) where
   once : (x : ℕ) → EndAt g.a_id g.b_id v x → count x (entries_of g v) ≡ 1
   once x e =
       let c = ((by_nodes g [] state (room 0 0 0 0)).to fine).0.1 x e.below in

@@ -4,7 +4,7 @@ use Rattle.std.proofs.Common.{arith, sym, ◌∙◌}
 use Rattle.laws.specs.Test.{pick, pick_ind, true≢false, not_true, true_is}
 use Rattle.laws.specs.Ring.{ring, Ex, var, ◌:-◌, ◌:*◌, neg}
 use Rattle.laws.specs.Sign.{Sgn, mns, zer, pls, sgn, flip, eq_s, eq_s_eq, sgn_neg, sgn_zer}
-use Rattle.laws.specs.Lowest.{None, some, some_yes, some_no}
+use Rattle.laws.specs.Lowest.{NoneBelow, some, some_yes, some_no}
 use Rattle.turn.specs.declared.Point.{Point}
 use Rattle.turn.specs.Points.{OnGrid, from_to, cross, dot}
 use Rattle.turn.specs.Angle.{same_direction}
@@ -17,7 +17,7 @@ module _ (a b : ℕ → Point) (a_node : ℕ → ℕ) (l : List ℕ) (v : ℕ) w
   pairs : Fails (apart_in a b a_node l v) ((j : ℕ) → j < length l → (i : ℕ) → i < j → end_at a b a_node v (get_or l i 0) ≡ end_at a b a_node v (get_or l j 0))
   pairs = two_fails (length l) (λ i j. together a b a_node v (get_or l i 0) (get_or l j 0))
 
-  pub none_apart : None (λ j. apart a b a_node v (get_or l 0 0) (get_or l j 0)) (length l) → apart_in a b a_node l v ≡ false
+  pub none_apart : NoneBelow (λ j. apart a b a_node v (get_or l 0 0) (get_or l j 0)) (length l) → apart_in a b a_node l v ≡ false
   none_apart h = pairs.from (λ j lj i li. sym (same i (omega arith)) ∙ same j lj)
     where
       same : (i : ℕ) → i < length l → end_at a b a_node v (get_or l 0 0) ≡ end_at a b a_node v (get_or l i 0)
@@ -45,11 +45,11 @@ ends_away a b a_node v k = by (eqb (a_node k) v)
     by false = refl
 
 -- ---- pairs: what the loops over them have to show
-pub pair_found : (test : ℕ → ℕ → Bool) (n i j : ℕ) → i < j → j < n → None (λ t. some (λ s. test s t) t) j → None (λ s. test s j) i → test i j ≡ true
+pub pair_found : (test : ℕ → ℕ → Bool) (n i j : ℕ) → i < j → j < n → NoneBelow (λ t. some (λ s. test s t) t) j → NoneBelow (λ s. test s j) i → test i j ≡ true
     → some_two test n ≡ true
 pair_found test n i j li lj hj hi e = some_yes (λ t. some (λ s. test s t) t) n j lj hj (some_yes (λ s. test s j) j i li hi e)
 
-pub no_pair : (test : ℕ → ℕ → Bool) (n : ℕ) → None (λ t. some (λ s. test s t) t) n → some_two test n ≡ false
+pub no_pair : (test : ℕ → ℕ → Bool) (n : ℕ) → NoneBelow (λ t. some (λ s. test s t) t) n → some_two test n ≡ false
 no_pair test n h = some_no (λ t. some (λ s. test s t) t) n h
 
 -- ---- parallel links: which of their ends are at the node plays no role

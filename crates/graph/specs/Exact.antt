@@ -6,7 +6,6 @@ use Rattle.laws.specs.Lowest.{some}
 use Rattle.turn.specs.Limits.{max_links}
 use Rattle.turn.specs.Points.{before, OnGrid}
 use Rattle.turn.specs.Angle.{same_direction}
-use Rattle.turn.specs.declared.Checked.TheVariants.{Fine}
 use Rattle.graph.specs.Graph.{Lent, link_count, node_count}
 use Rattle.laws.specs.Count.{count}
 use Rattle.graph.specs.Checks.{Room, a_of, b_of, node_at, entries_of, unlike, few_points, unlike_band, few_contours, link_wrong, bad_starts, bad_nodes}
@@ -14,7 +13,7 @@ use Rattle.graph.specs.Checks.{apart_at, alike_at, nodes_checked, each_checked, 
 use Rattle.graph.specs.Passes.{Even, EndAt, entry, end_point_of, away_of, Passes}
 use Rattle.laws.specs.Fails.{Iff, Fails, then, both, or_fails, some_fails, lt_fails, ne_fails}
 use Rattle.graph.specs.Tests.{two_fails, even, band_even, contours, placed, named, flagged, in_order, rising, no_stray, together, unlike_ways}
-use Rattle.turn.specs.Refusals.{refuses, both_fine}
+use Rattle.turn.specs.Refusals.{refuses, both_fine, no_fault}
 
 module _ (g : Lent) (top state : List ℕ) (r : Room) where
   -- what the checks say one after the other
@@ -67,14 +66,14 @@ module _ (g : Lent) (top state : List ℕ) (r : Room) where
   ways = some_fails (node_count g)
       (λ v. two_fails (length (entries_of g v)) (λ i j. unlike_ways (a_of g) (b_of g) (node_at g.a_id) state v (entry g v i) (entry g v j)))
 
-  nothing : {P : Type 0} → Iff (P × (Fine ≡ Fine)) P
+  nothing : {P : Type 0} → Iff (P × (no_fault ≡ no_fault)) P
   nothing = record { to = λ p. p.0; from = λ p. (p, refl) }
 
-  pub by_nodes : Iff (nodes_checked g state ≡ Fine) (Lists × (Points × Ways))
+  pub by_nodes : Iff (nodes_checked g state ≡ no_fault) (Lists × (Points × Ways))
   unfolding nodes_checked
   by_nodes = then (refuses _ _ _ _) (both lists (then (refuses _ _ _ _) (both points (then (refuses _ _ _ _) (then nothing ways)))))
 
-  by_each : Iff (each_checked g top state ≡ Fine)
+  by_each : Iff (each_checked g top state ≡ no_fault)
       (((k : ℕ) → k < link_count g → Link k) × ((k : ℕ) → k + 1 < link_count g → before (a_of g (k + 1)) (a_of g k) ≡ false))
   unfolding each_checked
   by_each = then (refuses _ _ _ _) (both links (then (refuses _ _ _ _) (then nothing (in_order (a_of g) (link_count g)))))
@@ -83,7 +82,7 @@ module _ (g : Lent) (top state : List ℕ) (r : Room) where
   LinksFine = (link_count g ≤ max_links)
       × (Shape × (((k : ℕ) → k < link_count g → Link k) × ((k : ℕ) → k + 1 < link_count g → before (a_of g (k + 1)) (a_of g k) ≡ false)))
 
-  pub by_links : Iff (links_checked g top state r ≡ Fine) LinksFine
+  pub by_links : Iff (links_checked g top state r ≡ no_fault) LinksFine
   unfolding links_checked
   by_links =
       then (refuses _ _ _ _) (both (lt_fails max_links (link_count g)) (then (refuses _ _ _ _) (both shape by_each)))
@@ -91,7 +90,7 @@ module _ (g : Lent) (top state : List ℕ) (r : Room) where
   abbrev All : Type 0
   All = LinksFine × (Lists × (Points × Ways))
 
-  all : Iff (checked g top state r ≡ Fine) All
+  all : Iff (checked g top state r ≡ no_fault) All
   unfolding checked
   all = then (both_fine (links_checked g top state r) (nodes_checked g state)) (both by_links by_nodes)
 
@@ -162,5 +161,5 @@ module _ (g : Lent) (top state : List ℕ) (r : Room) where
         ),
       )
 
-  pub exact : Iff (checked g top state r ≡ Fine) (Passes g top state r)
+  pub exact : Iff (checked g top state r ≡ no_fault) (Passes g top state r)
   exact = then all (record { to = passes; from = unpack })

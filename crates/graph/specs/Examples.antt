@@ -1,11 +1,11 @@
 -- The definitions compute: document 01's E1 and its square E2, and E2 with one thing damaged at a time.
 use Rattle.std.specs.Prelude.{ℕ, ◌≡◌, refl, List, [], ◌∷◌, ℤ, pos, negsuc}
 use Rattle.laws.specs.Lowest.{lowest}
-use Rattle.turn.specs.declared.Checked.{Checked}
-use Rattle.turn.specs.declared.Checked.TheVariants.{Fine, Refused}
 use Rattle.graph.specs.Graph.{Lent, lent}
 use Rattle.laws.specs.Count.{count}
 use Rattle.graph.specs.Checks.{Room, room, checked, links_checked, each_checked, nodes_checked}
+use Rattle.turn.specs.Refusals.{Checked, refused, no_fault}
+use Rattle.turn.specs.declared.Reason.TheVariants.{WrongLengths, WrongLink, LinksOutOfOrder, WrongNodes, EndsApart, EndsAlike}
 
 abbrev axs : List ℤ
 axs = pos 0 ∷ pos 0 ∷ pos 0 ∷ pos 4 ∷ []
@@ -44,11 +44,11 @@ unvisited = 0 ∷ 0 ∷ 0 ∷ 0 ∷ []
 abbrev pub enough : Room
 enough = room 8 1 1 1
 
-e1 : checked (lent [] [] [] [] [] [] (0 ∷ []) []) [] [] (room 0 0 0 0) ≡ Fine
+e1 : checked (lent [] [] [] [] [] [] (0 ∷ []) []) [] [] (room 0 0 0 0) ≡ no_fault
 unfolding checked links_checked each_checked nodes_checked lowest count
 e1 = refl
 
-e2 : checked square tops unvisited enough ≡ Fine
+e2 : checked square tops unvisited enough ≡ no_fault
 unfolding checked links_checked each_checked nodes_checked lowest count
 e2 = refl
 
@@ -71,7 +71,8 @@ two : (points (pos 0 ∷ []) ays bxs bys
     ∷ band tops unvisited (room 8 0 0 0)
     ∷ band tops unvisited (room 8 2 1 2)
     ∷ [])
-    ≡ (Refused 2 0 ∷ Refused 2 0 ∷ Refused 2 0 ∷ Refused 2 0 ∷ Refused 2 0 ∷ Refused 2 0 ∷ Refused 2 0 ∷ [])
+    ≡ (refused WrongLengths 0 ∷ refused WrongLengths 0 ∷ refused WrongLengths 0 ∷ refused WrongLengths 0 ∷ refused WrongLengths 0
+    ∷ refused WrongLengths 0 ∷ refused WrongLengths 0 ∷ [])
 unfolding checked links_checked
 two = refl
 
@@ -84,7 +85,8 @@ three : (points axs ays bxs (pos 0 ∷ pos 4 ∷ pos 524289 ∷ pos 4 ∷ [])
     ∷ band (1 ∷ 0 ∷ 0 ∷ 2 ∷ []) unvisited enough
     ∷ band (1 ∷ 0 ∷ 0 ∷ 2 ∷ []) (0 ∷ 0 ∷ 2 ∷ 0 ∷ []) enough
     ∷ [])
-    ≡ (Refused 3 2 ∷ Refused 3 1 ∷ Refused 3 2 ∷ Refused 3 1 ∷ Refused 3 2 ∷ Refused 3 3 ∷ Refused 3 2 ∷ [])
+    ≡ (refused WrongLink 2 ∷ refused WrongLink 1 ∷ refused WrongLink 2 ∷ refused WrongLink 1 ∷ refused WrongLink 2
+    ∷ refused WrongLink 3 ∷ refused WrongLink 2 ∷ [])
 unfolding checked links_checked each_checked lowest
 three = refl
 
@@ -93,7 +95,7 @@ four : (points (pos 0 ∷ negsuc 0 ∷ pos 0 ∷ pos 4 ∷ []) ays bxs bys
     ∷ points (pos 0 ∷ pos 0 ∷ negsuc 524287 ∷ pos 4 ∷ []) (pos 0 ∷ pos 0 ∷ negsuc 524287 ∷ pos 0 ∷ []) (pos 4 ∷ pos 0 ∷ pos 524288 ∷ pos 4 ∷ [])
     (pos 0 ∷ pos 4 ∷ pos 524288 ∷ pos 4 ∷ [])
     ∷ [])
-    ≡ (Refused 4 1 ∷ Refused 4 2 ∷ [])
+    ≡ (refused LinksOutOfOrder 1 ∷ refused LinksOutOfOrder 2 ∷ [])
 unfolding checked links_checked each_checked lowest
 four = refl
 
@@ -106,13 +108,14 @@ five : (nodes a_ids b_ids (1 ∷ 2 ∷ 4 ∷ 6 ∷ 8 ∷ []) lists
     ∷ nodes a_ids b_ids starts (0 ∷ 1 ∷ 1 ∷ 2 ∷ 0 ∷ 3 ∷ 2 ∷ 1 ∷ [])
     ∷ nodes a_ids b_ids starts (0 ∷ 1 ∷ 1 ∷ 2 ∷ 0 ∷ 3 ∷ 2 ∷ 4 ∷ [])
     ∷ [])
-    ≡ (Refused 5 0 ∷ Refused 5 0 ∷ Refused 5 0 ∷ Refused 5 0 ∷ Refused 5 0 ∷ Refused 5 0 ∷ Refused 5 0 ∷ [])
+    ≡ (refused WrongNodes 0 ∷ refused WrongNodes 0 ∷ refused WrongNodes 0 ∷ refused WrongNodes 0 ∷ refused WrongNodes 0
+    ∷ refused WrongNodes 0 ∷ refused WrongNodes 0 ∷ [])
 unfolding checked links_checked each_checked nodes_checked lowest count
 five = refl
 
 -- 6: link 3 ends at (4, 5), where link 2 ends at (4, 4), at node 3; and link 1 ends at (0, 3), where link 2 starts at (0, 4), at node 1, with it
 six : (points axs ays bxs (pos 0 ∷ pos 4 ∷ pos 4 ∷ pos 5 ∷ []) ∷ points axs ays bxs (pos 0 ∷ pos 3 ∷ pos 4 ∷ pos 5 ∷ []) ∷ [])
-    ≡ (Refused 6 3 ∷ Refused 6 1 ∷ [])
+    ≡ (refused EndsApart 3 ∷ refused EndsApart 1 ∷ [])
 unfolding checked links_checked each_checked nodes_checked lowest count
 six = refl
 
@@ -123,6 +126,6 @@ double state =
     (0 ∷ 1 ∷ 1 ∷ 0 ∷ []))
     (0 ∷ 0 ∷ []) state (room 4 0 0 0)
 
-seven : (double (0 ∷ 0 ∷ []) ∷ double (0 ∷ 1 ∷ []) ∷ double (1 ∷ 0 ∷ []) ∷ []) ≡ (Refused 7 0 ∷ Fine ∷ Fine ∷ [])
+seven : (double (0 ∷ 0 ∷ []) ∷ double (0 ∷ 1 ∷ []) ∷ double (1 ∷ 0 ∷ []) ∷ []) ≡ (refused EndsAlike 0 ∷ no_fault ∷ no_fault ∷ [])
 unfolding checked links_checked each_checked nodes_checked lowest count
 seven = refl

@@ -9,7 +9,6 @@ use Rattle.turn.specs.declared.Point.{Point}
 use Rattle.turn.specs.Limits.{max_links}
 use Rattle.turn.specs.Points.{before, OnGrid}
 use Rattle.turn.specs.Angle.{same_direction}
-use Rattle.turn.specs.declared.Checked.TheVariants.{Fine}
 use Rattle.graph.specs.Graph.{Lent, Graph, graph_of, link_count, node_count}
 use Rattle.laws.specs.Count.{count, counted_in, count_two}
 use Rattle.laws.specs.Lists.{Place, place_of, member}
@@ -19,6 +18,7 @@ use Rattle.graph.specs.PointLaws.{Upto, upto, upto_refl, upto_trans, not_before,
 use Rattle.graph.specs.Known.{Ids}
 use Rattle.graph.specs.Total.{starts_within, part_length, part_empty, total}
 use Rattle.graph.specs.Exact.{exact}
+use Rattle.turn.specs.Refusals.{no_fault}
 
 -- the point of link k's end at node v
 abbrev pub end_point : Graph → ℕ → ℕ → Point
@@ -257,5 +257,5 @@ facts g top state r h =
       band = fine_band top s b;
     }
 
-pub fine : (g : Lent) (top state : List ℕ) (r : Room) → checked g top state r ≡ Fine → FineGraph g top state r
+pub fine : (g : Lent) (top state : List ℕ) (r : Room) → checked g top state r ≡ no_fault → FineGraph g top state r
 fine g top state r e = facts g top state r ((exact g top state r).to e)

@@ -5,7 +5,6 @@ use Rattle.std.proofs.Math.Decide.{dec_le}
 use Rattle.laws.specs.Test.{pick, pick_true, pick_false, or_false, true≢false}
 use Rattle.laws.specs.Lowest.{some, none_of}
 use Rattle.turn.specs.declared.Point.{Point}
-use Rattle.turn.specs.declared.Checked.TheVariants.{Fine}
 use Rattle.graph.specs.Graph.{Lent, link_count, node_count}
 use Rattle.laws.specs.Count.{count, counted_in, count_single, sum, sum_same, sum_add, sum_const, sum_swap, sum_once, sum_less, sum_tight, counted}
 use Rattle.laws.specs.Lists.{place_of}
@@ -17,6 +16,7 @@ use Rattle.laws.specs.Fails.{some_fails, eq_fails}
 use Rattle.graph.specs.Tests.{no_stray, together, unlike_ways}
 use Rattle.graph.specs.Exact.{by_nodes}
 use Rattle.graph.specs.Total.{lengths}
+use Rattle.turn.specs.Refusals.{no_fault}
 
 -- ---- one node
 module _ (a_id b_id : List ℕ) (a b : ℕ → Point) (a_node : ℕ → ℕ) (state l : List ℕ) (v : ℕ) where
@@ -163,7 +163,7 @@ module _ (g : Lent) (state : List ℕ) (rising : Rising g.start g.list) (ids : I
           let q = pick_true {A = ℕ} 1 0 (eq-eqb (get_or g.b_id k 0) (get_or g.b_id k 0) refl) in
           at_node k l (get_or g.b_id k 0) (ids.b_below k l) ∙ ap₂ ◌+◌ p q
 
-      pub nodes_fine : bad_starts g.start g.list ≡ false → nodes_checked g state ≡ Fine
+      pub nodes_fine : bad_starts g.start g.list ≡ false → nodes_checked g state ≡ no_fault
       nodes_fine starts =
           (by_nodes g [] state (room 0 0 0 0)).from (
             ((starts, λ v l i b. (fine v l).ends i b), λ k l. (at_a k l, at_b k l)),

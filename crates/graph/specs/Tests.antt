@@ -4,7 +4,7 @@ use Rattle.std.proofs.Common.{arith, inl, inr, ⊎_elim, ne_eqb, lt-ltb}
 use Rattle.std.proofs.lemmas.Bool.{eqb-false}
 use Rattle.laws.specs.Test.{and_false, true≢false}
 use Rattle.laws.specs.Fails.{Fails, then, lt_fails, le_fails, eq_fails, ne_fails, not_fails, or_fails, some_fails}
-use Rattle.laws.specs.Lowest.{some, None, none_of, some_no}
+use Rattle.laws.specs.Lowest.{some, NoneBelow, none_of, some_no}
 use Rattle.turn.specs.declared.Point.{Point}
 use Rattle.turn.specs.Points.{before, OnGrid}
 use Rattle.turn.specs.Angle.{same_direction}
@@ -63,7 +63,7 @@ in_order a n = record { to = λ e k l. after k (none_of (out_of_order a) n e (k 
         let q : ltb 0 (k + 1) ≡ true = lt-ltb 0 (k + 1) (omega arith) in
         simp (p, q) at e
 
-    at : ((k : ℕ) → k + 1 < n → before (a (k + 1)) (a k) ≡ false) → None (out_of_order a) n
+    at : ((k : ℕ) → k + 1 < n → before (a (k + 1)) (a k) ≡ false) → NoneBelow (out_of_order a) n
     at h zero l = refl
     at h (suc k) l =
         let e : k + 1 ≡ suc k = omega arith in

@@ -3,7 +3,6 @@ use Rattle.std.specs.Prelude.{ℕ, ◌-◌, ◌≤◌, ◌<◌, ◌≡◌, true,
 use Rattle.laws.specs.Test.{or_false}
 use Rattle.laws.specs.Lowest.{some, none_of}
 use Rattle.laws.specs.Fails.{some_fails}
-use Rattle.turn.specs.declared.Checked.TheVariants.{Fine}
 use Rattle.turn.specs.Limits.{max_links}
 use Rattle.turn.specs.Points.{before}
 use Rattle.graph.specs.Graph.{Lent, link_count, node_count, part}
@@ -12,6 +11,7 @@ use Rattle.graph.specs.Passes.{Rising}
 use Rattle.graph.specs.Known.{Points, Grids, Ids, Entries}
 use Rattle.graph.specs.Tests.{rising, no_stray}
 use Rattle.graph.specs.Exact.{by_links}
+use Rattle.turn.specs.Refusals.{no_fault}
 
 -- 1 to 4: few links, lists of one length, points on the grid, a before b, ids of nodes
 pub record LinksTold (g : Lent) (state : List ℕ) : Type 0 where
@@ -23,7 +23,7 @@ pub record LinksTold (g : Lent) (state : List ℕ) : Type 0 where
   pub ids : Ids g.a_id g.b_id (node_count g)
   pub starts : 1 ≤ length g.start
 
-pub links_told : (g : Lent) (top state : List ℕ) (r : Room) → links_checked g top state r ≡ Fine → LinksTold g state
+pub links_told : (g : Lent) (top state : List ℕ) (r : Room) → links_checked g top state r ≡ no_fault → LinksTold g state
 links_told g top state r e =
     let h = (by_links g top state r).to e in
     let even = h.1.0.0.0.0.0 in

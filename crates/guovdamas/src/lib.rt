@@ -1,7 +1,7 @@
 // What the static library offers: extraction, binding, lookup and reports, with numbers and slices only, for Rust and C. The crate guovdamas_c exports it.
 #![tactic(auto)]
 
-ghost use Rattle.std.specs.Prelude.{◌≡◌};
+ghost use Rattle.std.specs.Prelude.{◌≡◌, ◌<◌, ◌^◌, IfErr};
 ghost use Rattle.graph.specs.Graph.{Lent, lent};
 ghost use Rattle.finish.specs.Finish.{Buffers, buffers};
 ghost use Rattle.table.specs.Table.{Table, table};
@@ -11,12 +11,14 @@ ghost use Rattle.guovdamas.specs.Numbers.{settings_of, extraction_of, binding_of
 ghost use Rattle.guovdamas.specs.Promises.{GuovdamasExtractSays, GuovdamasBindSays, GuovdamasLookupSays, GuovdamasReportSays};
 ghost use Rattle.guovdamas.specs.Promises.{GuovdamasReportAllSays};
 
-use bind::Binding;
+use bind::Bound;
 use contour::Settings;
-use lookup::records::{ContourRecord, Lookup, Role};
+use keep::Counts;
+use lookup::records::{ContourRecord, Role};
 use report::records::ReportValues;
-use report_all::records::Reports;
-use scan::Extraction;
+use report_all::records::Filled;
+use table::Contours;
+use turn::Refusal;
 
 // How outlines are asked for: the area below which a walk is rejected, the output direction, and whether points on a straight line are dropped.
 #[repr(C)]
@@ -88,64 +90,72 @@ pub struct GuovdamasReports {
     pub missing: usize,
 }
 
-fn settings_of(settings: GuovdamasSettings) -> Settings
-    ensures { result ≡ settings_of settings }
-{
-    Settings {
-        clockwise: settings.clockwise,
-        minimum: settings.minimum,
-        drop_straight: settings.drop_straight,
+impl From<GuovdamasSettings> for Settings {
+    ghost from_gives = { λ settings s. s ≡ settings_of settings };
+
+    fn from(settings: GuovdamasSettings) -> Settings {
+        Settings {
+            clockwise: settings.clockwise,
+            minimum: settings.minimum,
+            drop_straight: settings.drop_straight,
+        }
     }
 }
 
-fn extraction_of(answer: Extraction) -> GuovdamasExtraction
-    ensures { result ≡ extraction_of answer }
-{
-    match answer {
-        Extraction::Done(counts) => GuovdamasExtraction {
-            number: 0,
-            place: 0,
-            contours: counts.contours,
-            points: counts.points,
-            rejected: counts.rejected,
-            walked: counts.walked,
-            left_out: counts.left_out,
-            kept_area: counts.kept_area,
-            rejected_area: counts.rejected_area,
-        },
-        Extraction::Refused { number, place } => GuovdamasExtraction {
-            number: number,
-            place: place,
-            contours: 0,
-            points: 0,
-            rejected: 0,
-            walked: 0,
-            left_out: 0,
-            kept_area: 0,
-            rejected_area: 0,
-        },
+impl From<Result<Counts, Refusal>> for GuovdamasExtraction {
+    ghost from_gives = { λ answer e. e ≡ extraction_of answer };
+
+    fn from(answer: Result<Counts, Refusal>) -> GuovdamasExtraction {
+        match answer {
+            Ok(counts) => GuovdamasExtraction {
+                number: 0,
+                place: 0,
+                contours: counts.contours,
+                points: counts.points,
+                rejected: counts.rejected,
+                walked: counts.walked,
+                left_out: counts.left_out,
+                kept_area: counts.kept_area,
+                rejected_area: counts.rejected_area,
+            },
+            Err(refusal) => GuovdamasExtraction {
+                number: refusal.reason.number(),
+                place: refusal.place,
+                contours: 0,
+                points: 0,
+                rejected: 0,
+                walked: 0,
+                left_out: 0,
+                kept_area: 0,
+                rejected_area: 0,
+            },
+        }
     }
 }
 
-fn binding_of(answer: Binding) -> GuovdamasBinding
-    ensures { result ≡ binding_of answer }
-{
-    match answer {
-        Binding::Bound { shapes, dropped } => GuovdamasBinding {
-            number: 0,
-            place: 0,
-            shapes: shapes,
-            dropped: dropped,
-        },
-        Binding::Refused { number, place } => GuovdamasBinding {
-            number: number,
-            place: place,
-            shapes: 0,
-            dropped: 0,
-        },
+// Binding's places fit 32 bits.
+impl From<Result<Bound, Refusal>> for GuovdamasBinding {
+    ghost from_gives = { λ answer b. IfErr answer (λ r. r.place < 2 ^ 32) → b ≡ binding_of answer };
+
+    fn from(answer: Result<Bound, Refusal>) -> GuovdamasBinding {
+        match answer {
+            Ok(bound) => GuovdamasBinding {
+                number: 0,
+                place: 0,
+                shapes: bound.shapes,
+                dropped: bound.dropped,
+            },
+            Err(refusal) => GuovdamasBinding {
+                number: refusal.reason.number(),
+                place: u32::try_from(refusal.place).unwrap_or(u32::MAX),
+                shapes: 0,
+                dropped: 0,
+            },
+        }
     }
 }
 
+// By hand, this and the next: C has roles and owners as numbers.
 fn role_number(role: Role) -> u32
     ensures { result ≡ role_number role }
 {
@@ -166,12 +176,6 @@ fn role_owner(role: Role) -> u16
     }
 }
 
-fn as_u32(x: u16) -> u32
-    ensures { result ≡ x }
-{
-    x as u32
-}
-
 fn found_record(found: ContourRecord) -> GuovdamasRecord
     ensures { result ≡ found_record found }
 {
@@ -179,56 +183,62 @@ fn found_record(found: ContourRecord) -> GuovdamasRecord
     GuovdamasRecord {
         found: 1,
         role: role_number(role),
-        owner: as_u32(role_owner(role)),
+        owner: u32::from(role_owner(role)),
         first: found.first,
         len: found.len,
     }
 }
 
-fn record_of(answer: Lookup) -> GuovdamasRecord
-    ensures { result ≡ record_numbers answer }
-{
-    match answer {
-        Lookup::Found(found) => found_record(found),
-        Lookup::Missing => GuovdamasRecord {
-            found: 0,
-            role: 0,
-            owner: 0,
-            first: 0,
-            len: 0,
-        },
+impl From<Option<ContourRecord>> for GuovdamasRecord {
+    ghost from_gives = { λ answer r. r ≡ record_numbers answer };
+
+    fn from(answer: Option<ContourRecord>) -> GuovdamasRecord {
+        match answer {
+            Some(found) => found_record(found),
+            None => GuovdamasRecord {
+                found: 0,
+                role: 0,
+                owner: 0,
+                first: 0,
+                len: 0,
+            },
+        }
     }
 }
 
-fn report_of(values: ReportValues) -> GuovdamasReport
-    ensures { result ≡ report_with values }
-{
-    GuovdamasReport {
-        found: values.found,
-        area: values.area,
-        left: values.left,
-        bottom: values.bottom,
-        right: values.right,
-        top: values.top,
+impl From<ReportValues> for GuovdamasReport {
+    ghost from_gives = { λ values r. r ≡ report_with values };
+
+    fn from(values: ReportValues) -> GuovdamasReport {
+        GuovdamasReport {
+            found: values.found,
+            area: values.area,
+            left: values.left,
+            bottom: values.bottom,
+            right: values.right,
+            top: values.top,
+        }
     }
 }
 
-fn reports_of(answer: Reports) -> GuovdamasReports
-    ensures { result ≡ reports_of answer }
-{
-    match answer {
-        Reports::Filled { contours, missing } => GuovdamasReports {
-            number: 0,
-            place: 0,
-            contours: contours,
-            missing: missing,
-        },
-        Reports::Refused { number, place } => GuovdamasReports {
-            number: number,
-            place: place,
-            contours: 0,
-            missing: 0,
-        },
+impl From<Result<Filled, Refusal>> for GuovdamasReports {
+    ghost from_gives = { λ answer r. r ≡ reports_of answer };
+
+    fn from(answer: Result<Filled, Refusal>) -> GuovdamasReports {
+        match answer {
+            Ok(filled) => GuovdamasReports {
+                number: 0,
+                place: 0,
+                contours: filled.contours,
+                missing: filled.missing,
+            },
+            Err(refusal) => GuovdamasReports {
+                number: refusal.reason.number(),
+                place: refusal.place,
+                contours: 0,
+                missing: 0,
+            },
+        }
     }
 }
 
@@ -267,14 +277,14 @@ pub fn guovdamas_extract(
         start,
         list,
         top,
-        settings_of(settings),
+        settings.into(),
         state,
         points,
         first,
         len,
         kind,
     );
-    extraction_of(answer)
+    answer.into()
 }
 
 // Checks 10 to 12 and the owner of every contour, into the lent owners.
@@ -289,8 +299,14 @@ pub fn guovdamas_bind(
     ensures { (let t : Table = table points.now first.now len.now kind.now in
         GuovdamasBindSays t clockwise owner.old result owner.new) }
 {
-    let answer = bind::bind(points, first, len, kind, clockwise, owner);
-    binding_of(answer)
+    let contours = Contours {
+        points,
+        first,
+        len,
+        kind,
+    };
+    let answer = bind::bind(contours, clockwise, owner);
+    answer.into()
 }
 
 // One contour's record.
@@ -305,7 +321,13 @@ pub fn guovdamas_lookup(
     ensures { (let t : Table = table points.now first.now len.now kind.now in
         GuovdamasLookupSays t owner.now contour result) }
 {
-    record_of(lookup::lookup(points, first, len, kind, owner, contour))
+    let contours = Contours {
+        points,
+        first,
+        len,
+        kind,
+    };
+    lookup::lookup(contours, owner, contour).into()
 }
 
 // One contour's area and frame in millimetres.
@@ -320,7 +342,13 @@ pub fn guovdamas_report(
     ensures { (let t : Table = table points.now first.now len.now kind.now in
         GuovdamasReportSays t owner.now contour result) }
 {
-    report_of(report::values_of(report::report(points, first, len, kind, owner, contour)))
+    let contours = Contours {
+        points,
+        first,
+        len,
+        kind,
+    };
+    report::values_of(report::report(contours, owner, contour)).into()
 }
 
 // Every contour's area and frame in millimetres, into the lent lists.
@@ -341,8 +369,12 @@ pub fn guovdamas_report_all(
         let after : Columns = columns area.new left.new bottom.new right.new top.new in
         GuovdamasReportAllSays t owner.now before result after) }
 {
-    let answer = report_all::report_all(
-        points, first, len, kind, owner, area, left, bottom, right, top,
-    );
-    reports_of(answer)
+    let contours = Contours {
+        points,
+        first,
+        len,
+        kind,
+    };
+    let answer = report_all::report_all(contours, owner, area, left, bottom, right, top);
+    answer.into()
 }

@@ -1,4 +1,3 @@
 -- Laws of one end put into a ring; leaves first.
 mod Ways
 mod Search
-mod Puts

@@ -1,6 +1,6 @@
 -- The ring of a `Cross` while an end is put into it: where an end stands against another, where one more end goes,
 -- and what linking it leaves.
-use Rattle.std.specs.Prelude.{ℕ, ◌+◌, ◌*◌, ◌-◌, ◌≤◌, ◌<◌, ◌≡◌, true, List, eqb, pos, length, get_or, set}
+use Rattle.std.specs.Prelude.{ℕ, ◌+◌, ◌*◌, ◌-◌, ◌≤◌, ◌<◌, ◌≡◌, true, List, eqb, pos, length, get_or, set, Option, Some, None}
 use Rattle.std.specs.Int.Signed.{lt_z}
 use Rattle.laws.specs.Test.{pick}
 use Rattle.turn.specs.declared.Point.{Point}
@@ -11,12 +11,10 @@ use Rattle.rings.specs.Ends.{link_of, is_a}
 use Rattle.rings.specs.RingOrder.{in_turn}
 use Rattle.rings.specs.Field.{cross_mark, wrap_mark}
 use Rattle.hoop.specs.declared.Hoop.{Hoop}
-use Rattle.hoop.specs.declared.Side.{Side}
-use Rattle.hoop.specs.declared.Side.TheVariants.{Earlier, Level, Later}
+use Rattle.std.specs.declared.cmp.Ordering.{Ordering}
+use Rattle.std.specs.declared.cmp.Ordering.TheVariants.{Less, Equal, Greater}
 use Rattle.hoop.specs.declared.Place.{Place}
 use Rattle.hoop.specs.declared.Place.TheVariants.{First, After, Alike}
-use Rattle.hoop.specs.declared.Taken.{Taken}
-use Rattle.hoop.specs.declared.Taken.TheVariants.{Wrong, Makes}
 
 -- ---- ends of one point, `home`, by the links' points a and b
 -- the point at the other end of end h's link
@@ -37,10 +35,10 @@ pub record Parallel (a b : ℕ → Point) (home : Point) (h k : ℕ) : Type 0 wh
   pub flat : cross (way_of a b home h) (way_of a b home k) ≡ pos 0
 
 -- where end h stands against end q
-abbrev pub Stands : (ℕ → Point) → (ℕ → Point) → Point → ℕ → ℕ → Side → Type 0
-Stands a b home h q Earlier = Before a b home h q
-Stands a b home h q Level = Parallel a b home h q
-Stands a b home h q Later = Before a b home q h
+abbrev pub Stands : (ℕ → Point) → (ℕ → Point) → Point → ℕ → ℕ → Ordering → Type 0
+Stands a b home h q Less = Before a b home h q
+Stands a b home h q Equal = Parallel a b home h q
+Stands a b home h q Greater = Before a b home q h
 
 -- ---- the search for an end's place, backward; link x of a list l has the end e x
 -- there are `count` of them, `tail` is the last, and `prv` leads from each to the one before
@@ -85,22 +83,22 @@ module _ (a b : ℕ → Point) (home : Point) (e : ℕ → ℕ) (l : List ℕ) (
 
 -- ---- an end is linked at its place
 pub record Outcome : Type 0 where
-  pub taken : Taken
+  pub taken : Option Hoop
   pub nxt : List ℕ
   pub prv : List ℕ
 
-abbrev pub after : Taken → List ℕ → List ℕ → Outcome
+abbrev pub after : Option Hoop → List ℕ → List ℕ → Outcome
 after taken nxt prv = record { taken = taken; nxt = nxt; prv = prv }
 
-abbrev pub makes : ℕ → ℕ → ℕ → Taken
-makes head tail count = Makes (record { head = head; tail = tail; count = count })
+abbrev pub makes : ℕ → ℕ → ℕ → Option Hoop
+makes head tail count = Some (record { head = head; tail = tail; count = count })
 
 -- q between the ends r and a: `onto` and `from` are what `nxt` holds of q and of r
-abbrev pub link_end : List ℕ → List ℕ → ℕ → ℕ → ℕ → ℕ → ℕ → Taken → Outcome
+abbrev pub link_end : List ℕ → List ℕ → ℕ → ℕ → ℕ → ℕ → ℕ → Option Hoop → Outcome
 link_end nxt prv r q a onto from t = after t (set (set nxt q onto) r from) (set (set prv q r) a q)
 
 abbrev pub put_end : List ℕ → List ℕ → Hoop → Place → ℕ → Outcome
-put_end nxt prv hoop Alike q = after Wrong nxt prv
+put_end nxt prv hoop Alike q = after None nxt prv
 put_end nxt prv hoop First q =
     pick (eqb hoop.count 0) (after (makes q q 1) (set nxt q (wrap_mark + q)) (set prv q q))
     (link_end nxt prv hoop.tail q hoop.head (cross_mark + hoop.head) (wrap_mark + q)

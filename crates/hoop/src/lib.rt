@@ -1,19 +1,19 @@
 // The ring of a `Cross`: where one more end goes, and how it is linked there.
 #![tactic(auto)]
 
-ghost use Rattle.std.specs.Prelude.{◌≡◌, List, ℕ, ◌*◌, ◌/◌, ◌<◌, length, set};
+ghost use Rattle.std.specs.Prelude.{◌≡◌, List, ℕ, ◌*◌, ◌/◌, ◌<◌, length, set, Some};
 ghost use Rattle.turn.specs.Limits.{max_links};
 ghost use Rattle.turn.specs.declared.Point.{Point};
 ghost use Rattle.turn.specs.Points.{OnGrid, Short};
 ghost use Rattle.graph.specs.Graph.{point_at};
 ghost use Rattle.graph.specs.Known.{Points, Grids};
 ghost use Rattle.hoop.specs.declared.Place.TheVariants.{First, After};
-ghost use Rattle.hoop.specs.declared.Taken.TheVariants.{Makes};
 ghost use Rattle.hoop.specs.Hoops.{far_point, way_of, Stands, Sought, Fits, after, put_end};
 ghost use Rattle.hoop.specs.Promises.{FindPlaceSays, PutEndSays};
 
 use graph::point_at;
 use rings::{CROSS, WRAP};
+use std::cmp::Ordering;
 use turn::{Point, Vector, between, cross_product, wide};
 
 // The ring so far: its first and its last end, and how many it has.
@@ -24,27 +24,12 @@ pub struct Hoop {
     pub count: usize,
 }
 
-// Where an end of the ring stands, against the end that is to be put in.
-#[derive(Clone, Copy)]
-enum Side {
-    Earlier,
-    Level,
-    Later,
-}
-
 // Where an end goes: before all of the ring, or after one end; or it runs as one of them does.
 #[derive(Clone, Copy)]
 pub enum Place {
     First,
     After(usize),
     Alike,
-}
-
-// What becomes of an entry: something is wrong with it, or it makes the ring this one.
-#[derive(Clone, Copy)]
-pub enum Taken {
-    Wrong,
-    Makes(Hoop),
 }
 
 // The point at the other end of end h's link.
@@ -60,7 +45,7 @@ fn far_point(ax: &[i32], ay: &[i32], bx: &[i32], by: &[i32], h: usize) -> Point
     }
 }
 
-// Where end h of the ring stands against end q, which runs this way from their point.
+// Where end h of the ring stands against end q, which runs this way from their point: earlier is less.
 fn compare(
     ax: &[i32],
     ay: &[i32],
@@ -70,7 +55,7 @@ fn compare(
     h: usize,
     q: usize,
     way: Vector,
-) -> Side
+) -> Ordering
     requires points { Points ax.now ay.now bx.now by.now (length ax.now) }
     requires grids { Grids ax.now ay.now bx.now by.now (length ax.now) }
     requires h_in_bounds { (h / 2 < length ax.now) × (OnGrid home) × (Short way) }
@@ -79,18 +64,18 @@ fn compare(
 {
     if h % 2 != q % 2 {
         if h % 2 == 1 {
-            return Side::Earlier;
+            return Ordering::Less;
         }
-        return Side::Later;
+        return Ordering::Greater;
     }
     let turn = cross_product(between(home, far_point(ax, ay, bx, by, h)), way);
     if turn == 0 {
-        return Side::Level;
+        return Ordering::Equal;
     }
     if 0 < turn {
-        return Side::Earlier;
+        return Ordering::Less;
     }
-    Side::Later
+    Ordering::Greater
 }
 
 // The place of end q in the ring, looked for from the ring's last end backward.
@@ -113,18 +98,16 @@ pub fn find_place(
 {
     let way = between(home, far_point(ax, ay, bx, by, q));
     let mut at = hoop.tail;
-    let mut i = hoop.count;
-    while 0 < i {
+    for _ in 0..hoop.count {
         match compare(ax, ay, bx, by, home, at, q, way) {
-            Side::Earlier => {
+            Ordering::Less => {
                 return Place::After(at);
             }
-            Side::Level => {
+            Ordering::Equal => {
                 return Place::Alike;
             }
-            Side::Later => {
+            Ordering::Greater => {
                 at = wide(prv[at]);
-                i -= 1;
             }
         }
     }
@@ -147,12 +130,9 @@ fn link_end(nxt: &mut [u32], prv: &mut [u32], r: usize, q: usize, a: usize, onto
 // End q is linked before the ring's first end, and so after its last; or alone.
 fn put_first(nxt: &mut [u32], prv: &mut [u32], hoop: Hoop, q: usize) -> Hoop
     requires { Fits nxt.old prv.old hoop First q }
-    ensures { after (Makes result) nxt.new prv.new ≡ put_end nxt.old prv.old hoop First q }
+    ensures { after (Some result) nxt.new prv.new ≡ put_end nxt.old prv.old hoop First q }
 {
-    let head = hoop.head;
-    let tail = hoop.tail;
-    let count = hoop.count;
-    if count == 0 {
+    if hoop.count == 0 {
         nxt[q] = WRAP + q as u32;
         prv[q] = q as u32;
         return Hoop {
@@ -161,49 +141,46 @@ fn put_first(nxt: &mut [u32], prv: &mut [u32], hoop: Hoop, q: usize) -> Hoop
             count: 1,
         };
     }
-    let onto = CROSS + head as u32;
-    link_end(nxt, prv, tail, q, head, onto, WRAP + q as u32);
+    let onto = CROSS + hoop.head as u32;
+    link_end(nxt, prv, hoop.tail, q, hoop.head, onto, WRAP + q as u32);
     Hoop {
         head: q,
-        tail: tail,
-        count: count + 1,
+        count: hoop.count + 1,
+        ..hoop
     }
 }
 
 // End q is linked after end p of the ring: after the last, or between two.
 fn put_after(nxt: &mut [u32], prv: &mut [u32], hoop: Hoop, p: usize, q: usize) -> Hoop
     requires { Fits nxt.old prv.old hoop (After p) q }
-    ensures { after (Makes result) nxt.new prv.new ≡ put_end nxt.old prv.old hoop (After p) q }
+    ensures { after (Some result) nxt.new prv.new ≡ put_end nxt.old prv.old hoop (After p) q }
 {
-    let head = hoop.head;
-    let tail = hoop.tail;
-    let count = hoop.count;
     let from = CROSS + q as u32;
-    if p == tail {
-        link_end(nxt, prv, tail, q, head, WRAP + head as u32, from);
+    if p == hoop.tail {
+        let onto = WRAP + hoop.head as u32;
+        link_end(nxt, prv, hoop.tail, q, hoop.head, onto, from);
         return Hoop {
-            head: head,
             tail: q,
-            count: count + 1,
+            count: hoop.count + 1,
+            ..hoop
         };
     }
     let onto = nxt[p];
     link_end(nxt, prv, p, q, wide(onto - CROSS), onto, from);
     Hoop {
-        head: head,
-        tail: tail,
-        count: count + 1,
+        count: hoop.count + 1,
+        ..hoop
     }
 }
 
-// End q is linked at its place.
-pub fn put_end(nxt: &mut [u32], prv: &mut [u32], hoop: Hoop, place: Place, q: usize) -> Taken
+// End q is linked at its place, and makes the ring this one; none where it runs as another end does.
+pub fn put_end(nxt: &mut [u32], prv: &mut [u32], hoop: Hoop, place: Place, q: usize) -> Option<Hoop>
     requires { Fits nxt.old prv.old hoop place q }
     ensures { PutEndSays nxt.old prv.old hoop place q result nxt.new prv.new }
 {
     match place {
-        Place::Alike => Taken::Wrong,
-        Place::First => Taken::Makes(put_first(nxt, prv, hoop, q)),
-        Place::After(p) => Taken::Makes(put_after(nxt, prv, hoop, p, q)),
+        Place::Alike => None,
+        Place::First => Some(put_first(nxt, prv, hoop, q)),
+        Place::After(p) => Some(put_after(nxt, prv, hoop, p, q)),
     }
 }

@@ -5,7 +5,7 @@ use mathlib.Core.Path.{◌≡◌, refl, sym, ap, ap₂, ◌∙◌, subst}
 use mathlib.Core.Bool.{Bool, true, false}
 use mathlib.Core.List.{List, [], ◌∷◌}
 use lib.IntN.{ℤ}
-use lib.ListN.{length, get_or, drop}
+use lib.ListN.{length, get_or, take, drop}
 use lib.Seq.{get_or-take, get_or-drop}
 use borrow.Author.Tests.{eq-eqb, ne_eqb}
 use Rattle.laws.specs.Test.{pick, pick_true, pick_false}
@@ -16,6 +16,12 @@ use Rattle.graph.specs.Quick.{clash_at, bridge_wrong, node_wrong}
 use Rattle.graph.specs.Passes.{Rising}
 use Rattle.graph.specs.Total.{part_length}
 use Rattle.rings.specs.Field.{LaidBridge, LaidCross, Laid}
+
+-- where the entries of node v end, as the passes read it: one start after the other, from the second on
+pub end_read : (start : List ℕ) (v to : ℕ) → v < length start - 1 → to ≡ get_or (take (length start - 1) (drop 1 start)) v 0
+    → to ≡ get_or start (v + 1) 0
+end_read start v to h e =
+    e ∙ get_or-take (length start - 1) (drop 1 start) v 0 h ∙ get_or-drop 1 start v 0 ∙ ap (λ (i : ℕ). get_or start i 0) (omega arith)
 
 -- ---- one node, with the entries `here`
 module _ (g : Graph) (state : List ℕ) (v : ℕ) (nxt prv lead here : List ℕ) (q : g.entries v ≡ here) where

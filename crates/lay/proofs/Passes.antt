@@ -34,9 +34,6 @@ some_at test m v l e = go (some test m) refl
 module _ (g : Lent) (state : List ℕ) where
   -- ---- the nodes of one kind
   module _ (Kind : ℕ → Type 0) where
-    kind_none : (nxt prv lead : List ℕ) → KindLaid g state Kind 0 nxt prv lead
-    kind_none nxt prv lead = record { fine = λ u l k. absurd (omega arith); laid = λ top u l k. absurd (omega arith) }
-
     kind_less : {nxt prv lead : List ℕ} (m v : ℕ) → m ≤ v → KindLaid g state Kind v nxt prv lead → KindLaid g state Kind m nxt prv lead
     kind_less m v b p = record { fine = λ u l k. p.fine u (omega arith) k; laid = λ top u l k. p.laid top u (omega arith) k }
 
@@ -93,14 +90,6 @@ module _ (g : Lent) (state : List ℕ) where
     pub ahead : (k : ℕ) → v ≤ get_or g.a_id k 0 → get_or lead k 0 ≡ 0
     pub alone : crosses ≡ false → (u : ℕ) → u < v → Bridge g u
 
-  pub bridging_none : Rising g.start g.list → (nxt lead : List ℕ) → ((k : ℕ) → get_or lead k 0 ≡ 0) → Bridging false 0 0 nxt lead
-  bridging_none rising nxt lead z = record {
-    place = sym rising.first;
-    done = λ prv. kind_none (Bridge g) nxt prv lead;
-    ahead = λ k l. z k;
-    alone = λ _ u l. absurd (omega arith);
-  }
-
   -- one node more
   module _ (rising : Rising g.start g.list) {crosses : Bool} {from v : ℕ} {nxt lead : List ℕ} (b : Bridging crosses from v nxt lead) (to : ℕ)
       (l : v < length g.start - 1) (end : to ≡ get_or g.start (v + 1) 0) where
@@ -139,13 +128,6 @@ module _ (g : Lent) (state : List ℕ) where
     pub place : from ≡ get_or g.start v 0
     pub done : (lead : List ℕ) → KindLaid g state (Cross g) v nxt prv lead
     pub same : BridgesKept g nxt₀ nxt
-
-  pub crossing_none : Rising g.start g.list → (nxt prv : List ℕ) → Crossing 0 0 nxt nxt prv
-  crossing_none rising nxt prv = record {
-    place = sym rising.first;
-    done = λ lead. kind_none (Cross g) nxt prv lead;
-    same = λ h i. refl;
-  }
 
   module _ (rising : Rising g.start g.list) {from v : ℕ} {nxt₀ nxt prv : List ℕ} (c : Crossing from v nxt₀ nxt prv) (to : ℕ)
       (l : v < length g.start - 1) (end : to ≡ get_or g.start (v + 1) 0) where

@@ -57,30 +57,26 @@ fn lay_bridges(
     ensures { BridgesLaid (lent ax.now ay.now bx.now by.now aid.now bid.now
         start.now list.now) state.now (length start.now - 1) nxt.new lead.new result }
 {
-    let m = start.len() - 1;
     let mut crosses = false;
     let mut from = 0;
-    let mut v = 0;
-    while v < m {
-        let to = wide(start[v + 1]);
-        if to != from + 2 {
+    for (v, &end) in start[1..].iter().enumerate() {
+        let to = wide(end);
+        if to == from + 2 {
+            let e = wide(list[from]);
+            let f = wide(list[from + 1]);
+            if lay_bridge(ax, ay, bx, by, aid, bid, state, v, e, f, nxt, lead) {
+                return Passed::Wrong;
+            }
+        } else {
             crosses = true;
-            from = to;
-            v += 1;
-            continue;
-        }
-        let e = wide(list[from]);
-        let f = wide(list[from + 1]);
-        if lay_bridge(ax, ay, bx, by, aid, bid, state, v, e, f, nxt, lead) {
-            return Passed::Wrong;
         }
         from = to;
-        v += 1;
     }
     if crosses {
-        return Passed::Crosses;
+        Passed::Crosses
+    } else {
+        Passed::Bridges
     }
-    Passed::Bridges
 }
 
 // Whether checks 5 to 7 find something wrong with some `Cross`. Where they find nothing, the ends at each are laid. It stops at one of more than
@@ -111,23 +107,18 @@ fn lay_crosses(
         start.now list.now) nxt.old nxt.new }
 {
     let mut from = 0;
-    let mut v = 0;
-    while v + 1 < start.len() {
-        let to = wide(start[v + 1]);
-        if to == from + 2 {
-            from = to;
-            v += 1;
-            continue;
-        }
-        if from + most < to {
-            return Found::Wide;
-        }
-        let here = entries(start, list, v);
-        if lay_cross(ax, ay, bx, by, aid, bid, state, here, v, nxt, prv) {
-            return Found::Fault;
+    for (v, &end) in start[1..].iter().enumerate() {
+        let to = wide(end);
+        if to != from + 2 {
+            if from + most < to {
+                return Found::Wide;
+            }
+            let here = entries(start, list, v);
+            if lay_cross(ax, ay, bx, by, aid, bid, state, here, v, nxt, prv) {
+                return Found::Fault;
+            }
         }
         from = to;
-        v += 1;
     }
     Found::Nothing
 }

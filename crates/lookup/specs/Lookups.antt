@@ -1,5 +1,5 @@
 -- What a lookup answers.
-use Rattle.std.specs.Prelude.{ℕ, Bool, ◌&&◌, List, eqb, ltb, length, get_or}
+use Rattle.std.specs.Prelude.{ℕ, Bool, ◌&&◌, List, eqb, ltb, length, get_or, Option, Some, None}
 use Rattle.laws.specs.Test.{pick}
 use Rattle.turn.specs.Refusals.{is_fine}
 use Rattle.table.specs.Table.{Table, contour_count, first_of, len_of, kind_of, hull_count, shape_of, dropped_owner}
@@ -7,8 +7,6 @@ use Rattle.table.specs.TableChecks.{table_checked}
 use Rattle.lookup.specs.declared.records.Role.{Role}
 use Rattle.lookup.specs.declared.records.Role.TheVariants.{Hull, Hole, Dropped}
 use Rattle.lookup.specs.declared.records.ContourRecord.{ContourRecord}
-use Rattle.lookup.specs.declared.records.Lookup.{Lookup}
-use Rattle.lookup.specs.declared.records.Lookup.TheVariants.{Found, Missing}
 
 -- "the owner is not right: for a hull its own number, for a hole one below the hull count, or 65,535 with no hulls"
 abbrev pub owner_right : (kind owner shape hulls : ℕ) → Bool
@@ -23,11 +21,11 @@ abbrev pub record_of : Table → List ℕ → ℕ → ContourRecord
 record_of t owner c = record { first = first_of t c; len = len_of t c; role = role_of (kind_of t c) (get_or owner c 0) (hull_count t) }
 
 -- "It answers "none" exactly when the contour's number is not below the count, the table fails check 10, or the owner is not right"
-abbrev pub record_if_right : Table → List ℕ → ℕ → Lookup
-record_if_right t owner c = pick (owner_right (kind_of t c) (get_or owner c 0) (shape_of t c) (hull_count t)) (Found (record_of t owner c)) Missing
+abbrev pub record_if_right : Table → List ℕ → ℕ → Option ContourRecord
+record_if_right t owner c = pick (owner_right (kind_of t c) (get_or owner c 0) (shape_of t c) (hull_count t)) (Some (record_of t owner c)) None
 
-unfoldable pub looked_up : Table → List ℕ → ℕ → Lookup
-looked_up t owner c = pick (ltb c (contour_count t) && is_fine (table_checked t (length owner))) (record_if_right t owner c) Missing
+unfoldable pub looked_up : Table → List ℕ → ℕ → Option ContourRecord
+looked_up t owner c = pick (ltb c (contour_count t) && is_fine (table_checked t (length owner))) (record_if_right t owner c) None
 
 -- ---- document 01's numbers and values for each case of an answer
 -- a role's kind, its number (0 a hull, 1 a hole, 2 a dropped hole), and its owner's number
@@ -57,9 +55,9 @@ pub record LookupValues : Type 0 where
 abbrev pub no_values : LookupValues
 no_values = record { found = 0; role = 0; owner = 0; first = 0; len = 0 }
 
-abbrev pub values_of_lookup : Lookup → LookupValues
-values_of_lookup (Found r) = record { found = 1; role = role_number r.role; owner = role_owner r.role; first = r.first; len = r.len }
-values_of_lookup Missing = no_values
+abbrev pub values_of_lookup : Option ContourRecord → LookupValues
+values_of_lookup (Some r) = record { found = 1; role = role_number r.role; owner = role_owner r.role; first = r.first; len = r.len }
+values_of_lookup None = no_values
 
 -- these values, read off the table and the owners
 abbrev pub role_number_in : (kind hulls : ℕ) → ℕ

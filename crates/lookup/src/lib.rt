@@ -1,13 +1,13 @@
 // The lookup of a contour's record.
 #![tactic(auto)]
 
-ghost use Rattle.std.specs.Prelude.{◌≡◌, [], ℕ, ◌<◌, length};
-ghost use Rattle.table.specs.Table.{Table, table};
+ghost use Rattle.std.specs.Prelude.{◌≡◌, ℕ, ◌<◌, length};
+ghost use Rattle.table.specs.Table.{Table, table_of};
 ghost use Rattle.lookup.specs.Lookups.{role_of, record_if_right};
 ghost use Rattle.lookup.specs.Promises.{OwnerRightSays, LookupSays};
 
-use records::{ContourRecord, Lookup, Role};
-use turn::Checked;
+use records::{ContourRecord, Role};
+use table::Contours;
 
 pub mod records;
 
@@ -38,42 +38,31 @@ fn role_of(kind: u8, owner: u16, hulls: usize) -> Role
 }
 
 // The record of a contour of a table that passes check 10.
-fn record_at(first: &[u32], len: &[u32], kind: &[u8], owner: &[u16], c: usize) -> Lookup
-    requires { (c < length first.now) × (c < length len.now) × (c < length kind.now) × (c < length owner.now) }
-    ensures { result ≡ record_if_right (table [] first.now len.now kind.now) owner.now c }
+fn record_at(contours: Contours, owner: &[u16], c: usize) -> Option<ContourRecord>
+    requires { (let t : Table = table_of contours in
+        (c < length t.first) × (c < length t.len) × (c < length t.kind) × (c < length owner.now)) }
+    ensures { result ≡ record_if_right (table_of contours.entry) owner.now c }
 {
+    let kind = contours.kind;
     let hulls = table::hulls_before(kind, kind.len());
     if !owner_right(kind[c], owner[c], table::hulls_before(kind, c), hulls) {
-        return Lookup::Missing;
+        return None;
     }
     let role = role_of(kind[c], owner[c], hulls);
-    Lookup::Found(ContourRecord {
-        first: first[c],
-        len: len[c],
-        role: role,
+    Some(ContourRecord {
+        first: contours.first[c],
+        len: contours.len[c],
+        role,
     })
 }
 
 // The record of one contour of any table.
-pub fn lookup(
-    points: &[i32],
-    first: &[u32],
-    len: &[u32],
-    kind: &[u8],
-    owner: &[u16],
-    contour: usize,
-) -> Lookup
-    ensures { (let t : Table = table points.now first.now len.now kind.now in
-        LookupSays t owner.now contour result) }
+pub fn lookup(contours: Contours, owner: &[u16], contour: usize) -> Option<ContourRecord>
+    ensures { LookupSays (table_of contours.entry) owner.now contour result }
 {
-    if first.len() <= contour {
-        return Lookup::Missing;
+    if contours.first.len() <= contour {
+        return None;
     }
-    match check_table::check_table(points, first, len, kind, owner.len()) {
-        Checked::Fine => record_at(first, len, kind, owner, contour),
-        Checked::Refused {
-            number: _,
-            place: _,
-        } => Lookup::Missing,
-    }
+    check_table::check_table(contours, owner.len()).ok()?;
+    record_at(contours, owner, contour)
 }

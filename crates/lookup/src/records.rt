@@ -1,4 +1,4 @@
-// What a lookup answers. (A type `Lookup` and a function `lookup` cannot stand in one module.)
+// What a lookup answers.
 
 // A contour's part in its shape: a hull with its shape's number, a hole with its parent's, or a hole that was dropped.
 #[derive(Clone, Copy)]
@@ -13,10 +13,4 @@ pub struct ContourRecord {
     pub first: u32,
     pub len: u32,
     pub role: Role,
-}
-
-#[derive(Clone, Copy)]
-pub enum Lookup {
-    Found(ContourRecord),
-    Missing,
 }

@@ -1,5 +1,5 @@
 -- An edge offered to the anchors that it spans is as good as offered to all: one that does not span an anchor leaves things as they are.
-use Prim.Native.Nat.{ℕ, ◌+◌, ◌-◌, ◌^◌, ◌≤◌, ◌<◌}
+use Prim.Native.Nat.{ℕ, ◌+◌, ◌-◌, ◌≤◌, ◌<◌}
 use mathlib.Core.Path.{◌≡◌, refl, ap, ◌∙◌}
 use mathlib.Core.Bool.{Bool, true, false, ◌&&◌}
 use mathlib.Core.List.{List}
@@ -10,7 +10,7 @@ use native.Mathlib.Decide.{dec_le}
 use lib.ListN.{length, get_or, set, length-set}
 use borrow.Author.Tests.{eq-eqb, ne_eqb}
 use lib.IntN.{ℤ, pos}
-use lib.Signed.{mag, le_z, ◌<ℤ◌, ◌≤ℤ◌}
+use lib.Signed.{le_z, ◌<ℤ◌, ◌≤ℤ◌}
 use mir.Syntax.{w32}
 use mir.Val.{to_z, of_z}
 use Rattle.laws.specs.Order.{≤_trans}
@@ -26,7 +26,7 @@ use Rattle.candidates.specs.EdgeListLaws.{listed_contour}
 use Rattle.nearest.specs.Search.{kept, offered, keep, nearest}
 use Rattle.nearest.specs.SearchLists.{giving, SortedAnchors, Parted, Numbers, Offered, Nearests}
 use Rattle.nearest.specs.Least.{nearest_le}
-use Rattle.nearest.proofs.Parts.{coord32, num}
+use Rattle.nearest.proofs.Parts.{coord32}
 
 -- ---- the ways out of `kept`
 module _ (edge : ℕ → Edge) (a : Anchor) (k b : ℕ) (e : Edge) (d : e ≡ edge k) where
@@ -116,13 +116,17 @@ module _ (g : EdgeLists) (h : Anchors) (m k : ℕ) (e : Edge) (from : ℕ) (hs :
     rest = λ i l. refl;
   }
 
+  -- an anchor's x is read as it is
+  read : (j : ℕ) → j < m → R (get_or h.x j (pos 0)) ≡ get_or h.x j (pos 0)
+  read j l = coord32 (get_or h.x j (pos 0)) (hs.on_grid.at j l).0
+
   module _ (new : List ℕ) (j : ℕ) (o : Offering g h k old new from j) where
     -- past the right end
-    pub offer_past : le_z (R e.right.x) (R (get_or h.x j (pos 0))) ≡ true → mag (get_or h.x j (pos 0)) < 2 ^ 31 → Offered g h m k old new
+    pub offer_past : le_z (R e.right.x) (R (get_or h.x j (pos 0))) ≡ true → j < m → Offered g h m k old new
     offer_past t f i v = at (dec_le j i)
       where
         past : e.right.x ≤ℤ get_or h.x j (pos 0)
-        past = le_yes _ _ (rw (coord32 e.right.x x.right, num (get_or h.x j (pos 0)) f) at t)
+        past = le_yes _ _ (rw (coord32 e.right.x x.right, read j f) at t)
 
         at : Dec (j ≤ i) → get_or new i 0 ≡ offered (listed_edge g) (listed_anchor h i) k (get_or old i 0)
         at (no u) = o.done i (omega arith)
@@ -135,9 +139,9 @@ module _ (g : EdgeLists) (h : Anchors) (m k : ℕ) (e : Edge) (from : ℕ) (hs :
     offer_end l i v = o.done i (omega arith)
 
     -- an anchor that the edge spans
-    pub offer_more : (r : ℕ) → j < m → m ≤ length old → le_z (R e.right.x) (R (get_or h.x j (pos 0))) ≡ false → mag (get_or h.x j (pos 0)) < 2 ^ 31
+    pub offer_more : (r : ℕ) → j < m → m ≤ length old → le_z (R e.right.x) (R (get_or h.x j (pos 0))) ≡ false
         → r ≡ kept (listed_edge g) (listed_anchor h j) k (get_or new j 0) → Offering g h k old (set new j r) from (j + 1)
-    offer_more r l w t f q = record {
+    offer_more r l w t q = record {
       len = length-set new j r ∙ o.len;
       on = omega (arith, o.on);
       done = put_below 0 (λ i. offered (listed_edge g) (listed_anchor h i) k (get_or old i 0)) new j r (omega (arith, o.len))
@@ -151,7 +155,7 @@ module _ (g : EdgeLists) (h : Anchors) (m k : ℕ) (e : Edge) (from : ℕ) (hs :
         begun = rw (coord32 e.left.x x.left) at (part.above j o.on l)
 
         before : get_or h.x j (pos 0) <ℤ e.right.x
-        before = le_no _ _ (rw (coord32 e.right.x x.right, num (get_or h.x j (pos 0)) f) at t)
+        before = le_no _ _ (rw (coord32 e.right.x x.right, read j l) at t)
 
 -- ---- the loop of `nearest_edges`: every anchor has the nearest of the first k edges
 nearest_more : (edge : ℕ → Edge) (gives : ℕ → Bool) (a : Anchor) (k : ℕ) → keep edge gives a k (nearest edge gives a k) ≡ nearest edge gives a (k + 1)

@@ -1,7 +1,7 @@
 -- The search looks at the first n edges alone, so that what it finds among the lists is what it finds in the table.
 use Prim.Native.Nat.{ℕ, zero, suc, ◌+◌, ◌-◌, ◌≤◌, ◌<◌}
 use mathlib.Core.Path.{◌≡◌, refl, ap, ◌∙◌}
-use mathlib.Core.Bool.{Bool}
+use mathlib.Core.Bool.{Bool, true, false, not, beq}
 use mathlib.Core.List.{List}
 use native.Mathlib.Omega.{arith}
 use lib.ListN.{length, get_or}
@@ -13,12 +13,19 @@ use Rattle.table.specs.Sound.{Sound}
 use Rattle.anchor.specs.declared.Anchor.{Anchor}
 use Rattle.anchor.specs.Anchors.{Anchors, listed_anchor}
 use Rattle.edges.specs.declared.Edge.{Edge}
-use Rattle.candidates.specs.Candidates.{edge}
+use Rattle.candidates.specs.Candidates.{edge, rightward}
 use Rattle.candidates.specs.EdgeLists.{EdgeLists, edge_lists, listed_edge, ranges, Round}
 use Rattle.candidates.specs.EdgeListLaws.{listed_contour, of_is, edges_same}
 use Rattle.nearest.specs.Search.{kept, offered, keep, nearest, contour_under}
 use Rattle.nearest.specs.SearchLists.{giving, named, Flags, Numbers, Nearests}
 use Rattle.nearest.specs.Least.{nearest_le}
+
+-- the way that candidates are walked, as the code has it
+pub unlike : (above clockwise : Bool) → not (beq above clockwise) ≡ rightward above clockwise
+unlike true true = refl
+unlike true false = refl
+unlike false true = refl
+unlike false false = refl
 
 -- ---- edges that are equal below n give one answer
 module _ (e f : ℕ → Edge) (gives : ℕ → Bool) (a : Anchor) (n : ℕ) (same : (k : ℕ) → k < n → e k ≡ f k) where

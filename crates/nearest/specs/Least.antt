@@ -24,7 +24,7 @@ module _ (edge : ℕ → Edge) (gives : ℕ → Bool) (a : Anchor) where
   counts k = gives (edge k).contour && (spans a.at.x (edge k) && lies_under a (edge k))
 
 -- of the first n edges none counts
-pub record None (edge : ℕ → Edge) (gives : ℕ → Bool) (a : Anchor) (n : ℕ) : Type 0 where
+pub record NoneBelow (edge : ℕ → Edge) (gives : ℕ → Bool) (a : Anchor) (n : ℕ) : Type 0 where
   pub not : (k : ℕ) → k < n → counts edge gives a k ≡ false
 
 -- edge b counts, and none that counts is nearer
@@ -35,7 +35,7 @@ pub record Nearest (edge : ℕ → Edge) (gives : ℕ → Bool) (a : Anchor) (n 
 
 -- by the number and 1, or 0
 abbrev pub Best : (ℕ → Edge) → (ℕ → Bool) → Anchor → ℕ → ℕ → Type 0
-Best edge gives a n zero = None edge gives a n
+Best edge gives a n zero = NoneBelow edge gives a n
 Best edge gives a n (suc b) = Nearest edge gives a n b
 
 below_suc : (P : ℕ → Type 0) (i : ℕ) → ((k : ℕ) → k < i → P k) → P i → (k : ℕ) → k < suc i → P k
@@ -80,7 +80,7 @@ module _ (edge : ℕ → Edge) (gives : ℕ → Bool) (a : Anchor) where
     }
 
     -- the first that does
-    first : counts edge gives a n ≡ true → None edge gives a n → Nearest edge gives a (suc n) n
+    first : counts edge gives a n ≡ true → NoneBelow edge gives a n → Nearest edge gives a (suc n) n
     first c r = record {
       one = omega arith;
       counted = c;
@@ -159,11 +159,11 @@ module _ (edge : ℕ → Edge) (gives : ℕ → Bool) (a : Anchor) where
   unfolding contour_under
   contour_under_lem n c s = answers n (nearest edge gives a n) c (best n) s
 
-  none_answers : (n b : ℕ) → Best edge gives a n b → None edge gives a n → pick (eqb b 0) 0 ((edge (b - 1)).contour + 1) ≡ 0
+  none_answers : (n b : ℕ) → Best edge gives a n b → NoneBelow edge gives a n → pick (eqb b 0) 0 ((edge (b - 1)).contour + 1) ≡ 0
   none_answers n zero r s = refl
   none_answers n (suc b) r s = absurd (true≢false r.counted (s.not b r.one))
 
-  pub none_under : (n : ℕ) → None edge gives a n → contour_under edge gives a n ≡ 0
+  pub none_under : (n : ℕ) → NoneBelow edge gives a n → contour_under edge gives a n ≡ 0
   unfolding contour_under
   none_under n s = none_answers n (nearest edge gives a n) (best n) s
 

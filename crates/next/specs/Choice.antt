@@ -1,5 +1,5 @@
 -- What the next link is (rule 3): unvisited and at the node; at a `Cross` no other unvisited link there is met before it; at a `Bridge` the other entry.
-use Rattle.std.specs.Prelude.{ℕ, ◌≡◌, refl, ◌⊎◌, Bool, true, false, eqb, length}
+use Rattle.std.specs.Prelude.{ℕ, ◌≡◌, refl, ◌⊎◌, Bool, true, false, eqb, length, Some, None}
 use Rattle.std.proofs.Common.{arith, sym, ◌∙◌, subst, inl, inr, ⊎_elim, eq-eqb, ne_eqb}
 use Rattle.std.proofs.Math.Path.{ap}
 use mathlib.Core.List.Memᴰ
@@ -7,7 +7,6 @@ use mathlib.Core.List.{List, [], ◌∷◌, Memᴰ}
 use Rattle.laws.specs.Test.{pick, pick_ind, Is, is_true, true_is, true≢false}
 use Rattle.turn.specs.Angular.{irreflexive, transitive}
 use Rattle.graph.specs.Graph.{Graph}
-use Rattle.next.specs.declared.Next.TheVariants.{Link, Nothing}
 use Rattle.next.specs.Next.{is_unvisited, unvisited_in, only_unvisited, Node, bridge, crossing, node_of, met_first, best, first_met, across_from}
 use Rattle.next.specs.Next.{next_at, next_link}
 use Rattle.graph.specs.Checks.{away_from}
@@ -85,13 +84,13 @@ zero_one e = absurd (no e)
 
 -- what `first_met` names
 module _ (lt : ℕ → ℕ → Bool) (irr : (x : ℕ) → Is (lt x x) → ⊥) (trans : (x y z : ℕ) → Is (lt x y) → Is (lt y z) → Is (lt x z)) where
-  pub first_met_lem : (o : List ℕ) (f : ℕ) → first_met lt o ≡ Link f → Mem f o × ((x : ℕ) → Mem x o → Is (lt x f) → ⊥)
+  pub first_met_lem : (o : List ℕ) (f : ℕ) → first_met lt o ≡ Some f → Mem f o × ((x : ℕ) → Mem x o → Is (lt x f) → ⊥)
   first_met_lem [] f e = let q : ◌≡◌ {A = ℕ} 0 1 = cc in zero_one q
   first_met_lem (x ∷ o) f e =
       let q : best lt x o ≡ f = cc in
       subst (λ r. Mem r (x ∷ o) × ((y : ℕ) → Mem y (x ∷ o) → Is (lt y r) → ⊥)) q (best_in lt x o, (least lt irr trans x o).none)
 
-none_met : (lt : ℕ → ℕ → Bool) (o : List ℕ) (x : ℕ) → first_met lt o ≡ Nothing → Mem x o → ⊥
+none_met : (lt : ℕ → ℕ → Bool) (o : List ℕ) (x : ℕ) → first_met lt o ≡ None → Mem x o → ⊥
 none_met lt [] x e m = Memᴰ.not-nil m
 none_met lt (y ∷ o) x e m = let q : ◌≡◌ {A = ℕ} 0 1 = cc in zero_one q
 
@@ -156,12 +155,12 @@ module _ (g : Graph) (sense : Bool) (st : List ℕ) (v e : ℕ) where
     unfolding next_link
     next_met = ap (next_at g sense st v e) (crossing_of (g.entries v) cross)
 
-    pub next_at_cross : (f : ℕ) → next_link g sense st v e ≡ Link f → Foremost g sense st v e f
+    pub next_at_cross : (f : ℕ) → next_link g sense st v e ≡ Some f → Foremost g sense st v e f
     next_at_cross f q =
         let h = first_met_lem lt irr trans (unvisited_in st (g.entries v)) f (sym next_met ∙ q) in
         let m = unvisited_in_of st (g.entries v) f h.0 in
         record { unvisited = m.1; at_node = m.0; none_before = λ x k o t. h.1 x (unvisited_in_in st (g.entries v) x k o) (true_is t) }
 
     -- nothing is named where nothing is unvisited
-    pub none_at_cross : next_link g sense st v e ≡ Nothing → (x : ℕ) → Mem x (g.entries v) → is_unvisited st x ≡ true → ⊥
+    pub none_at_cross : next_link g sense st v e ≡ None → (x : ℕ) → Mem x (g.entries v) → is_unvisited st x ≡ true → ⊥
     none_at_cross q x m o = none_met lt (unvisited_in st (g.entries v)) x (sym next_met ∙ q) (unvisited_in_in st (g.entries v) x m o)

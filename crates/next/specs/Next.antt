@@ -1,12 +1,10 @@
 -- Visit states, the next link at a node (rule 3) and the first link of a walk (rule 1).
-use Rattle.std.specs.Prelude.{ℕ, suc, Bool, not, ◌&&◌, List, [], ◌∷◌, get_or, eqb}
+use Rattle.std.specs.Prelude.{ℕ, suc, Bool, not, ◌&&◌, List, [], ◌∷◌, get_or, eqb, Option, Some, None}
 use Rattle.laws.specs.Test.{pick}
 use Rattle.turn.specs.Points.{clockwise}
 use Rattle.turn.specs.Angle.{met_before}
 use Rattle.graph.specs.Graph.{Graph}
 use Rattle.graph.specs.Checks.{away_from}
-use Rattle.next.specs.declared.Next.{Next}
-use Rattle.next.specs.declared.Next.TheVariants.{Link, Nothing}
 
 -- ---- states: 0 unvisited, 1 skipped, 2 walked in a hole, 3 walked in a hull
 
@@ -25,8 +23,8 @@ unvisited [] = 0
 unvisited (x ∷ st) = pick (eqb x 0) (suc (unvisited st)) (unvisited st)
 
 -- a link that the rule names, if it is unvisited
-abbrev pub only_unvisited : List ℕ → ℕ → Next
-only_unvisited st k = pick (is_unvisited st k) (Link k) Nothing
+abbrev pub only_unvisited : List ℕ → ℕ → Option ℕ
+only_unvisited st k = pick (is_unvisited st k) (Some k) None
 
 -- ---- nodes
 
@@ -57,21 +55,21 @@ best lt c [] = c
 best lt c (x ∷ l) = best lt (pick (lt x c) x c) l
 
 -- the first met of a list
-abbrev pub first_met : (ℕ → ℕ → Bool) → List ℕ → Next
-first_met lt [] = Nothing
-first_met lt (x ∷ l) = Link (best lt x l)
+abbrev pub first_met : (ℕ → ℕ → Bool) → List ℕ → Option ℕ
+first_met lt [] = None
+first_met lt (x ∷ l) = Some (best lt x l)
 
 -- at a `Bridge` with entries x and y: the one that is not e
-abbrev pub across_from : List ℕ → ℕ → ℕ → ℕ → Next
+abbrev pub across_from : List ℕ → ℕ → ℕ → ℕ → Option ℕ
 across_from st e x y = only_unvisited st (pick (eqb x e) y x)
 
 -- "Next link at a `Bridge`: the other entry. At a `Cross`: of the unvisited links, the first met when turning from the
 -- link just walked, clockwise if the sense is true."
-abbrev pub next_at : Graph → Bool → List ℕ → ℕ → ℕ → Node → Next
+abbrev pub next_at : Graph → Bool → List ℕ → ℕ → ℕ → Node → Option ℕ
 next_at g sense st v e (bridge x y) = across_from st e x y
 next_at g sense st v e (crossing l) = first_met (met_first g sense v e) (unvisited_in st l)
 
-unfoldable pub next_link : Graph → Bool → List ℕ → ℕ → ℕ → Next
+unfoldable pub next_link : Graph → Bool → List ℕ → ℕ → ℕ → Option ℕ
 next_link g sense st v e = next_at g sense st v e (node_of (g.entries v))
 
 -- ---- rule 1: the first link
@@ -85,10 +83,10 @@ topmost g st k c [] = c
 topmost g st k c (x ∷ l) = topmost g st k (pick (replaces g st k c x) x c) l
 
 -- "A `Bridge` with entries l0, l1 gives l0 if l0.a, l0.b, l1.b turn strictly clockwise, else l1. A `Cross` starts from k and goes through its list."
-abbrev pub first_at : Graph → List ℕ → ℕ → Node → Next
+abbrev pub first_at : Graph → List ℕ → ℕ → Node → Option ℕ
 first_at g st k (bridge x y) = only_unvisited st (pick (clockwise (g.a x) (g.b x) (g.b y)) x y)
-first_at g st k (crossing l) = Link (topmost g st k k l)
+first_at g st k (crossing l) = Some (topmost g st k k l)
 
 -- the first link of the walk that the scan starts at link k
-unfoldable pub first_link : Graph → List ℕ → ℕ → Next
+unfoldable pub first_link : Graph → List ℕ → ℕ → Option ℕ
 first_link g st k = first_at g st k (node_of (g.entries (g.a_node k)))

@@ -1,6 +1,6 @@
 -- What the first link is (rule 1): at a `Bridge` as the rule says; at a `Cross` always a link, unvisited where k is,
 -- with no unvisited link strictly counterclockwise of it among those that start there.
-use Rattle.std.specs.Prelude.{ℕ, ◌≡◌, refl, ◌⊎◌, Bool, true, false, not, ◌&&◌, List, [], ◌∷◌, eqb, pos, length}
+use Rattle.std.specs.Prelude.{ℕ, ◌≡◌, refl, ◌⊎◌, Bool, true, false, not, ◌&&◌, List, [], ◌∷◌, eqb, pos, length, Some}
 use Rattle.std.proofs.Common.{sym, ◌∙◌, inl, inr, ⊎_elim, eqb-true}
 use Rattle.std.proofs.Math.Path.{ap}
 use mathlib.Core.List.Memᴰ
@@ -15,7 +15,6 @@ use Rattle.turn.specs.Points.{before, from_to, cross, turn, clockwise}
 use Rattle.turn.specs.Directions.{cross_anti, cross_self, cross_sign}
 use Rattle.turn.specs.Rightward.{right, Right, right_before}
 use Rattle.graph.specs.Graph.{Graph}
-use Rattle.next.specs.declared.Next.TheVariants.{Link}
 use Rattle.next.specs.Next.{is_unvisited, only_unvisited, Node, bridge, crossing, node_of, replaces, topmost, first_at, first_link}
 use Rattle.next.specs.Known.{NamesUnvisited}
 use Rattle.next.specs.States.{names_unvisited, only_unvisited_lem}
@@ -208,7 +207,7 @@ module _ (g : Graph) (st : List ℕ) (k : ℕ) (at_cross : length (g.entries (g.
   abbrev entries : List ℕ
   entries = g.entries (g.a_node k)
 
-  pub first_at_cross : first_link g st k ≡ Link (topmost g st k k entries)
+  pub first_at_cross : first_link g st k ≡ Some (topmost g st k k entries)
   unfolding first_link
   first_at_cross = ap (first_at g st k) (crossing_of entries at_cross)
 

@@ -1,4 +1,5 @@
 -- The next link by the field of ends: over a `Bridge`, and round the ring of a `Cross`.
+use Rattle.std.specs.Prelude.{Option, Some, None}
 use Prim.Native.Nat.{ℕ, suc, ◌*◌, ◌≤◌, ◌<◌}
 use mathlib.Core.Path.{◌≡◌, sym, ap, ◌∙◌, subst}
 use mathlib.Core.Bool.{Bool, true, false}
@@ -10,8 +11,6 @@ use lib.Dec.{eqb}
 use borrow.Author.Tests.{eq-eqb, ne_eqb}
 use Rattle.laws.specs.Test.{pick, pick_true, pick_false}
 use Rattle.graph.specs.Graph.{Graph}
-use Rattle.next.specs.declared.Next.{Next}
-use Rattle.next.specs.declared.Next.TheVariants.{Link, Nothing}
 use Rattle.next.specs.Next.{is_unvisited, only_unvisited, next_link}
 use Rattle.next.specs.States.{read_shut, names_unvisited}
 use Rattle.next.specs.Choice.{Mem}
@@ -20,7 +19,6 @@ use Rattle.rings.specs.Linked.{step_of}
 use Rattle.rings.specs.Follow.{Left, next_end, to_go, step_below, came_back, found, passed, nearer}
 use Rattle.rings.specs.RingLoop.{none_next, some_next}
 use Rattle.rings.specs.Field.{cross_mark, next_of, prev_of, Across, Steers, Steered}
-use Rattle.onward.specs.declared.Onward.TheVariants.{To, Nowhere}
 use Rattle.onward.specs.Goes.{Arrived, GoesTo, EndsUnvisited}
 use Rattle.rings.proofs.Steering.{later_same}
 use Rattle.onward.specs.Named.{Among, next_among}
@@ -47,18 +45,18 @@ module _ {nxt prv st : List ℕ} (h : ℕ) (a : Arrived st h) (free : get_or nxt
   bridge_below d = let i = (across d.steers).inside in omega (arith, i, d.steers.size)
 
   module _ (to : ℕ) (is : to ≡ get_or nxt h 0) (g : Graph) (s : Steers g nxt prv st) (sense : Bool) where
-    pub bridge_to : is_unvisited st (link_of to) ≡ true → GoesTo g sense st h (To to)
+    pub bridge_to : is_unvisited st (link_of to) ≡ true → GoesTo g sense st h (Some to)
     bridge_to o = (
-      (across s).next st sense ∙ ap (λ x. only_unvisited st (link_of x)) (sym is) ∙ pick_true (Link (link_of to)) Nothing o,
+      (across s).next st sense ∙ ap (λ x. only_unvisited st (link_of x)) (sym is) ∙ pick_true (Some (link_of to)) None o,
       ap (λ x. node_of_end g (far x)) is ∙ (across s).node,
     )
 
-    pub bridge_none : is_unvisited st (link_of to) ≡ false → GoesTo g sense st h Nowhere
+    pub bridge_none : is_unvisited st (link_of to) ≡ false → GoesTo g sense st h None
     bridge_none o =
-        (across s).next st sense ∙ ap (λ x. only_unvisited st (link_of x)) (sym is) ∙ pick_false (Link (link_of to)) Nothing o
+        (across s).next st sense ∙ ap (λ x. only_unvisited st (link_of x)) (sym is) ∙ pick_false (Some (link_of to)) None o
 
 -- ---- what is named at a node is listed there
-listed : (st l : List ℕ) {k : ℕ} (n : Next) → n ≡ Link k → Among st l n → Mem k l
+listed : (st l : List ℕ) {k : ℕ} (n : Option ℕ) → n ≡ Some k → Among st l n → Mem k l
 listed st l n e m = (subst (Among st l) e m).0
 
 -- ---- round a `Cross`, from end `home`
@@ -99,7 +97,7 @@ module _ (nxt prv st : List ℕ) (sense : Bool) (home : ℕ) (a : Arrived st hom
         (step_below g (node_of_end g home) home (step_in nxt prv sense) (r.ring g d.steers) r.is)
 
     -- back home: there is no next link
-    pub round_none : at ≡ home → (g : Graph) → Steers g nxt prv st → GoesTo g sense st home Nowhere
+    pub round_none : at ≡ home → (g : Graph) → Steers g nxt prv st → GoesTo g sense st home None
     round_none q g s =
         none_next g sense st (node_of_end g home) (link_of home) home
         (end_of_node s.links home (subst (λ n. link_of home < n) (sym s.size) a.0)) (stands_visited st home a)
@@ -108,18 +106,18 @@ module _ (nxt prv st : List ℕ) (sense : Bool) (home : ℕ) (a : Arrived st hom
     module _ (away : at ≡ home → ⊥) where
       -- at the end of an unvisited link: that is the next one
       pub round_to : is_unvisited st (link_of at) ≡ true → (to : ℕ) → to ≡ far at → (g : Graph) → Steers g nxt prv st
-          → GoesTo g sense st home (To to)
+          → GoesTo g sense st home (Some to)
       round_to o to e g s =
           let v : ℕ = node_of_end g home in
-          let n : Next = next_link g sense st v (link_of home) in
+          let n : Option ℕ = next_link g sense st v (link_of home) in
           let f : at ≡ next_end g v home n = found g v home (step_in nxt prv sense) (r.ring g s) r.is away o in
-          let is : n ≡ Link (link_of at) = some_next g v home n (λ q. away (f ∙ q)) ∙ ap (λ x. Link (link_of x)) (sym f) in (
-            is ∙ ap Link (sym (ap link_of e ∙ far_link at)),
+          let is : n ≡ Some (link_of at) = some_next g v home n (λ q. away (f ∙ q)) ∙ ap (λ x. Some (link_of x)) (sym f) in (
+            is ∙ ap Some (sym (ap link_of e ∙ far_link at)),
             ap (λ x. node_of_end g (far x)) e ∙ ap (node_of_end g) (far_far at ∙ f ∙ ap (next_end g v home) is)
                 ∙ end_node_lem g v (link_of at) (s.only v (link_of at) (listed st (g.entries v) n is (next_among g sense st v (link_of home)))),
           )
 
-      pub round_unvisited : is_unvisited st (link_of at) ≡ true → (to : ℕ) → to ≡ far at → EndsUnvisited st (To to)
+      pub round_unvisited : is_unvisited st (link_of at) ≡ true → (to : ℕ) → to ≡ far at → EndsUnvisited st (Some to)
       round_unvisited o to e = names_unvisited st (link_of to) (ap (is_unvisited st) (ap link_of e ∙ far_link at) ∙ o)
 
       -- at the end of a visited one: the loop goes on

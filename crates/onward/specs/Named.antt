@@ -1,20 +1,18 @@
 -- Of any graph: the next link, by rule 3, is unvisited and an entry of the node.
-use Rattle.std.specs.Prelude.{ℕ, ◌≡◌, refl, Bool, true, List, [], ◌∷◌, eqb}
+use Rattle.std.specs.Prelude.{ℕ, ◌≡◌, refl, Bool, true, List, [], ◌∷◌, eqb, Option, Some, None}
 use mathlib.Core.List.Memᴰ
 use Rattle.laws.specs.Test.{pick, pick_ind}
 use Rattle.graph.specs.Graph.{Graph}
-use Rattle.next.specs.declared.Next.{Next}
-use Rattle.next.specs.declared.Next.TheVariants.{Link, Nothing}
 use Rattle.next.specs.Next.{is_unvisited, unvisited_in, only_unvisited, crossing, node_of, met_first, best, first_met, next_at, next_link}
 use Rattle.next.specs.Choice.{Mem, unvisited_in_of, best_in}
 
 -- what is named, if anything is, is unvisited and stands in a list
-abbrev pub Among : List ℕ → List ℕ → Next → Type 0
-Among st l Nothing = Unit {0}
-Among st l (Link k) = Mem k l × (is_unvisited st k ≡ true)
+abbrev pub Among : List ℕ → List ℕ → Option ℕ → Type 0
+Among st l None = Unit {0}
+Among st l (Some k) = Mem k l × (is_unvisited st k ≡ true)
 
 only_among : (st l : List ℕ) (c : ℕ) → Mem c l → Among st l (only_unvisited st c)
-only_among st l c m = pick_ind (is_unvisited st c) (Link c) Nothing (Among st l) (λ t. (m, t)) (λ n. tt)
+only_among st l c m = pick_ind (is_unvisited st c) (Some c) None (Among st l) (λ t. (m, t)) (λ n. tt)
 
 met_among : (lt : ℕ → ℕ → Bool) (st l os : List ℕ) → ((x : ℕ) → Mem x os → Mem x l × (is_unvisited st x ≡ true)) → Among st l (first_met lt os)
 met_among lt st l [] h = tt

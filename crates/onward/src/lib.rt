@@ -12,13 +12,6 @@ ghost use Rattle.onward.specs.Promises.{NextEndSays};
 use rings::{CROSS, far};
 use turn::wide;
 
-// Where the next link leads: to its far end, or there is none.
-#[derive(Clone, Copy)]
-pub enum Onward {
-    To(usize),
-    Nowhere,
-}
-
 // The next end of the ring, clockwise or counterclockwise.
 fn step_from(nxt: &[u32], prv: &[u32], sense: bool, h: usize) -> usize
     requires { (h < length nxt.now) × (h < length prv.now) }
@@ -31,8 +24,8 @@ fn step_from(nxt: &[u32], prv: &[u32], sense: bool, h: usize) -> usize
     }
 }
 
-// Rule 3 at a `Cross`: round the ring from end `home` to the first end of an unvisited link.
-fn go_round(nxt: &[u32], prv: &[u32], state: &[u8], sense: bool, home: usize) -> Onward
+// Rule 3 at a `Cross`: round the ring from end `home` to the first end of an unvisited link. That link's far end, or there is none.
+fn go_round(nxt: &[u32], prv: &[u32], state: &[u8], sense: bool, home: usize) -> Option<usize>
     requires { (Steered nxt.now prv.now state.now) × (Arrived state.now home) × (cross_mark ≤ get_or nxt.now home 0) }
     ensures goes_to { (g : Graph) → Steers g nxt.now prv.now state.now
         → GoesTo g sense state.now home result }
@@ -41,15 +34,16 @@ fn go_round(nxt: &[u32], prv: &[u32], state: &[u8], sense: bool, home: usize) ->
     let mut at = step_from(nxt, prv, sense, home);
     while at != home {
         if state[at / 2] == 0 {
-            return Onward::To(far(at));
+            return Some(far(at));
         }
         at = step_from(nxt, prv, sense, at);
     }
-    Onward::Nowhere
+    None
 }
 
-// Rule 3. Most nodes are `Bridge`s: the far end of their other entry is read here, and only a `Cross` costs a call.
-pub fn next_end(nxt: &[u32], prv: &[u32], state: &[u8], sense: bool, h: usize) -> Onward
+// Rule 3: the far end of the next link, or there is none. Most nodes are `Bridge`s: the far end of their other entry is read here, and only a `Cross`
+// costs a call.
+pub fn next_end(nxt: &[u32], prv: &[u32], state: &[u8], sense: bool, h: usize) -> Option<usize>
     requires { (Steered nxt.now prv.now state.now) × (Arrived state.now h) }
     ensures next_end_says { NextEndSays nxt.now prv.now state.now sense h result }
     ensures ends_unvisited { EndsUnvisited state.now result }
@@ -58,9 +52,9 @@ pub fn next_end(nxt: &[u32], prv: &[u32], state: &[u8], sense: bool, h: usize) -
     if f < CROSS {
         let to = wide(f);
         if state[to / 2] == 0 {
-            return Onward::To(to);
+            return Some(to);
         }
-        return Onward::Nowhere;
+        return None;
     }
     go_round(nxt, prv, state, sense, h)
 }

@@ -15,7 +15,7 @@ use Rattle.anchor.specs.Anchors.{Anchors, listed_anchor}
 use Rattle.precede.specs.Precedence.{goes_before}
 use Rattle.order.specs.HoleOrder.{slot, sorted}
 use Rattle.order.specs.Insertion.{Inserted, InsertedInto, slot_same, image, slot_in, sorted_more, entries}
-use Rattle.order.specs.HoleLists.{by_anchor, slot_of, Ordered, OrderedInto}
+use Rattle.order.specs.HoleLists.{by_anchor, slot_of, Ordered}
 
 -- ---- the place, as the loop looks for it
 slot_down : (test : ℕ → Bool) (p : ℕ) → 0 < p → test (p - 1) ≡ true → slot test p ≡ slot test (p - 1)
@@ -86,21 +86,19 @@ went h who old new j p s l a b ea eb r e {v} q =
     rw (← z) (sym (rw (ea, eb) at e) ∙ q)
 
 -- ---- the loop of `order_holes`: the first j holes are in order
-pub record Ordering (h : Anchors) (who old new : List ℕ) (m j : ℕ) : Type 0 where
-  pub on : j ≤ m
+pub record Ordering (h : Anchors) (who old new : List ℕ) (j : ℕ) : Type 0 where
   pub kept : KeptFrom 0 j old new
   pub done : Ordered h who j new
 
-pub ordering_start : (h : Anchors) (who old : List ℕ) (m : ℕ) → Ordering h who old old m 0
-ordering_start h who old m = record { on = omega arith; kept = kept_all 0 0 old; done = λ i l. absurd (not-suc-le-zero l) }
+pub ordering_start : (h : Anchors) (who old : List ℕ) → Ordering h who old old 0
+ordering_start h who old = record { kept = kept_all 0 0 old; done = λ i l. absurd (not-suc-le-zero l) }
 
-module _ (h : Anchors) (who old mid : List ℕ) (m j : ℕ) (o : Ordering h who old mid m j) where
+module _ (h : Anchors) (who old mid : List ℕ) (j : ℕ) (o : Ordering h who old mid j) where
   pub ordering_below : (i : ℕ) → i < j → get_or mid i 0 < j
   ordering_below i l = rw (o.done i l) (entries (λ k. k < j) (by_anchor h who) (λ k. k) j (λ k n. n) i l)
 
-  pub ordering_more : (new : List ℕ) → j < m → InsertedInto mid new j (slot_of h who mid j) j → Ordering h who old new m (j + 1)
-  ordering_more new l s = record {
-    on = omega arith;
+  pub ordering_more : (new : List ℕ) → InsertedInto mid new j (slot_of h who mid j) j → Ordering h who old new (j + 1)
+  ordering_more new s = record {
     kept = kept_then 0 (j + 1) old mid new (kept_less 0 j old mid o.kept (j + 1) (omega arith)) s.kept;
     done = rw (add-one j) (image (λ k. k) mid new (sorted (by_anchor h who) (λ k. k) j) (sorted (by_anchor h who) (λ k. k) (suc j)) j (slot_of h who mid j) j j
         s.inserted
@@ -112,6 +110,3 @@ module _ (h : Anchors) (who old mid : List ℕ) (m j : ℕ) (o : Ordering h who 
       places : slot_of h who mid j ≡ slot_in (by_anchor h who) (λ k. k) j
       places = slot_same (λ p. by_anchor h who j (get_or mid p 0)) (λ p. by_anchor h who j (get_or (sorted (by_anchor h who) (λ k. k) j) p 0)) j
           (λ p k. ap (by_anchor h who j) (o.done p k))
-
-  pub ordering_end : m ≤ j → OrderedInto h who m old mid
-  ordering_end l = let e : j ≡ m = omega (arith, o.on) in record { done = rw e at o.done; kept = rw e at o.kept }

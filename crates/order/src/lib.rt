@@ -2,96 +2,74 @@
 #![tactic(auto)]
 
 ghost use Rattle.std.specs.Prelude.{ℕ, suc, ◌<◌, ◌≤◌, length, get_or};
-ghost use Rattle.table.specs.Table.{Table, table, max_contours};
+ghost use Rattle.table.specs.Table.{Table, table_of, max_contours};
 ghost use Rattle.table.specs.Sound.{Sound};
-ghost use Rattle.anchor.specs.Anchors.{Anchors, anchors};
-ghost use Rattle.order.specs.HoleLists.{Room, Bounded, slot_of};
+ghost use Rattle.anchor.specs.Anchors.{Anchors, anchors_of};
+ghost use Rattle.order.specs.HoleLists.{Bounded, slot_of};
 ghost use Rattle.order.specs.Insertion.{InsertedInto};
 ghost use Rattle.order.specs.Promises.{GatherHolesSays, OrderHolesSays};
 
+use anchor::Anchor;
+use table::Contours;
+
 // The holes in contour order: hole j's contour and its anchor. Answers how many there are; past these the lists stay as they are.
 pub fn gather_holes(
-    points: &[i32],
-    first: &[u32],
-    len: &[u32],
-    kind: &[u8],
+    contours: Contours,
     clockwise: bool,
     who: &mut [u32],
-    x: &mut [i32],
-    y: &mut [i32],
-    to_x: &mut [i32],
-    to_y: &mut [i32],
+    anchors: &mut [Anchor],
 ) -> usize
-    requires sound { Sound (table points.now first.now len.now kind.now) }
-    requires room { Room who.old (anchors x.old y.old to_x.old to_y.old) max_contours }
-    ensures { (let t : Table = table points.now first.now len.now kind.now in
-        let h : Anchors = anchors x.old y.old to_x.old to_y.old in
-        GatherHolesSays t clockwise who.old h result who.new x.new y.new to_x.new to_y.new) }
+    requires sound { Sound (table_of contours) }
+    requires room { (max_contours ≤ length who.old) × (max_contours ≤ length anchors.old) }
+    ensures { (let t : Table = table_of contours.entry in
+        GatherHolesSays t clockwise who.old anchors.old result who.new anchors.new) }
 {
     let mut m = 0;
-    let mut c = 0;
-    while c < first.len() {
-        if kind[c] != 1 {
-            c += 1;
-            continue;
+    for c in 0..contours.first.len() {
+        if contours.kind[c] == 1 {
+            who[m] = c as u32;
+            anchors[m] = anchor::left_bottom_segment_from(
+                contours.points,
+                contours.first[c] as usize,
+                contours.len[c] as usize,
+                clockwise,
+            );
+            m += 1;
         }
-        let a = anchor::left_bottom_segment_from(
-            points,
-            first[c] as usize,
-            len[c] as usize,
-            clockwise,
-        );
-        who[m] = c as u32;
-        anchor::put_anchor(a, m, x, y, to_x, to_y);
-        m += 1;
-        c += 1;
     }
     m
 }
 
 // Hole j goes among the first j of `ord`, in front of those at the end that it goes before.
-fn insert(who: &[u32], x: &[i32], y: &[i32], to_x: &[i32], to_y: &[i32], ord: &mut [u32], j: usize)
-    requires bounded { (Bounded who.now (anchors x.now y.now to_x.now to_y.now) (suc j)) × (j < max_contours) }
+fn insert(who: &[u32], anchors: &[Anchor], ord: &mut [u32], j: usize)
+    requires bounded { (Bounded who.now (anchors_of anchors.now) (suc j)) × (j < max_contours) }
     requires j_in_bounds { (j < length ord.old) × ((i : ℕ) → i < j → get_or ord.old i 0 < j) }
-    ensures { (let h : Anchors = anchors x.now y.now to_x.now to_y.now in
+    ensures { (let h : Anchors = anchors_of anchors.now in
         InsertedInto ord.old ord.new j (slot_of h who.now ord.old j) j) }
 {
-    let a = anchor::listed_anchor(x, y, to_x, to_y, j);
+    let a = anchors[j];
     let c = who[j];
     let mut p = j;
+    // By index: the place where the loop stops is written after it.
     while 0 < p {
         let d = ord[p - 1];
-        let i = d as usize;
-        let b = anchor::listed_anchor(x, y, to_x, to_y, i);
-        if precede::goes_before(a, b, c, who[i]) {
-            ord[p] = d;
-            p -= 1;
-        } else {
-            ord[p] = j as u32;
-            return;
+        if !precede::goes_before(a, anchors[d as usize], c, who[d as usize]) {
+            break;
         }
+        ord[p] = d;
+        p -= 1;
     }
     ord[p] = j as u32;
 }
 
 // The m holes in binding's order, by their places among the holes. Past place m `ord` stays as it is.
-pub fn order_holes(
-    who: &[u32],
-    x: &[i32],
-    y: &[i32],
-    to_x: &[i32],
-    to_y: &[i32],
-    m: usize,
-    ord: &mut [u32],
-)
-    requires { (let h : Anchors = anchors x.now y.now to_x.now to_y.now in
+pub fn order_holes(who: &[u32], anchors: &[Anchor], m: usize, ord: &mut [u32])
+    requires { (let h : Anchors = anchors_of anchors.now in
         (Bounded who.now h m) × (m ≤ max_contours) × (m ≤ length ord.old)) }
-    ensures { (let h : Anchors = anchors x.now y.now to_x.now to_y.now in
+    ensures { (let h : Anchors = anchors_of anchors.now in
         OrderHolesSays h who.now m ord.old ord.new) }
 {
-    let mut j = 0;
-    while j < m {
-        insert(who, x, y, to_x, to_y, ord, j);
-        j += 1;
+    for j in 0..m {
+        insert(who, anchors, ord, j);
     }
 }

@@ -1,51 +1,27 @@
 // The program: reads document 01's file from standard input and prints the answer.
 #![tactic(auto)]
 
-ghost use Rattle.std.specs.Prelude.{◌≤◌, length};
+ghost use Rattle.std.specs.Prelude.{◌≤◌, length, IfOk};
 ghost use Rattle.print.specs.Room.{answer_bytes};
-ghost use Rattle.outline.specs.Inputs.{InputFits};
 
 use format::FILE_BYTES;
 use print::ANSWER_BYTES;
-use std::io::{Read, Write};
+use std::io::{self, Read, Write};
 use std::rt::{Stderr, Stdin, Stdout};
 
-// What came of reading: so many bytes, none at the end of the input; or a read failed.
-#[derive(Clone, Copy)]
-enum Input {
-    Read(usize),
-    Failed,
-}
-
-// One read, which may bring any part of what is still to come.
-fn read_some(mut from: Stdin, buf: &mut [u8]) -> Input
-    ensures { InputFits result (length buf.old) }
-{
-    match from.read(buf) {
-        Ok(n) => Input::Read(n),
-        Err(_) => Input::Failed,
-    }
-}
-
-// Reads until the buffer is full, the input ends or a read fails.
-fn read_input(from: Stdin, buf: &mut [u8]) -> Input
-    ensures { InputFits result (length buf.old) }
+// Reads until the buffer is full or the input ends, and answers how many bytes there are. One read may bring any part of what is still to come.
+fn read_input(mut from: Stdin, buf: &mut [u8]) -> io::Result<usize>
+    ensures { IfOk result (λ n. n ≤ length buf.old) }
 {
     let mut done = 0;
     while done < buf.len() {
-        match read_some(from, &mut buf[done..]) {
-            Input::Failed => {
-                return Input::Failed;
-            }
-            Input::Read(n) => {
-                if n == 0 {
-                    return Input::Read(done);
-                }
-                done += n;
-            }
+        let n = from.read(&mut buf[done..])?;
+        if n == 0 {
+            break;
         }
+        done += n;
     }
-    Input::Read(done)
+    Ok(done)
 }
 
 // The answer to all that was read goes out in one piece. Where it cannot, so that part of it at most was written, that is said.
@@ -63,11 +39,9 @@ fn answer_input(from: Stdin, to: Stdout, mut errors: Stderr, input: &mut [u8], o
     requires { answer_bytes ≤ length out.old }
 {
     match read_input(from, input) {
-        Input::Failed => {
+        Ok(n) => print_answer(to, errors, &input[..n], out),
+        Err(_) => {
             let _ = errors.write_all(b"outline: standard input cannot be read\n");
-        }
-        Input::Read(n) => {
-            print_answer(to, errors, &input[..n], out);
         }
     }
 }

@@ -1,4 +1,5 @@
 -- What extraction leaves is a table that the pass over it can read, and what the pass leaves is the definition's outcome.
+use Rattle.std.specs.Prelude.{Result, Ok, Err}
 use Prim.Native.Nat.{ℕ, ◌*◌, ◌-◌, ◌≤◌, ◌<◌}
 use native.Mathlib.Omega.{arith}
 use mathlib.Core.Path.{◌≡◌, refl, sym, ap, ap₂, ◌∙◌, subst}
@@ -18,8 +19,6 @@ use Rattle.keep.specs.declared.Counts.{Counts}
 use Rattle.keep.specs.Outcome.{kept, lens, firsts, all_points, coordinates, sum, counts_of}
 use Rattle.keep.specs.Ledger.{coordinates_length, all_points_length, firsts_length}
 use Rattle.contour.specs.Notes.{Roomy}
-use Rattle.scan.specs.declared.Extraction.{Extraction}
-use Rattle.scan.specs.declared.Extraction.TheVariants.{Done, Refused}
 use Rattle.scan.specs.Scan.{Scanned, stopped, walks, scan}
 use Rattle.scan.specs.Visits.{scanned}
 use Rattle.finish.specs.Finish.{Buffers, buffers}
@@ -31,6 +30,7 @@ use Rattle.outlines.specs.Outlines.{straight_scan}
 use Rattle.outlines.specs.Straightening.{kept_spikeless, contours, sizes_walks, straightened_as}
 use Rattle.outlines.specs.Grid.{Threes, walked_below, kept_of, kept_sum, kept_threes, threes_sum, points_on_grid}
 use Rattle.outlines.specs.Promises.{Answered, straight_by, StandsFor, SpikelessScan}
+use Rattle.turn.specs.declared.Refusal.{Refusal}
 
 positive : (ks : List Walk) → Threes ks → Positive (lens ks)
 positive [] h = tt
@@ -106,13 +106,13 @@ module _ (ax ay bx by : List ℤ) (g : Graph) (cw : Bool) (minimum : ℕ) (b : B
   zero_one : ◌≡◌ {A = ℕ} 0 1 → ⊥
   zero_one x = omega arith
 
-  stands_by : (r : Extraction) (b' : Buffers) (o : Scanned) → scan g cw b.state ≡ o → extracted_as r b' ≡ after_scan g minimum b o
+  stands_by : (r : Result Counts Refusal) (b' : Buffers) (o : Scanned) → scan g cw b.state ≡ o → extracted_as r b' ≡ after_scan g minimum b o
       → StandsFor r b'.points b'.first b'.len
-  stands_by (Refused number place) b' o e h = tt
-  stands_by (Done c) b' (stopped number place) e h =
+  stands_by (Err r) b' o e h = tt
+  stands_by (Ok c) b' (stopped reason place) e h =
       let z = ap (λ (x : Extracted). x.answer) h in let x : ◌≡◌ {A = ℕ} 0 1 = cc in absurd (zero_one x)
-  stands_by (Done c) b' (walks ws after) e h =
-      let z : Done c ≡ Done (counts_of g minimum ws) = ap (λ (x : Extracted). x.answer) h in
+  stands_by (Ok c) b' (walks ws after) e h =
+      let z : Ok c ≡ Ok (counts_of g minimum ws) = ap (λ (x : Extracted). x.answer) h in
       let d : c ≡ counts_of g minimum ws = cc in
       let l : b' ≡ after_walks g minimum ws b = ap (λ (x : Extracted). x.lent) h in
       subst (λ (x : Buffers). Stands x.points x.first x.len c.contours) (sym l)
@@ -120,7 +120,7 @@ module _ (ax ay bx by : List ℤ) (g : Graph) (cw : Bool) (minimum : ℕ) (b : B
       (sym d)
       (stands ws after e))
 
-  pub stands_after : (r : Extraction) (b' : Buffers) → extracted_as r b' ≡ after_scan g minimum b (scan g cw b.state)
+  pub stands_after : (r : Result Counts Refusal) (b' : Buffers) → extracted_as r b' ≡ after_scan g minimum b (scan g cw b.state)
       → StandsFor r b'.points b'.first b'.len
   stands_after r b' = stands_by r b' (scan g cw b.state) refl
 
@@ -130,27 +130,27 @@ module _ (ax ay bx by : List ℤ) (g : Graph) (cw : Bool) (minimum : ℕ) (b : B
     abbrev told : Buffers → Answered → Extracted
     told b' a = extracted_as a.answer (buffers b'.state a.points a.first a.len b'.kind)
 
-    straight_by_lem : (r : Extraction) (b' : Buffers) (o : Scanned) → scan g cw b.state ≡ o → extracted_as r b' ≡ after_scan g minimum b o
+    straight_by_lem : (r : Result Counts Refusal) (b' : Buffers) (o : Scanned) → scan g cw b.state ≡ o → extracted_as r b' ≡ after_scan g minimum b o
         → told b' (straight_by true r b'.points b'.first b'.len) ≡ straight_scan g minimum b o
-    straight_by_lem (Refused number place) b' (stopped m p) e h = h
-    straight_by_lem (Refused number place) b' (walks ws after) e h =
+    straight_by_lem (Err r) b' (stopped m p) e h = h
+    straight_by_lem (Err r) b' (walks ws after) e h =
         let z = ap (λ (x : Extracted). x.answer) h in let x : ◌≡◌ {A = ℕ} 0 1 = cc in absurd (zero_one x)
-    straight_by_lem (Done c) b' (stopped number place) e h =
+    straight_by_lem (Ok c) b' (stopped reason place) e h =
         let z = ap (λ (x : Extracted). x.answer) h in let x : ◌≡◌ {A = ℕ} 0 1 = cc in absurd (zero_one x)
-    straight_by_lem (Done c) b' (walks ws after) e h =
-        let z : Done c ≡ Done (counts_of g minimum ws) = ap (λ (x : Extracted). x.answer) h in
+    straight_by_lem (Ok c) b' (walks ws after) e h =
+        let z : Ok c ≡ Ok (counts_of g minimum ws) = ap (λ (x : Extracted). x.answer) h in
         let d : c ≡ counts_of g minimum ws = cc in
         let l : b' ≡ after_walks g minimum ws b = ap (λ (x : Extracted). x.lent) h in
-        ap₂ (λ (x : Buffers) (n : Counts). told x (straight_by true (Done n) x.points x.first x.len)) l d
+        ap₂ (λ (x : Buffers) (n : Counts). told x (straight_by true (Ok n) x.points x.first x.len)) l d
         ∙ straightened_as g minimum ws b (kept_spikeless g minimum ws (smooth ws after e)) (points_room ws after e) (first_room ws after e)
         (len_room ws after e) _ refl
 
-    by_setting : (drop : Bool) (r : Extraction) (b' : Buffers) (o : Scanned) → scan g cw b.state ≡ o → extracted_as r b' ≡ after_scan g minimum b o
+    by_setting : (drop : Bool) (r : Result Counts Refusal) (b' : Buffers) (o : Scanned) → scan g cw b.state ≡ o → extracted_as r b' ≡ after_scan g minimum b o
         → told b' (straight_by drop r b'.points b'.first b'.len) ≡ pick drop (straight_scan g minimum b o) (after_scan g minimum b o)
     by_setting true r b' o e h = straight_by_lem r b' o e h
     by_setting false r b' o e h = h
 
-    pub drawn_as : (drop : Bool) (r : Extraction) (b' : Buffers) (a : Answered) → extracted_as r b' ≡ after_scan g minimum b (scan g cw b.state)
+    pub drawn_as : (drop : Bool) (r : Result Counts Refusal) (b' : Buffers) (a : Answered) → extracted_as r b' ≡ after_scan g minimum b (scan g cw b.state)
         → a ≡ straight_by drop r b'.points b'.first b'.len
         → told b' a
         ≡ pick drop (straight_scan g minimum b (scan g cw b.state)) (after_scan g minimum b (scan g cw b.state))

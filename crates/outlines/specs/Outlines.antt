@@ -1,11 +1,9 @@
 -- Extraction with its settings: the contours of document 01, and where it is asked for the rule that drops points on a straight line (document 02, a)).
 -- "Demand 2 reads: the old contours, then this rule."
-use Rattle.std.specs.Prelude.{ℕ, suc, Bool, List, [], ◌∷◌, ◌++◌, map, length, leb, pos}
+use Rattle.std.specs.Prelude.{ℕ, suc, Bool, List, [], ◌∷◌, ◌++◌, map, length, leb, pos, Ok, Err}
 use Rattle.laws.specs.Test.{pick}
 use Rattle.laws.specs.Lists.{padded}
 use Rattle.turn.specs.declared.Point.{Point}
-use Rattle.turn.specs.declared.Checked.{Checked}
-use Rattle.turn.specs.declared.Checked.TheVariants as check
 use Rattle.graph.specs.Graph.{Graph, Lent, graph_of}
 use Rattle.graph.specs.Checks.{checked, room}
 use Rattle.walk.specs.Walk.{Walk, points}
@@ -16,6 +14,7 @@ use Rattle.scan.specs.Scan.{Scanned, stopped, walks, scan}
 use Rattle.finish.specs.Finish.{Buffers, buffers}
 use Rattle.extraction.specs.Extract.{Extracted, done, refusal, zeroed, after_scan, extracted}
 use Rattle.straight.specs.Straight.{drop_straight}
+use Rattle.turn.specs.Refusals.{Checked}
 
 -- a contour as it is written: whether it is a hole, and its points
 pub record Outline : Type 0 where
@@ -73,12 +72,12 @@ after_straight g minimum ws b = let os : List Outline = whole (outlines_of g min
 
 -- a refusal is what it was
 abbrev pub straight_scan : Graph → ℕ → Buffers → Scanned → Extracted
-straight_scan g minimum b (stopped number place) = refusal number place (zeroed b)
+straight_scan g minimum b (stopped reason place) = refusal reason place (zeroed b)
 straight_scan g minimum b (walks ws st) = done (straight_counts g minimum ws) (after_straight g minimum ws b)
 
 abbrev pub straight_checks : Graph → Bool → ℕ → Buffers → Checked → Extracted
-straight_checks g clockwise minimum b (check.Refused number place) = refusal number place b
-straight_checks g clockwise minimum b check.Fine = straight_scan g minimum b (scan g clockwise b.state)
+straight_checks g clockwise minimum b (Err r) = refusal r.reason r.place b
+straight_checks g clockwise minimum b (Ok u) = straight_scan g minimum b (scan g clockwise b.state)
 
 unfoldable pub extracted_straight : Lent → List ℕ → Bool → ℕ → Buffers → Extracted
 extracted_straight g top clockwise minimum b =

@@ -1,7 +1,7 @@
 -- Where no contour has a spike, dropping points on a straight line leaves of each contour its corners, and leaves no contour out: so the pass of
 -- `straighten` over
 -- what extraction wrote comes to the definition.
-use Rattle.std.specs.Prelude.{ℕ, ◌*◌, ◌≤◌, ◌≡◌, refl, true, List, [], ◌∷◌, ◌++◌, map, length, pos}
+use Rattle.std.specs.Prelude.{ℕ, ◌*◌, ◌≤◌, ◌≡◌, refl, true, List, [], ◌∷◌, ◌++◌, map, length, pos, Ok}
 use Rattle.std.proofs.Common.{arith, sym, ap, ap₂, ◌∙◌, subst, le-leb}
 use Rattle.std.proofs.lemmas.List.{length-map}
 use Rattle.laws.specs.Test.{pick, pick_true, pick_ind}
@@ -12,7 +12,6 @@ use Rattle.walk.specs.Walk.{Walk, points, left}
 use Rattle.keep.specs.Outcome.{keeps, kept, lens, firsts, kinds, all_points, coordinates, sum, counts_of}
 use Rattle.keep.specs.Ledger.{coordinates_length, all_points_length, firsts_length}
 use Rattle.finish.specs.Finish.{Buffers, buffers}
-use Rattle.scan.specs.declared.Extraction.TheVariants.{Done}
 use Rattle.extraction.specs.Extract.{extracted_as, done, after_walks}
 use Rattle.straight.specs.Straight.{drop_straight}
 use Rattle.straight.specs.Corners.{all_corners, Spikeless, corners_left, corners_few}
@@ -176,9 +175,9 @@ module _ (g : Graph) (minimum : ℕ) (ws : List Walk) (b : Buffers) (smooth : Al
   -- what the pass leaves is what the definition leaves
   pub straightened_as : (o : Straightened)
       → o ≡ rewritten before.points before.first before.len (counts_of g minimum ws) (corners_of (contours_of before.points before.len (length ks)))
-      → extracted_as (Done o.counts) (buffers before.state o.points o.first o.len before.kind)
+      → extracted_as (Ok o.counts) (buffers before.state o.points o.first o.len before.kind)
       ≡ done (straight_counts g minimum ws) (after_straight g minimum ws b)
   straightened_as o e =
       let q = e ∙ ap (λ (x : List (List Point)). rewritten before.points before.first before.len (counts_of g minimum ws) (corners_of x)) read in
-      ap (λ (x : Straightened). extracted_as (Done x.counts) (buffers before.state x.points x.first x.len before.kind)) q
-      ∙ (λ i. extracted_as (Done (counts_are i)) (buffers before.state (points_are i) (first_are i) (len_are i) (kind_are i)))
+      ap (λ (x : Straightened). extracted_as (Ok x.counts) (buffers before.state x.points x.first x.len before.kind)) q
+      ∙ (λ i. extracted_as (Ok (counts_are i)) (buffers before.state (points_are i) (first_are i) (len_are i) (kind_are i)))

@@ -11,27 +11,23 @@ ghost use Rattle.outlines.specs.Promises.{answered, straight_by, StandsFor, Extr
 
 use contour::Settings;
 use extraction::extract_fine;
-use scan::Extraction;
+use keep::Counts;
 use straighten::drop_straight;
+use turn::Refusal;
 
 // An answer that is done loses its points on a straight line.
 fn straighten_answer(
-    answer: Extraction,
+    answer: Result<Counts, Refusal>,
     points: &mut [i32],
     first: &mut [u32],
     len: &mut [u32],
-) -> Extraction
+) -> Result<Counts, Refusal>
     requires { StandsFor answer points.old first.old len.old }
     ensures { answered result points.new first.new len.new
         ≡ straight_by true answer points.old first.old len.old }
 {
-    match answer {
-        Extraction::Refused { number, place } => Extraction::Refused {
-            number: number,
-            place: place,
-        },
-        Extraction::Done(c) => Extraction::Done(drop_straight(points, first, len, c)),
-    }
+    let c = answer?;
+    Ok(drop_straight(points, first, len, c))
 }
 
 // Extraction of a graph that passes checks 1 to 7, over the field of its ends. `extract_fine` is called in two places, so that the compiler keeps it
@@ -51,7 +47,7 @@ pub fn extract_outlines(
     first: &mut [u32],
     len: &mut [u32],
     kind: &mut [u8],
-) -> Extraction
+) -> Result<Counts, Refusal>
     requires fielded { Fielded ax.now ay.now bx.now by.now top.now nxt.now prv.now lead.now state.old }
     requires links { (Links ax.now ay.now bx.now by.now (length state.old)) × (length top.now ≡ length state.old) }
     requires roomy { Roomy (length state.old) (length points.old) (length first.old) (length len.old) (length kind.old) }

@@ -4,32 +4,36 @@ use mathlib.Core.Path.{◌≡◌, refl, sym, ap, ◌∙◌}
 use mathlib.Core.List.{List, [], ◌∷◌}
 use native.Mathlib.Omega.{arith}
 use native.Mathlib.Numerals.{add-one}
-use lib.ListN.{length, get_or, set, take, drop, drop_of_length-le}
-use lib.Seq.{drop-cons, get_or-take, length-take-le}
+use lib.ListN.{length, get_or, set, drop, drop_of_length-le}
+use lib.Seq.{drop-cons}
 use borrow.Author.Tests.{eq-eqb, ne_eqb}
 use Rattle.table.specs.Table.{dropped_owner}
-use Rattle.owners.specs.declared.Given.TheVariants.{All, Stuck}
 use Rattle.owners.specs.Owners.{Owned, owned, given, give_each}
 use Rattle.owners.specs.Giving.{give_listed}
+use Rattle.turn.specs.Refusals.{refused, no_fault}
+use Rattle.turn.specs.declared.Reason.TheVariants.{NoParent}
 
 -- ---- the loop of `give_owners`
-module _ (who under ord own : List ℕ) (m i : ℕ) (r : m ≤ length ord) where
+module _ (who under order own : List ℕ) (i : ℕ) where
   abbrev from_here : Owned
-  from_here = give_listed who under (drop i (take m ord)) own
+  from_here = give_listed who under (drop i order) own
 
-  pub give_end : m ≤ i → owned All own ≡ from_here
+  pub give_end : length order ≤ i → owned no_fault own ≡ from_here
   unfolding give_listed
-  give_end h = let k : length (take m ord) ≤ i = omega (arith, length-take-le m ord r) in rw (drop_of_length-le (take m ord) k)
+  give_end h = rw (drop_of_length-le order h)
 
-  module _ (h : i < m) (j p : ℕ) (q : j ≡ get_or ord i 0) (e : p ≡ given (get_or under j 0) own) where
-    next : drop i (take m ord) ≡ j ∷ drop (suc i) (take m ord)
-    next = drop-cons (take m ord) i 0 (omega (arith, length-take-le m ord r)) ∙ ap (λ (k : ℕ). k ∷ drop (suc i) (take m ord)) (get_or-take m ord i 0 h ∙ sym q)
+  module _ (h : i < length order) (p : ℕ) (e : p ≡ given (get_or under (get_or order i 0) 0) own) where
+    abbrev hole : ℕ
+    hole = get_or who (get_or order i 0) 0
 
-    pub give_stuck : p ≡ dropped_owner → owned (Stuck (get_or who j 0)) own ≡ from_here
+    next : drop i order ≡ get_or order i 0 ∷ drop (suc i) order
+    next = drop-cons order i 0 h
+
+    pub give_stuck : p ≡ dropped_owner → owned (refused NoParent hole) own ≡ from_here
     unfolding give_listed
     give_stuck z = rw (next, ← e, eq-eqb _ _ z)
 
-    pub give_more : (p ≡ dropped_owner → ⊥) → give_listed who under (drop (i + 1) (take m ord)) (set own (get_or who j 0) p) ≡ from_here
+    pub give_more : (p ≡ dropped_owner → ⊥) → give_listed who under (drop (i + 1) order) (set own hole p) ≡ from_here
     unfolding give_listed
     give_more z = rw (next, ← e, ne_eqb _ _ z, add-one i)
 

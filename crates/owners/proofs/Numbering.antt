@@ -1,10 +1,10 @@
 -- The loop that writes the hulls' own numbers.
 use Prim.Native.Nat.{ℕ, ◌+◌, ◌≤◌, ◌<◌}
-use mathlib.Core.Path.{◌≡◌, refl, sym, ap, ◌∙◌}
+use mathlib.Core.Path.{◌≡◌, sym, ap, ◌∙◌}
 use mathlib.Core.List.{List}
 use native.Mathlib.Omega.{arith}
 use native.Mathlib.Nat.{add-zero, not-suc-le-zero}
-use lib.ListN.{length, get_or, set, take, length-set}
+use lib.ListN.{length, get_or, set, take}
 use lib.Seq.{ext_get_or}
 use borrow.Author.Tests.{eq-eqb, ne_eqb}
 use Rattle.laws.specs.Lists.{tabulate, tabulate_length, tabulate_at, put_below}
@@ -13,42 +13,33 @@ use Rattle.table.specs.Table.{hulls, dropped_owner}
 use Rattle.owners.specs.Owners.{first_owner}
 
 -- ---- `number_hulls`
-pub record Numbering (kind old new : List ℕ) (shape c : ℕ) : Type 0 where
-  pub on : c ≤ length kind
-  pub len : length new ≡ length old
+pub record Numbering (kind new : List ℕ) (shape c : ℕ) : Type 0 where
   pub shapes : shape ≡ hulls (take c kind)
   pub few : shape ≤ c
   pub done : (i : ℕ) → i < c → get_or new i 0 ≡ first_owner kind i
 
-pub numbering_start : (kind old : List ℕ) → Numbering kind old old 0 0
-numbering_start kind old =
-    record { on = omega arith; len = refl; shapes = sym (count_none 0 kind); few = omega arith; done = λ i h. absurd (not-suc-le-zero h) }
+pub numbering_start : (kind new : List ℕ) → Numbering kind new 0 0
+numbering_start kind new = record { shapes = sym (count_none 0 kind); few = omega arith; done = λ i h. absurd (not-suc-le-zero h) }
 
-module _ (kind old new : List ℕ) (shape c : ℕ) (n : Numbering kind old new shape c) (h : c < length kind) (r : length kind ≤ length old) where
-  pub numbering_hull : get_or kind c 0 ≡ 0 → Numbering kind old (set new c shape) (shape + 1) (c + 1)
+module _ (kind new : List ℕ) (shape c : ℕ) (n : Numbering kind new shape c) (h : c < length kind) (r : length new ≡ length kind) where
+  pub numbering_hull : get_or kind c 0 ≡ 0 → Numbering kind (set new c shape) (shape + 1) (c + 1)
   numbering_hull e = record {
-    on = omega arith;
-    len = length-set new c shape ∙ n.len;
     shapes = ap (λ (s : ℕ). s + 1) n.shapes ∙ sym (count_more 0 kind c h ∙ rw (eq-eqb _ _ e));
     few = omega (arith, n.few);
-    done = put_below 0 (first_owner kind) new c shape (omega (arith, n.len)) (n.shapes ∙ rw (eq-eqb _ _ e)) n.done;
+    done = put_below 0 (first_owner kind) new c shape (omega (arith, r)) (n.shapes ∙ rw (eq-eqb _ _ e)) n.done;
   }
 
-  pub numbering_hole : (get_or kind c 0 ≡ 0 → ⊥) → Numbering kind old (set new c dropped_owner) shape (c + 1)
+  pub numbering_hole : (get_or kind c 0 ≡ 0 → ⊥) → Numbering kind (set new c dropped_owner) shape (c + 1)
   numbering_hole e = record {
-    on = omega arith;
-    len = length-set new c dropped_owner ∙ n.len;
     shapes = n.shapes ∙ sym (count_more 0 kind c h ∙ rw (ne_eqb _ _ e) (add-zero (hulls (take c kind))));
     few = omega (arith, n.few);
-    done = put_below 0 (first_owner kind) new c dropped_owner (omega (arith, n.len)) (rw (ne_eqb _ _ e)) n.done;
+    done = put_below 0 (first_owner kind) new c dropped_owner (omega (arith, r)) (rw (ne_eqb _ _ e)) n.done;
   }
 
-pub numbering_end : (kind old new : List ℕ) (shape c : ℕ) → Numbering kind old new shape c → length kind ≤ c → length old ≡ length kind → new
-    ≡ tabulate (first_owner kind) (length kind)
-numbering_end kind old new shape c n h r =
-    ext_get_or 0 new (tabulate (first_owner kind) (length kind)) (n.len ∙ r ∙ sym (tabulate_length (first_owner kind) (length kind))) each
+pub numbering_end : (kind new : List ℕ) (shape c : ℕ) → Numbering kind new shape c → length kind ≤ c → length new ≡ length kind
+    → new ≡ tabulate (first_owner kind) (length kind)
+numbering_end kind new shape c n h r =
+    ext_get_or 0 new (tabulate (first_owner kind) (length kind)) (r ∙ sym (tabulate_length (first_owner kind) (length kind))) each
   where
     each : (i : ℕ) → i < length new → get_or new i 0 ≡ get_or (tabulate (first_owner kind) (length kind)) i 0
-    each i l =
-        let m : i < length kind = omega (arith, n.len) in
-        n.done i (omega arith) ∙ sym (tabulate_at 0 (first_owner kind) (length kind) i m)
+    each i l = n.done i (omega arith) ∙ sym (tabulate_at 0 (first_owner kind) (length kind) i (omega (arith, r)))

@@ -19,7 +19,7 @@ use Rattle.table.specs.Passing.{contours_few}
 use Rattle.anchor.specs.declared.Anchor.{Anchor}
 use Rattle.anchor.specs.Anchor.{anchor_edge}
 use Rattle.anchor.specs.Anchored.{Anchored}
-use Rattle.anchor.specs.Anchors.{Anchors, listed_anchor, AnchorsOnGrid, less_room}
+use Rattle.anchor.specs.Anchors.{Anchors, listed_anchor, AnchorRoom, AnchorsOnGrid, less_room}
 use Rattle.anchor.specs.AnchorPositions.{anchor_on_grid, end_on_grid}
 use Rattle.candidates.specs.Candidates.{rightward}
 use Rattle.nearest.specs.Search.{search_under}
@@ -28,7 +28,7 @@ use Rattle.nearest.specs.Least.{under_few}
 use Rattle.precede.specs.Precedence.{goes_before}
 use Rattle.order.specs.HoleOrder.{precedes, sorted, holes, hole, binding_order}
 use Rattle.order.specs.HoleLaws.{Rising, holes_rising, holes_are}
-use Rattle.order.specs.HoleLists.{Room, Gathered, Bounded, by_anchor, Ordered}
+use Rattle.order.specs.HoleLists.{Gathered, Bounded, by_anchor, Ordered}
 use Rattle.order.specs.Insertion.{sorted_length, sorted_image, entries}
 use Rattle.owners.specs.Owners.{every_contour, contour_below, give_each}
 use Rattle.owners.specs.Giving.{give_listed, Listed}
@@ -64,16 +64,16 @@ module _ (t : Table) (s : Sound t) (cw : Bool) (a : Anchored t cw) (m : ℕ) (wh
   hole_below : (j : ℕ) → j < m → hole t j < contour_count t
   hole_below j l = rising.below j (among j l)
 
-  module _ (r : Room who h max_contours) where
+  module _ (r : AnchorRoom h max_contours) where
     on_grid : AnchorsOnGrid h m
     on_grid = record {
-      room = less_room h m r.anchor_room few_holes;
+      room = less_room h m r few_holes;
       at = λ j l. subst (λ (w : Anchor). OnGrid w.at) (sym (g.at j l)) (anchor_on_grid t s cw (hole t j) (hole_below j l));
       to = λ j l. subst (λ (w : Anchor). OnGrid w.to) (sym (g.at j l)) (end_on_grid t s cw (hole t j) (hole_below j l));
     }
 
-    pub bounded : Bounded who h m
-    bounded = record { who_room = omega (arith, few_holes, r.who_room); on_grid = on_grid }
+    pub bounded : max_contours ≤ length who → Bounded who h m
+    bounded w = record { who_room = omega (arith, few_holes); on_grid = on_grid }
 
     in_order : (p q : ℕ) → p ≤ q → q < m → get_or h.x p (pos 0) ≤ℤ get_or h.x q (pos 0)
     in_order p q l n = go (ℕ_discrete p q)

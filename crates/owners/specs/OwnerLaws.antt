@@ -14,9 +14,9 @@ use Rattle.table.specs.Table.{Table, contour_count, kind_of, hulls, hull_count, 
 use Rattle.table.specs.Sound.{Sound}
 use Rattle.order.specs.HoleOrder.{binding_order}
 use Rattle.order.specs.OrderLaws.{each_once}
-use Rattle.owners.specs.declared.Given.{Given}
-use Rattle.owners.specs.declared.Given.TheVariants.{All, Stuck}
 use Rattle.owners.specs.Owners.{Owned, owned, given, first_owner, give_each, contour_below, searched_owners, owners_of}
+use Rattle.turn.specs.Refusals.{Checked, refused, no_fault}
+use Rattle.turn.specs.declared.Reason.TheVariants.{NoParent}
 
 -- ---- giving keeps owners below a bound
 module _ (under : ℕ → ℕ) (n : ℕ) (some : 0 < n) where
@@ -65,16 +65,16 @@ module _ (under : ℕ → ℕ) (n : ℕ) (some : 0 < n) where
     kept : (d : ℕ) → get_or old d 0 < n → get_or new' d 0 < n
     gone : (i : ℕ) → i < length l → get_or new' (get_or l i 0) 0 < n
 
-  split : {x y : List ℕ} {r q : Given} → owned r x ≡ owned q y → (r ≡ q) × (x ≡ y)
+  split : {x y : List ℕ} {r q : Checked} → owned r x ≡ owned q y → (r ≡ q) × (x ≡ y)
   split e = (ap (λ (w : Owned). w.answer) e, ap (λ (w : Owned). w.owners) e)
 
-  all_given : (l old new' : List ℕ) → Held old → give_each under l old ≡ owned All new' → Below l old new'
+  all_given : (l old new' : List ℕ) → Held old → give_each under l old ≡ owned no_fault new' → Below l old new'
   unfolding give_each
   all_given [] old new' h e = let q = split e in record { kept = λ d k. rw (← q.1) k; gone = λ i k. absurd (not-suc-le-zero k) }
   all_given (c ∷ l) old new' h e = go (eqb (given (under c) old) dropped_owner) refl e (λ k. all_given l (set old c (given (under c) old)) new' k)
     where
-      stuck : owned (Stuck c) old ≡ owned All new' → ⊥
-      stuck q = let z : Stuck c ≡ All = (split q).0 in let w : ◌≡◌ {A = ℕ} 0 1 = cc in omega arith
+      stuck : owned (refused NoParent c) old ≡ owned no_fault new' → ⊥
+      stuck q = let z : refused NoParent c ≡ no_fault = (split q).0 in let w : ◌≡◌ {A = ℕ} 0 1 = cc in omega arith
 
       joined : given (under c) old < n → Below l (set old c (given (under c) old)) new' → Below (c ∷ l) old new'
       joined b r = record { kept = λ d k. r.kept d (stored old c (given (under c) old) b d k); gone = at }
@@ -83,9 +83,10 @@ module _ (under : ℕ → ℕ) (n : ℕ) (some : 0 < n) where
           at zero k = r.kept c (new old c (given (under c) old) b)
           at (suc i) k = r.gone i (omega arith)
 
-      go : (b : Bool) → eqb (given (under c) old) dropped_owner ≡ b → pick b (owned (Stuck c) old) (give_each under l (set old c (given (under c) old)))
-          ≡ owned All new'
-          → (Held (set old c (given (under c) old)) → give_each under l (set old c (given (under c) old)) ≡ owned All new'
+      go : (b : Bool) → eqb (given (under c) old) dropped_owner ≡ b
+          → pick b (owned (refused NoParent c) old) (give_each under l (set old c (given (under c) old)))
+          ≡ owned no_fault new'
+          → (Held (set old c (given (under c) old)) → give_each under l (set old c (given (under c) old)) ≡ owned no_fault new'
           → Below l (set old c (given (under c) old)) new') → Below (c ∷ l) old new'
       go true f q r = absurd (stuck q)
       go false f q r =
@@ -111,7 +112,7 @@ module _ (t : Table) (s : Sound t) (some : 0 < hull_count t) where
       go (yes h) (no k) = inr (tabulate_at 0 (first_owner t.kind) (contour_count t) c h ∙ hole_none t.kind c k)
       go (no h) k = inl (rw (tabulate_past 0 (first_owner t.kind) (contour_count t) c (omega arith)) some)
 
-  searched_below : (cw : Bool) (l : List ℕ) → searched_owners t cw ≡ owned All l → (c : ℕ) → c < contour_count t → get_or l c 0 < hull_count t
+  searched_below : (cw : Bool) (l : List ℕ) → searched_owners t cw ≡ owned no_fault l → (c : ℕ) → c < contour_count t → get_or l c 0 < hull_count t
   searched_below cw l e c h = go (ℕ_discrete (kind_of t c) 0)
     where
       r : Below (contour_below t cw) (hull_count t) some (binding_order t cw) (tabulate (first_owner t.kind) (contour_count t)) l
@@ -128,19 +129,19 @@ module _ (t : Table) (s : Sound t) (some : 0 < hull_count t) where
           hole_at (place_of 0 (binding_order t cw) (counted_in c (binding_order t cw) (omega arith)))
 
   -- where binding succeeds and there is a hull
-  pub owners_below : (cw : Bool) (l : List ℕ) → owners_of t cw ≡ owned All l → (c : ℕ) → c < contour_count t → get_or l c 0 < hull_count t
+  pub owners_below : (cw : Bool) (l : List ℕ) → owners_of t cw ≡ owned no_fault l → (c : ℕ) → c < contour_count t → get_or l c 0 < hull_count t
   unfolding owners_of
   owners_below cw l e c h = go (eqb (hull_count t) 0) refl (eqb (hull_count t) 1) refl e
     where
-      zeros : owned All (replicate (contour_count t) 0) ≡ owned All l → get_or l c 0 < hull_count t
+      zeros : owned no_fault (replicate (contour_count t) 0) ≡ owned no_fault l → get_or l c 0 < hull_count t
       zeros q = let z : replicate (contour_count t) 0 ≡ l = ap (λ (w : Owned). w.owners) q in rw (← z, get_or-replicate {A = ℕ} (contour_count t) c 0 0 h) some
 
       none : hull_count t ≡ 0 → ⊥
       none q = omega arith
 
       go : (a : Bool) → eqb (hull_count t) 0 ≡ a → (b : Bool) → eqb (hull_count t) 1 ≡ b
-          → pick a (owned All (replicate (contour_count t) dropped_owner)) (pick b (owned All (replicate (contour_count t) 0)) (searched_owners t cw))
-          ≡ owned All l → get_or l c 0 < hull_count t
+          → pick a (owned no_fault (replicate (contour_count t) dropped_owner)) (pick b (owned no_fault (replicate (contour_count t) 0)) (searched_owners t cw))
+          ≡ owned no_fault l → get_or l c 0 < hull_count t
       go true f b g q = absurd (none (eqb-true _ _ f))
       go false f true g q = zeros q
       go false f false g q = searched_below cw l q c h

@@ -22,7 +22,7 @@ use Rattle.anchor.specs.Anchored.{Anchored}
 use Rattle.edges.specs.declared.Edge.{Edge}
 use Rattle.candidates.specs.Candidates.{rightward, edge}
 use Rattle.nearest.specs.Search.{nearest, contour_under}
-use Rattle.nearest.specs.Least.{None, Nearest, Best, best}
+use Rattle.nearest.specs.Least.{NoneBelow, Nearest, Best, best}
 use Rattle.order.specs.HoleOrder.{precedes, holes, hole, binding_order}
 use Rattle.order.specs.HoleLaws.{holes_rising, holes_are}
 use Rattle.order.specs.Insertion.{entries, sorted_length}
@@ -55,11 +55,11 @@ module _ (edge : ℕ → Edge) (gives : ℕ → Bool) (a : Anchor) (n : ℕ) whe
           record { number = b; is = r; whose = omega arith }
 
   -- no edge lies under exactly where it answers 0
-  pub nothing_under : contour_under edge gives a n ≡ 0 → None edge gives a n
+  pub nothing_under : contour_under edge gives a n ≡ 0 → NoneBelow edge gives a n
   unfolding contour_under
   nothing_under e = go (nearest edge gives a n) (best edge gives a n) e
     where
-      go : (b : ℕ) → Best edge gives a n b → pick (eqb b 0) 0 ((edge (b - 1)).contour + 1) ≡ 0 → None edge gives a n
+      go : (b : ℕ) → Best edge gives a n b → pick (eqb b 0) 0 ((edge (b - 1)).contour + 1) ≡ 0 → NoneBelow edge gives a n
       go zero r q = r
       go (suc b) r q = let w : (edge (suc b - 1)).contour + 1 ≡ 0 = rw (ne_eqb (suc b) 0 (λ z. omega arith)) at q in absurd (some w)
         where

@@ -9,9 +9,9 @@ use mathlib.Core.List.{List, [], ◌∷◌}
 use Rattle.laws.specs.Test.{pick}
 use Rattle.laws.specs.Lowest.{lowest}
 use Rattle.table.specs.Table.{dropped_owner}
-use Rattle.owners.specs.declared.Given.{Given}
-use Rattle.owners.specs.declared.Given.TheVariants.{All, Stuck}
 use Rattle.owners.specs.Owners.{give_each}
+use Rattle.turn.specs.Refusals.{Checked, refused, no_fault}
+use Rattle.turn.specs.declared.Reason.TheVariants.{NoParent}
 
 -- contour d has its owner
 abbrev pub Owns : List ℕ → ℕ → Type 0
@@ -31,8 +31,8 @@ module _ (under : ℕ → ℕ) where
   bare l i = eqb (under (get_or l i 0)) 0
 
   -- the answer by the first such place
-  abbrev pub stops_at : List ℕ → ℕ → Given
-  stops_at l i = pick (ltb i (length l)) (Stuck (get_or l i 0)) All
+  abbrev pub stops_at : List ℕ → ℕ → Checked
+  stops_at l i = pick (ltb i (length l)) (refused NoParent (get_or l i 0)) no_fault
 
   -- ---- one hole given its owner
   module _ (owners : List ℕ) (c p : ℕ) (h : c < length owners) (own : p ≡ dropped_owner → ⊥) where
@@ -75,7 +75,7 @@ module _ (under : ℕ → ℕ) where
   stops (c ∷ l) owners h r = go (under c) refl (λ p own. stops l (set owners c p)
       (λ i m. rw (length-set owners c p) (h (suc i) (omega arith))) (ready_on owners c p (h zero (omega arith)) own l r))
     where
-      rest : ℕ → Given
+      rest : ℕ → Checked
       rest p = (give_each under l (set owners c p)).answer
 
       first_owned : (d : ℕ) → Known owners (c ∷ l) zero d → Owns owners d

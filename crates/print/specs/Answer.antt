@@ -1,5 +1,6 @@
 -- What the program prints: the answer of both stages, or a refusal.
 use Rattle.std.specs.Prelude.{ℕ, zero, suc, ◌+◌, ◌*◌, List, [], ◌++◌, ℤ, pos, get_or}
+use Rattle.table.specs.declared.Contours.{Contours}
 use Rattle.print_text.specs.Text.{text}
 use Rattle.print_text.specs.Decimal.{said}
 use Rattle.print_lines.specs.Lines.{header, contour_line, point_line}
@@ -15,6 +16,10 @@ pub record OwnedTable : Type 0 where
 
 abbrev pub owned_table : List ℤ → List ℕ → List ℕ → List ℕ → List ℕ → OwnedTable
 owned_table points first len kind owner = record { points = points; first = first; len = len; kind = kind; owner = owner }
+
+-- what the code is lent
+abbrev pub owned_of : Contours → List ℕ → OwnedTable
+owned_of c owner = owned_table c.points.now c.first.now c.len.now c.kind.now owner
 
 -- count points from number p on, one a line
 unfoldable pub point_lines : List ℤ → ℕ → ℕ → List ℕ

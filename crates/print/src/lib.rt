@@ -7,11 +7,11 @@ ghost use Rattle.std.specs.Prelude.{◌+◌, ◌*◌, ◌<◌, ◌≤◌, length
 ghost use Rattle.writing.specs.Cuts.{Cut};
 ghost use Rattle.writing.specs.Write.{Wrote};
 ghost use Rattle.print.specs.Room.{answer_bytes, RangesInside, Printable};
-ghost use Rattle.print.specs.Answer.{OwnedTable, owned_table, point_lines, contour_lines, contours_from};
+ghost use Rattle.print.specs.Answer.{OwnedTable, owned_table, owned_of, point_lines, contour_lines, contours_from};
 ghost use Rattle.print.specs.Promises.{WriteAnswerSays};
 
 use print_lines::Totals;
-use table::MAX_CONTOURS;
+use table::{Contours, MAX_CONTOURS};
 use turn::MAX_LINKS;
 
 // Room for every answer: the first line, 24 bytes for a contour's line and 16 for a point's.
@@ -23,68 +23,44 @@ fn write_points(points: &[i32], first: usize, count: usize, out: &mut [u8], at: 
     requires count_in_bounds_2 { at + length (point_lines points.now first count) ≤ length out.old }
     ensures { Wrote out.old out.new at result (point_lines points.now first count) }
 {
-    let end = first + count;
-    let mut p = first;
     let mut next = at;
-    while p < end {
-        let x = points[2 * p];
-        let y = points[2 * p + 1];
-        next = print_point::write_point(x, y, out, next);
-        p += 1;
+    for p in first..first + count {
+        next = print_point::write_point(points[2 * p], points[2 * p + 1], out, next);
     }
     next
 }
 
 // Contour i: its line, and its points.
-fn write_contour(
-    points: &[i32],
-    first: &[u32],
-    len: &[u32],
-    kind: &[u8],
-    owner: &[u16],
-    i: usize,
-    out: &mut [u8],
-    at: usize,
-) -> usize
-    requires fact { (let t : OwnedTable = owned_table points.now first.now len.now kind.now owner.now in
-        RangesInside t (i + 1)) }
-    requires i_in_bounds { (let t : OwnedTable = owned_table points.now first.now len.now kind.now owner.now in
+fn write_contour(contours: Contours, owner: &[u16], i: usize, out: &mut [u8], at: usize) -> usize
+    requires fact { RangesInside (owned_of contours owner.now) (i + 1) }
+    requires i_in_bounds { (let t : OwnedTable = owned_of contours owner.now in
         at + length (contour_lines t i) ≤ length out.old) }
-    ensures { (let t : OwnedTable =
-        owned_table points.now first.now len.now
-        kind.now owner.now in
+    ensures { (let t : OwnedTable = owned_of contours.entry owner.now in
         Wrote out.old out.new at result (contour_lines t i)) }
 {
-    let count = len[i];
-    let next = print_contour::write_contour_line(i, kind[i], owner[i], count, out, at);
-    write_points(points, first[i] as usize, count as usize, out, next)
+    let first = contours.first[i] as usize;
+    let count = contours.len[i];
+    let next = print_contour::write_contour_line(i, contours.kind[i], owner[i], count, out, at);
+    write_points(contours.points, first, count as usize, out, next)
 }
 
-// The contours in the order of their numbers.
+// So many contours, in the order of their numbers.
 fn write_contours(
-    points: &[i32],
-    first: &[u32],
-    len: &[u32],
-    kind: &[u8],
+    contours: Contours,
     owner: &[u16],
-    contours: usize,
+    count: usize,
     out: &mut [u8],
     at: usize,
 ) -> usize
-    requires fact { (let t : OwnedTable = owned_table points.now first.now len.now kind.now owner.now in
-        RangesInside t contours) }
-    requires contours_in_bounds { (let t : OwnedTable = owned_table points.now first.now len.now kind.now owner.now in
-        at + length (contours_from t 0 contours) ≤ length out.old) }
-    ensures { (let t : OwnedTable =
-        owned_table points.now first.now len.now
-        kind.now owner.now in
-        Wrote out.old out.new at result (contours_from t 0 contours)) }
+    requires fact { RangesInside (owned_of contours owner.now) count }
+    requires contours_in_bounds { (let t : OwnedTable = owned_of contours owner.now in
+        at + length (contours_from t 0 count) ≤ length out.old) }
+    ensures { (let t : OwnedTable = owned_of contours.entry owner.now in
+        Wrote out.old out.new at result (contours_from t 0 count)) }
 {
-    let mut i = 0;
     let mut next = at;
-    while i < contours {
-        next = write_contour(points, first, len, kind, owner, i, out, next);
-        i += 1;
+    for i in 0..count {
+        next = write_contour(contours, owner, i, out, next);
     }
     next
 }
@@ -109,7 +85,12 @@ pub fn write_answer(
         WriteAnswerSays t totals out.old out.new result) }
     ensures cut { Cut result out.new }
 {
-    let contours = totals.contours;
+    let contours = Contours {
+        points,
+        first,
+        len,
+        kind,
+    };
     let next = print_lines::write_header(totals, out);
-    write_contours(points, first, len, kind, owner, contours, out, next)
+    write_contours(contours, owner, totals.contours, out, next)
 }

@@ -17,12 +17,12 @@ fn write_role(kind: u8, owner: u16, out: &mut [u8], at: usize) -> usize
     ensures { Wrote out.old out.new at result (said (role_text kind owner) owner) }
 {
     if kind == 0 {
-        return print_text::write_said(b" hull ", owner as u64, out, at);
+        print_text::write_said(b" hull ", owner as u64, out, at)
+    } else if owner == DROPPED {
+        print_text::write_said(b" dropped ", owner as u64, out, at)
+    } else {
+        print_text::write_said(b" hole ", owner as u64, out, at)
     }
-    if owner == DROPPED {
-        return print_text::write_said(b" dropped ", owner as u64, out, at);
-    }
-    print_text::write_said(b" hole ", owner as u64, out, at)
 }
 
 // A contour: its number, what it is, its owner and how many points it has.

@@ -1,3 +1,2 @@
 -- What the proofs cite.
-pub mod Copy
 pub mod Numbers

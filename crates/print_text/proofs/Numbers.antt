@@ -1,19 +1,16 @@
 -- The digits one by one, and the sign.
-use Prim.Native.Nat.{ℕ, ◌+◌, ◌/◌, ◌%◌, ◌^◌, ◌≤◌, ◌<◌}
-use mathlib.Core.Path.{◌≡◌, refl, sym, ap, ◌∙◌, subst}
-use mathlib.Core.Bool.{true, false}
-use mathlib.Core.List.{List, [], ◌∷◌, ◌++◌}
+use Prim.Native.Nat.{ℕ, suc, ◌+◌, ◌/◌, ◌%◌, ◌^◌, ◌≤◌, ◌<◌}
+use mathlib.Core.Path.{◌≡◌, ap, ◌∙◌}
+use mathlib.Core.Bool.{true}
+use mathlib.Core.List.{List, [], ◌∷◌}
 use native.Mathlib.Omega.{arith}
 use lib.IntN.{ℤ, pos, negsuc, nat_abs}
 use lib.ListN.{length, set, length-append}
 use lib.Signed.{lt_z}
 use Rattle.print_text.specs.Decimal.{decimal, decimal_z, glyph, decimal_one, decimal_more}
 use borrow.Author.Tests.{ltb-true}
-use Rattle.laws.specs.Test.{true≢false}
-use mir.Syntax.{w32, w64}
-use mir.Val.{SFits, to_z, of_z}
-use mir.ValLaws.{to_z-of_z}
-use Rattle.writing.specs.Write.{Wrote, wrote_both, wrote_byte, wrote_long, Unwritten, left_all, left_after, piece_fits}
+use Rattle.writing.specs.Put.{put_at, put_cons}
+use Rattle.writing.specs.Write.{Wrote, wrote_both, wrote_byte, wrote_long}
 
 -- a number of one digit
 module _ (n at : ℕ) (out : List ℕ) (d : n < 10) (room : at + length (decimal n) ≤ length out) where
@@ -41,48 +38,11 @@ module _ (n at : ℕ) (out : List ℕ) (d : 10 ≤ n) (fits : n < 2 ^ 64) (room 
         (wrote_both out new (set new last (48 + n % 10)) at last (last + 1) (decimal (n / 10)) (glyph (n % 10) ∷ []) before_fit w
         (wrote_byte new last (48 + n % 10) last_digit_fits))
 
--- ---- the sign
-
-below_zero : (x : ℤ) → lt_z x (pos 0) ≡ true → decimal_z x ≡ (45 ∷ []) ++ decimal (nat_abs x)
-below_zero (pos n) e = absurd (never n (ltb-true n 0 e))
-  where
-    never : (n : ℕ) → n < 0 → ⊥
-    never n h = omega arith
-below_zero (negsuc n) e = refl
-
-not_below : (x : ℤ) → lt_z x (pos 0) ≡ false → decimal_z x ≡ decimal (nat_abs x)
-not_below (pos n) e = refl
-not_below (negsuc n) e = absurd (true≢false refl e)
-
--- a number of 32 bits, as the code reads it back from them
-module _ (x : ℤ) (f : SFits w32 x) where
-  same32 : to_z w32 (of_z w32 x) ≡ x
-  same32 = to_z-of_z w32 x f
-
-  pub fits64 : SFits w64 (to_z w32 (of_z w32 x))
-  fits64 = rw same32 (record { sfits = omega (arith, f.sfits) })
-
-  module _ (n : ℕ) (size : n ≡ nat_abs (to_z w64 (of_z w64 (to_z w32 (of_z w32 x))))) (old : List ℕ) (at : ℕ)
-      (room : at + length (decimal_z x) ≤ length old) where
-    size_is : n ≡ nat_abs x
-    size_is = size ∙ ap nat_abs (to_z-of_z w64 (to_z w32 (of_z w32 x)) fits64 ∙ same32)
-
-    -- with a sign, before it and after it
-    module _ (test : lt_z (to_z w32 (of_z w32 x)) (pos 0) ≡ true) where
-      minus_left : Unwritten old old at at ((45 ∷ []) ++ decimal n) (decimal_z x)
-      minus_left =
-          subst (λ (t : List ℕ). Unwritten old old at at t (decimal_z x))
-          (below_zero x (rw same32 at test) ∙ ap (λ m. (45 ∷ []) ++ decimal m) (sym size_is))
-          (left_all old at (decimal_z x) room)
-
-      pub minus_fits : at < length old
-      minus_fits = omega (arith, piece_fits (45 ∷ []) (decimal n) minus_left)
-
-      pub after_minus : Unwritten old (set old at 45) at (at + 1) (decimal n) (decimal_z x)
-      after_minus = left_after (45 ∷ []) (decimal n) minus_left (wrote_byte old at 45 minus_fits)
-
-    -- without
-    pub no_minus : lt_z (to_z w32 (of_z w32 x)) (pos 0) ≡ false → Unwritten old old at at (decimal n) (decimal_z x)
-    no_minus test =
-        subst (λ (t : List ℕ). Unwritten old old at at t (decimal_z x)) (not_below x (rw same32 at test) ∙ ap decimal (sym size_is))
-        (left_all old at (decimal_z x) room)
+-- the sign, then the size
+pub after_sign : (x : ℤ) (n : ℕ) {old new : List ℕ} {at after : ℕ} → lt_z x (pos 0) ≡ true → n ≡ nat_abs x → at + length (decimal_z x) ≤ length old
+    → Wrote (set old at 45) new (at + 1) after (decimal n) → Wrote old new at after (decimal_z x)
+after_sign (pos m) n below size room w = absurd (omega (arith, ltb-true m 0 below))
+after_sign (negsuc m) n {old} {new} {at} below size room w = record {
+  next = omega (arith, w.next, ap (λ k. length (decimal k)) size);
+  bytes = w.bytes ∙ ap (λ k. put_at (set old at 45) (at + 1) (decimal k)) size ∙ put_cons old at 45 (decimal (suc m)) (omega arith);
+}

@@ -12,26 +12,25 @@ pub fn write_text(word: &[u8], out: &mut [u8], at: usize) -> usize
     requires { at + length word.now ≤ length out.old }
     ensures { WriteTextSays word.now out.old at out.new result }
 {
-    let mut i = 0;
-    while i < word.len() {
-        out[at + i] = word[i];
-        i += 1;
-    }
-    at + i
+    let next = at + word.len();
+    out[at..next].copy_from_slice(word);
+    next
 }
 
 // A number: the digits before the last, then the last.
+// By hand, as all that is written here: each byte is promised, and the position after them is answered, which `write!` does not tell.
 pub fn write_decimal(n: u64, out: &mut [u8], at: usize) -> usize
     requires { at + length (decimal n) ≤ length out.old }
     ensures { WriteDecimalSays n out.old at out.new result }
 {
     if n < 10 {
-        out[at] = 48 + n as u8;
-        return at + 1;
+        out[at] = b'0' + n as u8;
+        at + 1
+    } else {
+        let last = write_decimal(n / 10, out, at);
+        out[last] = b'0' + (n % 10) as u8;
+        last + 1
     }
-    let last = write_decimal(n / 10, out, at);
-    out[last] = 48 + (n % 10) as u8;
-    last + 1
 }
 
 // A signed number: a minus sign where it is below 0, then its size.
@@ -39,12 +38,13 @@ pub fn write_signed(x: i32, out: &mut [u8], at: usize) -> usize
     requires { at + length (decimal_z x) ≤ length out.old }
     ensures { WriteSignedSays x out.old at out.new result }
 {
-    let size = turn::absolute(x as i64);
+    let size = x.unsigned_abs() as u64;
     if x < 0 {
-        out[at] = 45;
-        return write_decimal(size, out, at + 1);
+        out[at] = b'-';
+        write_decimal(size, out, at + 1)
+    } else {
+        write_decimal(size, out, at)
     }
-    write_decimal(size, out, at)
 }
 
 // A text and a number after it.

@@ -5,16 +5,17 @@ use Rattle.std.proofs.Common.{not-suc-le-zero, arith, sym, ap, ◌∙◌, below_
 use Rattle.std.specs.Int.Signed.{lt_z}
 use Rattle.laws.specs.Test.{pick, pick_true, pick_false, or_false, false_or}
 use Rattle.laws.specs.Fails.{Fails, lt_fails, eq_fails, not_fails, or_fails}
-use Rattle.laws.specs.Lowest.{lowest, some, None, none_of, some_no, some_more}
+use Rattle.laws.specs.Lowest.{lowest, some, NoneBelow, none_of, some_no, some_more}
 use Rattle.laws.specs.Order.{lt_z_false, false_lt_z}
 use Rattle.turn.specs.declared.Point.{Point}
 use Rattle.turn.specs.Limits.{max_coordinate}
 use Rattle.turn.specs.Points.{before, outside, off_grid}
 use Rattle.turn.specs.PointOrder.{before_asymmetric}
-use Rattle.turn.specs.declared.Checked.TheVariants.{Fine, Refused}
 use Rattle.graph.specs.Graph.{Lent, link_count, node_count}
 use Rattle.graph.specs.Checks.{a_of, b_of, node_at, misplaced, misnamed, flag_fault, link_wrong, out_of_order, each_checked}
 use Rattle.graph.specs.Tests.{named}
+use Rattle.turn.specs.Refusals.{refused, no_fault}
+use Rattle.turn.specs.declared.Reason.TheVariants.{WrongLink, LinksOutOfOrder}
 
 -- ---- the question
 
@@ -145,7 +146,7 @@ placed p a b low e =
     (whole a b).from ((a_in, b_in), h.0.1)
 
 -- where it finds nothing, no a has an x below the bounds
-low : (a b : ℕ → Point) (n : ℕ) → None (misplaced_at a b) n → (k : ℕ) → k < n → lt_z (a k).x lowest_x ≡ false
+low : (a b : ℕ → Point) (n : ℕ) → NoneBelow (misplaced_at a b) n → (k : ℕ) → k < n → lt_z (a k).x lowest_x ≡ false
 low a b n h zero l = ((whole (a zero) (b zero)).to (h zero l)).0.0.0.0
 low a b n h (suc k) l =
     up_to lowest_x (a k).x (a (suc k)).x (low a b n h k (omega arith))
@@ -174,15 +175,15 @@ pub points : (a b : ℕ → Point) (n : ℕ)
     → some (misplaced_at a b) n ≡ some (λ k. misplaced (a k) (b k)) n || some (out_of_order a) n
 points a b n = together _ _ to from
   where
-    each : None (misplaced_at a b) n → None (λ k. misplaced (a k) (b k)) n
+    each : NoneBelow (misplaced_at a b) n → NoneBelow (λ k. misplaced (a k) (b k)) n
     each h zero l = h zero l
     each h (suc k) l = placed (a k) (a (suc k)) (b (suc k)) (low a b n h (suc k) l) (h (suc k) l)
 
-    ordered : None (misplaced_at a b) n → None (out_of_order a) n
+    ordered : NoneBelow (misplaced_at a b) n → NoneBelow (out_of_order a) n
     ordered h zero l = refl
     ordered h (suc k) l = previous a k ∙ ((after (a k) (a (suc k)) (b (suc k))).to (h (suc k) l)).1
 
-    back : None (λ k. misplaced (a k) (b k)) n → None (out_of_order a) n → None (misplaced_at a b) n
+    back : NoneBelow (λ k. misplaced (a k) (b k)) n → NoneBelow (out_of_order a) n → NoneBelow (misplaced_at a b) n
     back h o zero l = h zero l
     back h o (suc k) l = asked (a k) (a (suc k)) (b (suc k)) (h (suc k) l) (sym (previous a k) ∙ o (suc k) l)
 
@@ -232,7 +233,7 @@ question g top state =
     order false false false false = refl
 
 -- ---- what checks 3 and 4 say by it
-pub fine : (g : Lent) (top state : List ℕ) → any_wrong g top state ≡ false → each_checked g top state ≡ Fine
+pub fine : (g : Lent) (top state : List ℕ) → any_wrong g top state ≡ false → each_checked g top state ≡ no_fault
 unfolding each_checked
 fine g top state e =
     let n = link_count g in
@@ -240,13 +241,13 @@ fine g top state e =
     pick_false _ _ h.0 ∙ pick_false _ _ h.1
 
 pub refused_3 : (g : Lent) (top state : List ℕ) → lowest (link_wrong g top state) (link_count g) < link_count g
-    → each_checked g top state ≡ Refused 3 (lowest (link_wrong g top state) (link_count g))
+    → each_checked g top state ≡ refused WrongLink (lowest (link_wrong g top state) (link_count g))
 unfolding each_checked
 refused_3 g top state l = pick_true _ _ (lt-ltb _ _ l)
 
 pub refused_4 : (g : Lent) (top state : List ℕ) → any_wrong g top state ≡ true
     → link_count g ≤ lowest (link_wrong g top state) (link_count g)
-    → each_checked g top state ≡ Refused 4 (lowest (out_of_order (a_of g)) (link_count g))
+    → each_checked g top state ≡ refused LinksOutOfOrder (lowest (out_of_order (a_of g)) (link_count g))
 unfolding each_checked
 refused_4 g top state e l =
     let n = link_count g in

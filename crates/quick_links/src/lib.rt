@@ -31,15 +31,12 @@ pub fn any_misplaced(ax: &[i32], ay: &[i32], bx: &[i32], by: &[i32]) -> bool
         return false;
     }
     let mut wrong = misplaced(point_at(ax, ay, 0), point_at(bx, by, 0));
-    let mut k = 1;
-    while k < n {
-        wrong = wrong
-            | misplaced_after(
-                point_at(ax, ay, k - 1),
-                point_at(ax, ay, k),
-                point_at(bx, by, k),
-            );
-        k += 1;
+    for k in 1..n {
+        wrong |= misplaced_after(
+            point_at(ax, ay, k - 1),
+            point_at(ax, ay, k),
+            point_at(bx, by, k),
+        );
     }
     wrong
 }
@@ -48,13 +45,7 @@ pub fn any_misplaced(ax: &[i32], ay: &[i32], bx: &[i32], by: &[i32]) -> bool
 fn last_id(m: usize) -> u32
     ensures { result ≡ last_id m }
 {
-    if 4294967295 < m {
-        return 4294967295;
-    }
-    if m == 0 {
-        return 0;
-    }
-    (m - 1) as u32
+    m.saturating_sub(1).min(u32::MAX as usize) as u32
 }
 
 // Whether a link's ids are past the last one, or equal.
@@ -69,28 +60,23 @@ pub fn any_misnamed(m: usize, aid: &[u32], bid: &[u32]) -> bool
     requires { length bid.now ≡ length aid.now }
     ensures { AnyMisnamedSays m aid.now bid.now result }
 {
-    let n = aid.len();
     let last = last_id(m);
     let mut wrong = false;
-    let mut k = 0;
-    while k < n {
-        wrong = wrong | misnamed_past(last, aid[k], bid[k]);
-        k += 1;
+    for (&a, &b) in aid.iter().zip(bid) {
+        wrong |= misnamed_past(last, a, b);
     }
     wrong
 }
 
 // Whether some top or state is not 0 or 1.
+#[tactic(auto, using(laws::specs::Lowest::some_more))]
 pub fn any_misflagged(top: &[u8], state: &[u8]) -> bool
     requires { length state.now ≡ length top.now }
     ensures { AnyMisflaggedSays top.now state.now result }
 {
-    let n = top.len();
     let mut wrong = false;
-    let mut k = 0;
-    while k < n {
-        wrong = wrong | misflagged(top[k], state[k]);
-        k += 1;
+    for (&t, &s) in top.iter().zip(state) {
+        wrong |= misflagged(t, s);
     }
     wrong
 }

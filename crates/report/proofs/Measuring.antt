@@ -15,8 +15,11 @@ use Rattle.extent.specs.Extent.{extent_of}
 use Rattle.extent.specs.Parts.{points_part}
 use Rattle.millimetres.specs.declared.Frame.{Frame}
 use Rattle.millimetres.specs.Millimetres.{square_millimetres, frame_of}
-use Rattle.report.specs.declared.records.Report.TheVariants.{Contour}
 use Rattle.report.specs.Reports.{measured}
+use Rattle.report.specs.declared.records.Measures.{Measures}
+
+abbrev pub measures : Float → Frame → Measures
+measures area frame = record { area = area; frame = frame }
 
 -- the points from `from` on, n of them, as the code cuts them out
 abbrev pub part : List ℤ → ℕ → ℕ → List ℤ
@@ -41,7 +44,7 @@ module _ (l : List ℤ) (from n : ℕ) where
 
   pub measured_so : (first len : ℕ) → from ≡ first → n ≡ len → (a : Float) (z : ℤ) (f : Frame) (e : Extent) → a ≡ square_millimetres z
       → z ≡ area (points_of (part l from n)) → f ≡ frame_of e → e ≡ extent_of (points_of (part l from n))
-      → Contour a f ≡ measured (take len (drop first (points_of l)))
+      → measures a f ≡ measured (take len (drop first (points_of l)))
   measured_so first len p q a z f e ha hz hf he =
       let w : points_of (part l from n) ≡ take len (drop first (points_of l)) = part_points ∙ ap₂ (λ i j. take i (drop j (points_of l))) q p in
-      ap₂ Contour (ha ∙ ap square_millimetres (hz ∙ ap area w)) (hf ∙ ap frame_of (he ∙ ap extent_of w))
+      ap₂ measures (ha ∙ ap square_millimetres (hz ∙ ap area w)) (hf ∙ ap frame_of (he ∙ ap extent_of w))

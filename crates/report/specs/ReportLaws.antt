@@ -1,6 +1,6 @@
 -- What a lookup has found is a contour of a sound table: its area is exact before it is divided, and its frame encloses the contour. That a report is missing
 -- exactly where the lookup is, is proved in proofs/Reported.antt.
-use Rattle.std.specs.Prelude.{ℕ, suc, ◌+◌, ◌*◌, ◌-◌, ◌^◌, ◌≤◌, ◌<◌, ◌≡◌, nat_abs, length, take, drop}
+use Rattle.std.specs.Prelude.{ℕ, suc, ◌+◌, ◌*◌, ◌-◌, ◌^◌, ◌≤◌, ◌<◌, ◌≡◌, nat_abs, length, take, drop, Option, Some, None}
 use Rattle.std.proofs.Common.{arith, sym, ap₂, ◌∙◌, length-take}
 use Rattle.std.proofs.Math.Path.{ap}
 use mathlib.Core.List.{List, ◌∷◌, Memᴰ}
@@ -14,8 +14,6 @@ use Rattle.table.specs.Table.{Table, contour, contour_count, first_of, len_of, p
 use Rattle.table.specs.Sound.{Sound}
 use Rattle.table.specs.Passing.{passes_sound}
 use Rattle.lookup.specs.declared.records.ContourRecord.{ContourRecord}
-use Rattle.lookup.specs.declared.records.Lookup.{Lookup}
-use Rattle.lookup.specs.declared.records.Lookup.TheVariants as lookup
 use Rattle.lookup.specs.Lookups.{record_of, looked_up}
 use Rattle.lookup.specs.LookupLaws.{Present, found_record_lem, found_present}
 use Rattle.extent.specs.Extent.{extent_of}
@@ -29,7 +27,7 @@ contour_room t s c l = (omega (arith, s.long c l), omega (arith, s.within c l, s
 
 module _ (t : Table) (owner : List ℕ) (c : ℕ) where
   -- ---- what was found
-  module _ (r : ContourRecord) (e : looked_up t owner c ≡ lookup.Found r) where
+  module _ (r : ContourRecord) (e : looked_up t owner c ≡ Some r) where
     present : Present t owner c
     present = found_present t owner c r e
 
@@ -39,11 +37,11 @@ module _ (t : Table) (owner : List ℕ) (c : ℕ) where
     record_is : r ≡ record_of t owner c
     record_is = go (sym e ∙ found_record_lem t owner c present)
       where
-        held : Lookup → ContourRecord
-        held (lookup.Found s) = s
-        held lookup.Missing = r
+        held : Option ContourRecord → ContourRecord
+        held (Some s) = s
+        held None = r
 
-        go : lookup.Found r ≡ lookup.Found (record_of t owner c) → r ≡ record_of t owner c
+        go : Some r ≡ Some (record_of t owner c) → r ≡ record_of t owner c
         go q = ap held q
 
     pub first_is : r.first ≡ first_of t c

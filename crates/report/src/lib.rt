@@ -4,18 +4,18 @@
 ghost use Rattle.std.specs.Prelude.{◌≡◌, ◌+◌, ◌*◌, ◌≤◌, length};
 ghost use Rattle.turn.specs.Limits.{max_links};
 ghost use Rattle.turn.specs.Points.{Grid};
-ghost use Rattle.table.specs.Table.{Table, table};
+ghost use Rattle.table.specs.Table.{table_of};
 ghost use Rattle.report.specs.Reports.{values_with};
 ghost use Rattle.report.specs.Promises.{MeasuredSays, ValuesOfSays, ReportSays};
 
-use lookup::records::Lookup;
 use millimetres::Frame;
-use records::{Report, ReportValues};
+use records::{Measures, ReportValues};
+use table::Contours;
 
 pub mod records;
 
-// The report of the points from a position on, so many.
-pub fn measured(points: &[i32], first: u32, len: u32) -> Report
+// The area and the frame of the points from a position on, so many.
+pub fn measured(points: &[i32], first: u32, len: u32) -> Measures
     requires { (1 ≤ len) × ((first + len) * 2 ≤ length points.now) × (length points.now ≤ 2 * max_links) × (Grid points.now) }
     ensures { MeasuredSays points.now first len result }
 {
@@ -24,10 +24,7 @@ pub fn measured(points: &[i32], first: u32, len: u32) -> Report
     let run = &points[from..to];
     let area = millimetres::square_millimetres(turn::doubled_area(run));
     let frame = millimetres::frame_of(extent::extent_of(run));
-    Report::Contour {
-        area: area,
-        frame: frame,
-    }
+    Measures { area, frame }
 }
 
 // The values of a report that is there.
@@ -36,7 +33,7 @@ fn values_with(area: f64, frame: Frame) -> ReportValues
 {
     ReportValues {
         found: 1,
-        area: area,
+        area,
         left: frame.left,
         bottom: frame.bottom,
         right: frame.right,
@@ -45,12 +42,12 @@ fn values_with(area: f64, frame: Frame) -> ReportValues
 }
 
 // A report's values.
-pub fn values_of(r: Report) -> ReportValues
+pub fn values_of(r: Option<Measures>) -> ReportValues
     ensures { ValuesOfSays r result }
 {
     match r {
-        Report::Contour { area, frame } => values_with(area, frame),
-        Report::Missing => {
+        Some(m) => values_with(m.area, m.frame),
+        None => {
             let none = millimetres::no_number();
             ReportValues {
                 found: 0,
@@ -65,19 +62,9 @@ pub fn values_of(r: Report) -> ReportValues
 }
 
 // The report of one contour of any table.
-pub fn report(
-    points: &[i32],
-    first: &[u32],
-    len: &[u32],
-    kind: &[u8],
-    owner: &[u16],
-    contour: usize,
-) -> Report
-    ensures { (let t : Table = table points.now first.now len.now kind.now in
-        ReportSays t owner.now contour result) }
+pub fn report(contours: Contours, owner: &[u16], contour: usize) -> Option<Measures>
+    ensures { ReportSays (table_of contours.entry) owner.now contour result }
 {
-    match lookup::lookup(points, first, len, kind, owner, contour) {
-        Lookup::Found(found) => measured(points, found.first, found.len),
-        Lookup::Missing => Report::Missing,
-    }
+    let found = lookup::lookup(contours, owner, contour)?;
+    Some(measured(contours.points, found.first, found.len))
 }

@@ -1,14 +1,15 @@
-// What a report answers. (A type `Report` and a function `report` cannot stand in one module.)
+// What a report answers.
 use millimetres::Frame;
 
-// A contour's signed area in square millimetres and its frame in millimetres, or that there is no such contour.
+// A contour's signed area in square millimetres and its frame in millimetres.
 #[derive(Clone, Copy)]
-pub enum Report {
-    Contour { area: f64, frame: Frame },
-    Missing,
+pub struct Measures {
+    pub area: f64,
+    pub frame: Frame,
 }
 
 // The values of a report: found 1, with its numbers; found 0, and none of them a number.
+// By hand: the flag beside the values is the C interface's.
 #[derive(Clone, Copy)]
 pub struct ReportValues {
     pub found: u32,

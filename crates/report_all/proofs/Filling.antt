@@ -1,9 +1,9 @@
 -- The loop of `fill_lists`: the entries of the contours that it has passed stand in front of the old tails.
-use Prim.Native.Nat.{ℕ, ◌+◌, ◌≤◌, ◌<◌}
+use Rattle.std.specs.Prelude.{Option}
+use Prim.Native.Nat.{ℕ, ◌+◌, ◌≤◌, ◌<◌, min}
 use native.Mathlib.Omega.{arith}
 use native.Mathlib.Numerals.{add-one}
 use mathlib.Core.Path.{◌≡◌, refl, sym, ap, ap₂, ◌∙◌}
-use mathlib.Core.Bool.{Bool, true, false}
 use mathlib.Core.List.{List}
 use lib.Dec.{eqb}
 use lib.ListN.{length, set}
@@ -15,17 +15,18 @@ use Rattle.laws.specs.Copies.{Copying, copy_start, list_more, list_end}
 use Rattle.table.specs.Table.{Table, contour_count, kind_of, shape_of}
 use Rattle.table.specs.TableLaws.{bit_small}
 use Rattle.table.specs.Sound.{Sound}
-use Rattle.report.specs.declared.records.Report.{Report}
 use Rattle.report.specs.Reports.{reported, values_of_report}
 use Rattle.report.specs.declared.records.ReportValues.{ReportValues}
-use Rattle.report_all.specs.Columns.{Columns, Room, is_missing, stored, entry_at, missing_below, counted, all_entered}
+use Rattle.report_all.specs.Columns.{Columns, Room, is_missing, stored, entry_at, missing_below, shortest, counted, all_entered}
+use Rattle.report.specs.declared.records.Measures.{Measures}
 
--- ---- a contour's report, by whether its owner is right
-pub chosen : (b : Bool) (right : Bool) (r m n : Report) → b ≡ right → b ≡ true → r ≡ m → r ≡ pick right m n
-chosen b right r m n e f q = rw (sym e, f) q
+-- ---- the least of six, one after another
+in_turn : (a b c : ℕ) → min a (min b c) ≡ min (min a b) c
+in_turn a b c = omega arith
 
-pub passed_over : (b : Bool) (right : Bool) (m n : Report) → b ≡ right → b ≡ false → n ≡ pick right m n
-passed_over b right m n e f = rw (sym e, f)
+pub least : (owner area left bottom right top : ℕ) {m₁ m₂ m₃ m₄ m₅ : ℕ} → m₁ ≡ min owner area → m₂ ≡ min m₁ left → m₃ ≡ min m₂ bottom → m₄ ≡ min m₃ right
+    → m₅ ≡ min m₄ top → shortest owner area left bottom right top ≡ m₅
+least owner area left bottom right top e₁ e₂ e₃ e₄ e₅ = rw (e₅, e₄, e₃, e₂, e₁) (simp in_turn refl)
 
 -- ---- before contour c
 -- of one list, whose entries are a part of each contour's
@@ -33,7 +34,6 @@ abbrev Column : Table → List ℕ → (ReportValues → Float) → List Float �
 Column t owner part old new c = Copying old new (tabulate (λ i. part (entry_at t owner i)) (contour_count t)) c
 
 pub record Filling (t : Table) (owner : List ℕ) (old new : Columns) (c shape missing : ℕ) : Type 0 where
-  pub within : c ≤ contour_count t
   pub shape_is : shape ≡ shape_of t c
   pub shape_few : shape ≤ c
   pub missing_is : missing ≡ missing_below t owner c
@@ -47,7 +47,6 @@ pub record Filling (t : Table) (owner : List ℕ) (old new : Columns) (c shape m
 pub filling_start : (t : Table) (owner : List ℕ) (old : Columns) → Filling t owner old old 0 0 0
 unfolding sum
 filling_start t owner old = record {
-  within = omega arith;
   shape_is = sym (count_none 0 t.kind);
   shape_few = omega arith;
   missing_is = refl;
@@ -65,12 +64,11 @@ one_more f n = rw (add-one n) (omega arith)
 
 module _ {t : Table} {owner : List ℕ} {old new : Columns} {c shape missing : ℕ} (s : Sound t) (room : Room old (contour_count t))
     (g : Filling t owner old new c shape missing) where
-  pub filling_more : (r : Report) (v : ReportValues) (after : Columns)
+  pub filling_more : (r : Option Measures) (v : ReportValues) (after : Columns)
       (shape' missing' : ℕ) → c < contour_count t → r ≡ reported t owner c → v ≡ values_of_report r
       → after ≡ stored new c v → shape' ≡ shape + pick (eqb (kind_of t c) 0) 1 0 → missing' ≡ missing + pick (is_missing r) 1 0
       → Filling t owner old after (c + 1) shape' missing'
   filling_more r v after shape' missing' l er ee ea es em = record {
-    within = omega arith;
     shape_is = es ∙ ap (λ n. n + pick (eqb (kind_of t c) 0) 1 0) g.shape_is ∙ sym (count_more 0 t.kind c (omega (arith, s.kind_long)));
     shape_few = omega (arith, g.shape_few, bit_small (eqb (kind_of t c) 0));
     missing_is =
@@ -96,9 +94,9 @@ module _ {t : Table} {owner : List ℕ} {old new : Columns} {c shape missing : �
     omega (arith, room.4, g.top.len),
   )
 
-  pub filling_end : contour_count t ≤ c → counted missing new ≡ all_entered t owner old
-  filling_end h =
-      let q : c ≡ contour_count t = omega (arith, g.within) in
+  pub filling_end : c ≡ contour_count t → counted missing new ≡ all_entered t owner old
+  filling_end q =
+      let h : contour_count t ≤ c = omega arith in
       λ i. counted ((g.missing_is ∙ ap (missing_below t owner) q) i) (record {
         area = list_end nan (λ i. (entry_at t owner i).area) _ _ _ c g.area h i;
         left = list_end nan (λ i. (entry_at t owner i).left) _ _ _ c g.left h i;

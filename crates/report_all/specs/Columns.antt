@@ -1,19 +1,18 @@
 -- The reports of a whole table (request d): five lists with an entry for each contour, which is what its report answers.
-use Rattle.std.specs.Prelude.{ℕ, ◌≤◌, min, Bool, true, false, List, length, get_or, set, Float}
+use Rattle.std.specs.Prelude.{ℕ, ◌≤◌, min, Bool, true, false, List, length, get_or, set, Float, Option, Some, None, Result, Ok, Err}
 use Rattle.laws.specs.Test.{pick}
 use Rattle.laws.specs.Count.{sum}
 use Rattle.laws.specs.Lists.{tabulate, over_front}
-use Rattle.turn.specs.declared.Checked.{Checked}
-use Rattle.turn.specs.declared.Checked.TheVariants as check
 use Rattle.table.specs.Table.{Table, contour, contour_count, kind_of}
 use Rattle.table.specs.TableChecks.{table_checked}
 use Rattle.lookup.specs.Lookups.{owner_right}
-use Rattle.report.specs.declared.records.Report.{Report}
-use Rattle.report.specs.declared.records.Report.TheVariants.{Contour, Missing}
 use Rattle.report.specs.declared.records.ReportValues.{ReportValues}
 use Rattle.report.specs.Reports.{measured, reported, values_of_report}
-use Rattle.report_all.specs.declared.records.Reports.{Reports}
-use Rattle.report_all.specs.declared.records.Reports.TheVariants.{Filled, Refused}
+use Rattle.turn.specs.Reasons.{number_of}
+use Rattle.turn.specs.Refusals.{Checked}
+use Rattle.turn.specs.declared.Refusal.{Refusal}
+use Rattle.report.specs.declared.records.Measures.{Measures}
+use Rattle.report_all.specs.declared.records.Filled.{Filled}
 
 -- ---- the lists
 pub record Columns : Type 0 where
@@ -38,9 +37,9 @@ abbrev pub room_of : List ℕ → Columns → ℕ
 room_of owner k = shortest (length owner) (length k.area) (length k.left) (length k.bottom) (length k.right) (length k.top)
 
 -- ---- the entries
-abbrev pub is_missing : Report → Bool
-is_missing (Contour area frame) = false
-is_missing Missing = true
+abbrev pub is_missing : Option Measures → Bool
+is_missing (Some m) = false
+is_missing None = true
 
 -- entry c of each list
 abbrev pub stored : Columns → ℕ → ReportValues → Columns
@@ -72,6 +71,9 @@ counted missing lists = record { missing = missing; lists = lists }
 abbrev pub all_entered : Table → List ℕ → Columns → Counted
 all_entered t owner k = counted (missing_below t owner (contour_count t)) (entered (entry_at t owner) (contour_count t) k)
 
+abbrev pub filled : (contours missing : ℕ) → Result Filled Refusal
+filled contours missing = Ok (record { contours = contours; missing = missing })
+
 -- ---- document 01's number and place, and the counts, for each case of an answer
 pub record ReportsValues : Type 0 where
   pub number : ℕ
@@ -79,28 +81,28 @@ pub record ReportsValues : Type 0 where
   pub contours : ℕ
   pub missing : ℕ
 
-abbrev pub values_of_reports : Reports → ReportsValues
-values_of_reports (Filled contours missing) = record { number = 0; place = 0; contours = contours; missing = missing }
-values_of_reports (Refused number place) = record { number = number; place = place; contours = 0; missing = 0 }
+abbrev pub values_of_reports : Result Filled Refusal → ReportsValues
+values_of_reports (Ok f) = record { number = 0; place = 0; contours = f.contours; missing = f.missing }
+values_of_reports (Err r) = record { number = number_of r.reason; place = r.place; contours = 0; missing = 0 }
 
 -- ---- the answer with its values, and the lists
 pub record Reporting : Type 0 where
-  pub answer : Reports
+  pub answer : Result Filled Refusal
   pub values : ReportsValues
   pub lists : Columns
 
-abbrev pub reporting : Reports → Columns → Reporting
+abbrev pub reporting : Result Filled Refusal → Columns → Reporting
 reporting answer lists = record { answer = answer; values = values_of_reports answer; lists = lists }
 
 -- check 10 is asked once, with the room of the shortest list; after a refusal nothing has changed
 abbrev pub reported_after : Checked → Table → List ℕ → Columns → Reporting
-reported_after check.Fine t owner k = reporting (Filled (contour_count t) (all_entered t owner k).missing) (all_entered t owner k).lists
-reported_after (check.Refused number place) t owner k = reporting (Refused number place) k
+reported_after (Ok u) t owner k = reporting (filled (contour_count t) (all_entered t owner k).missing) (all_entered t owner k).lists
+reported_after (Err r) t owner k = reporting (Err r) k
 
 unfoldable pub reported_all : Table → List ℕ → Columns → Reporting
 reported_all t owner k = reported_after (table_checked t (room_of owner k)) t owner k
 
 -- ---- one contour, of a table that passes check 10
 -- by its own shape number, were it a hull's, and the number of hulls
-abbrev pub report_at : Table → List ℕ → ℕ → (shape hulls : ℕ) → Report
-report_at t owner c shape hulls = pick (owner_right (kind_of t c) (get_or owner c 0) shape hulls) (measured (contour t c)) Missing
+abbrev pub report_at : Table → List ℕ → ℕ → (shape hulls : ℕ) → Option Measures
+report_at t owner c shape hulls = pick (owner_right (kind_of t c) (get_or owner c 0) shape hulls) (Some (measured (contour t c))) None

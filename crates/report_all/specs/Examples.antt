@@ -9,8 +9,9 @@ use Rattle.table.specs.TableChecks.{table_checked}
 use Rattle.table.specs.Examples.{e9}
 use Rattle.lookup.specs.Lookups.{looked_up}
 use Rattle.report.specs.Reports.{reported}
-use Rattle.report_all.specs.declared.records.Reports.TheVariants.{Filled, Refused}
-use Rattle.report_all.specs.Columns.{Columns, columns, reported_all}
+use Rattle.report_all.specs.Columns.{Columns, columns, filled, reported_all}
+use Rattle.turn.specs.Refusals.{refused}
+use Rattle.turn.specs.declared.Reason.TheVariants.{WrongTable}
 
 -- what stands in a list before the call
 abbrev soiled : List Float
@@ -22,7 +23,7 @@ lent = columns soiled soiled soiled soiled soiled
 abbrev bits : List Float → List ℕ
 bits l = map (to_bits binary64) l
 
-e9_answer : (reported_all e9 (0 ∷ 0 ∷ 1 ∷ 1 ∷ []) lent).answer ≡ Filled 4 1
+e9_answer : (reported_all e9 (0 ∷ 0 ∷ 1 ∷ 1 ∷ []) lent).answer ≡ filled 4 1
 unfolding reported_all reported looked_up table_checked lowest count sum
 e9_answer = refl
 
@@ -38,7 +39,7 @@ unfolding reported_all reported looked_up table_checked lowest count tabulate to
 e9_lefts = refl
 
 -- one list too short, and all is as it was
-cramped : ((reported_all e9 (0 ∷ 1 ∷ 1 ∷ 1 ∷ []) (columns soiled soiled soiled (inf true ∷ inf true ∷ inf true ∷ []) soiled)).answer ≡ Refused 10 0)
+cramped : ((reported_all e9 (0 ∷ 1 ∷ 1 ∷ 1 ∷ []) (columns soiled soiled soiled (inf true ∷ inf true ∷ inf true ∷ []) soiled)).answer ≡ refused WrongTable 0)
     × ((reported_all e9 (0 ∷ 1 ∷ 1 ∷ 1 ∷ []) (columns soiled soiled soiled (inf true ∷ inf true ∷ inf true ∷ []) soiled)).lists.area ≡ soiled)
 unfolding reported_all table_checked lowest
 cramped = (refl, refl)

@@ -1,5 +1,5 @@
 -- A contour lent by itself, as a table of one hull with owner 0, is reported: one of a table that passes check 10, with its straight points or without.
-use Rattle.std.specs.Prelude.{ℕ, zero, suc, ◌+◌, ◌≤◌, ◌<◌, ◌≡◌, Bool, true, false, ℤ, pos, length, get_or, take, drop}
+use Rattle.std.specs.Prelude.{ℕ, zero, suc, ◌+◌, ◌≤◌, ◌<◌, ◌≡◌, Bool, true, false, ℤ, pos, length, get_or, take, drop, Some, Ok}
 use Rattle.std.proofs.Common.{arith, not-suc-le-zero, add-one, ap₂, ◌∙◌, subst, ⊎_elim, length-take, length-drop, le-ltb, take_all, get_or-take, get_or-drop}
 use Rattle.std.proofs.Math.Decide.{ℕ_discrete}
 use Rattle.std.proofs.Math.Path.{refl, sym, ap}
@@ -11,7 +11,6 @@ use Rattle.laws.specs.Count.{count}
 use Rattle.laws.specs.Ring.{ring, var, con, ◌:-◌, ◌:*◌}
 use Rattle.turn.specs.Limits.{max_links}
 use Rattle.turn.specs.declared.Point.{Point}
-use Rattle.turn.specs.declared.Checked.TheVariants.{Fine}
 use Rattle.turn.specs.Points.{differ, OnGrid, turn}
 use Rattle.turn.specs.Area.{points_of}
 use Rattle.turn.specs.PointOrder.{same_of_differ}
@@ -20,7 +19,6 @@ use Rattle.walk.specs.Walk.{Walk, points}
 use Rattle.keep.specs.declared.Counts.{Counts}
 use Rattle.keep.specs.Outcome.{kept, lens, coordinates}
 use Rattle.keep.specs.Ledger.{coordinates_length, points_back, firsts_length}
-use Rattle.scan.specs.declared.Extraction.TheVariants.{Done}
 use Rattle.finish.specs.Finish.{Buffers}
 use Rattle.extraction.specs.Extract.{extracted_as, extracted}
 use Rattle.outlines.specs.Straightening.{AllSpikeless, kept_spikeless}
@@ -42,6 +40,7 @@ use Rattle.report.proofs.Reported.{measured_is}
 use Rattle.report.specs.ReportLaws.{points_few, on_grid}
 use Rattle.straight.specs.Straight.{on_line, head_or, last_or, without, remove_lowest, removal, removals, drop_straight}
 use Rattle.straight.specs.Corners.{Spikeless, corners, all_corners, corners_left, corners_few, enough}
+use Rattle.turn.specs.Refusals.{no_fault}
 
 abbrev pub alone : List Point → Table
 alone l = table (coordinates l) (0 ∷ []) (length l ∷ []) (0 ∷ [])
@@ -83,18 +82,18 @@ module _ (l : List Point) (three : 3 ≤ length l) (few : length l ≤ max_links
           let z : 0 + length l ≡ length l = omega arith in
           ap₂ differ (coordinates_at l p) (ap (λ n. point (alone l) (next_in 0 n p)) z ∙ coordinates_at l (next_in 0 (length l) p)) ∙ apart p (omega arith)
 
-  pub alone_fine : table_checked (alone l) 1 ≡ Fine
+  pub alone_fine : table_checked (alone l) 1 ≡ no_fault
   alone_fine = (passes_sound (alone l) 1).from (alone_sound, omega arith)
 
   contour_alone : contour (alone l) 0 ≡ l
   contour_alone = ap (take (length l)) (points_back l) ∙ take_all (length l) l (omega arith)
 
   -- its report is that of its points
-  pub alone_reported : reported (alone l) (0 ∷ []) 0 ≡ measured l
+  pub alone_reported : reported (alone l) (0 ∷ []) 0 ≡ Some (measured l)
   unfolding count
   alone_reported =
       sym (measured_is (alone l) (0 ∷ []) 0 _ (found_record_lem (alone l) (0 ∷ []) 0 (record { below = omega arith; passes = alone_fine; owned = refl })))
-      ∙ ap measured contour_alone
+      ∙ ap (λ x. Some (measured x)) contour_alone
 
 -- ---- a contour of a table that passes check 10
 module _ (t : Table) (s : Sound t) (c : ℕ) (l : c < contour_count t) where
@@ -134,7 +133,7 @@ module _ (t : Table) (s : Sound t) (c : ℕ) (l : c < contour_count t) where
           (next_inside (first_of t c) (range_end t c) (first_of t c + k) (omega (arith, in_range)) ∙ z)
 
   -- The theorem: it is reported by itself.
-  pub contour_reported : reported (alone (contour t c)) (0 ∷ []) 0 ≡ measured (contour t c)
+  pub contour_reported : reported (alone (contour t c)) (0 ∷ []) 0 ≡ Some (measured (contour t c))
   contour_reported =
       alone_reported (contour t c) (omega (arith, contour_long, s.long c l)) (points_few t s c l) (on_grid t s c l) contour_apart
 
@@ -235,7 +234,7 @@ corners_of_lem (p ∷ l) q m = kept_of (last_or p l) p (p ∷ l) q m
 
 -- The theorem: a contour without a spike, as extraction writes it without its straight points, is reported by itself.
 pub straight_reported : (l : List Point) → Spikeless l → 3 ≤ length l → length l ≤ max_links → AllOn l
-    → reported (alone (drop_straight l)) (0 ∷ []) 0 ≡ measured (drop_straight l)
+    → reported (alone (drop_straight l)) (0 ∷ []) 0 ≡ Some (measured (drop_straight l))
 straight_reported l s h few on =
     let c = corners_left l s h in
     let three : 3 ≤ length (drop_straight l) = rw c.0 c.1 in
@@ -249,9 +248,10 @@ one_of g (w ∷ ks) a zero h = a.0.0
 one_of g (w ∷ ks) a (suc c) h = one_of g ks a.1 c (omega arith)
 
 -- The theorem: each contour of a table that extraction wrote is reported by itself without its straight points too.
-module _ (g : Lent) (top : List ℕ) (cw : Bool) (minimum : ℕ) (b b' : Buffers) (n : Counts) (h : extracted_as (Done n) b' ≡ extracted g top cw minimum b) where
+module _ (g : Lent) (top : List ℕ) (cw : Bool) (minimum : ℕ) (b b' : Buffers) (n : Counts) (h : extracted_as (Ok n) b' ≡ extracted g top cw minimum b) where
   pub written_reported : (c : ℕ) → c < contour_count (written_table n b')
-      → reported (alone (drop_straight (contour (written_table n b') c))) (0 ∷ []) 0 ≡ measured (drop_straight (contour (written_table n b') c))
+      → reported (alone (drop_straight (contour (written_table n b') c))) (0 ∷ []) 0
+      ≡ Some (measured (drop_straight (contour (written_table n b') c)))
   written_reported c l = subst So (sym q.table_is) go l
     where
       q : Ran g top cw minimum b b' n
@@ -267,7 +267,7 @@ module _ (g : Lent) (top : List ℕ) (cw : Bool) (minimum : ℕ) (b b' : Buffers
       sound = table_sound g top b.state _ q.fine_graph cw minimum q.all q.states q.scanned_as
 
       So : Table → Type 0
-      So u = c < contour_count u → reported (alone (drop_straight (contour u c))) (0 ∷ []) 0 ≡ measured (drop_straight (contour u c))
+      So u = c < contour_count u → reported (alone (drop_straight (contour u c))) (0 ∷ []) 0 ≡ Some (measured (drop_straight (contour u c)))
 
       go : So t
       go m =

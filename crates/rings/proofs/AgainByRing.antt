@@ -1,13 +1,12 @@
 -- Rule 1 asked again at a `Cross`, once the link that it named is visited: by the ring
 -- it is rule 3, clockwise from that link. All that stands after it in the ring stays visited.
-use Rattle.std.specs.Prelude.{ℕ, ◌≤◌, ◌<◌, ◌≡◌, refl, true, false, length}
+use Rattle.std.specs.Prelude.{ℕ, ◌≤◌, ◌<◌, ◌≡◌, refl, true, false, length, Some}
 use Rattle.std.proofs.Common.{sym, ap, ◌∙◌, subst, ⊎_elim}
 use mathlib.Core.List.Memᴰ
 use mathlib.Core.List.{List, [], ◌∷◌, reverse, reverse_aux-append}
 use Rattle.laws.specs.Test.{not_true}
 use Rattle.graph.specs.Graph.{Graph}
 use Rattle.graph.specs.Fine.{FineLinks, FineLists, OnePoint}
-use Rattle.next.specs.declared.Next.TheVariants.{Link}
 use Rattle.next.specs.Next.{is_unvisited, first_link}
 use Rattle.next.specs.Choice.{Mem}
 use Rattle.rings.specs.RingOrder.{Spread}
@@ -24,7 +23,7 @@ use Rattle.rings.specs.AgainByRing.{NamedAgain, Shut, Unvisited, first_unvisited
 
 -- ---- the last unvisited link of a list, once that one is visited, is the first met back from it
 module _ (s t l : List ℕ) (opens : (x : ℕ) → is_unvisited t x ≡ true → is_unvisited s x ≡ true) (f : ℕ)
-    (named : last_unvisited s l ≡ Link f) (visited : is_unvisited t f ≡ false) (once : Mem f (after f l) → ⊥) where
+    (named : last_unvisited s l ≡ Some f) (visited : is_unvisited t f ≡ false) (once : Mem f (after f l) → ⊥) where
   here : Unvisited s (reverse l) f
   here = first_unvisited_lem s (reverse l) f named
 
@@ -32,7 +31,7 @@ module _ (s t l : List ℕ) (opens : (x : ℕ) → is_unvisited t x ≡ true →
   in_list = of_reverse l here.among
 
   over : last_or s f (after f l) ≡ f
-  over = let q : Link (last_or s f (after f l)) ≡ Link f = sym (last_from s l f in_list here.fresh) ∙ named in cc
+  over = let q : Some (last_or s f (after f l)) ≡ Some f = sym (last_from s l f in_list here.fresh) ∙ named in cc
 
   shut : Shut t (after f l)
   shut x m = not_true (is_unvisited t x)
@@ -50,14 +49,14 @@ module _ {g : Graph} {m : ℕ} (links : FineLinks g m) (lists : FineLists g m) (
     (cross : length (g.entries (g.a_node k)) ≡ 2 → ⊥)
     (s t : List ℕ) (in_s : Marked g state (g.a_node k) s) (in-t : Marked g state (g.a_node k) t)
     (opens : (x : ℕ) → is_unvisited t x ≡ true → is_unvisited s x ≡ true) (o : is_unvisited t k ≡ true)
-    (lowest : (x : ℕ) → is_unvisited s x ≡ true → k ≤ x) (f : ℕ) (named : first_link g s k ≡ Link f) where
+    (lowest : (x : ℕ) → is_unvisited s x ≡ true → k ≤ x) (f : ℕ) (named : first_link g s k ≡ Some f) where
   abbrev v : ℕ
   v = g.a_node k
 
   none_in_s : NoneEnds g s v
   none_in_s = none_ends links lists point k below s (opens k o) lowest
 
-  last_is_f : last_unvisited s l ≡ Link f
+  last_is_f : last_unvisited s l ≡ Some f
   last_is_f = sym (first_by_ring links lists point k below s (opens k o) none_in_s cross ring in_s) ∙ named
 
   found : Unvisited s (reverse l) f

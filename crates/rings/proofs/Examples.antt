@@ -1,14 +1,12 @@
 -- Worked examples: a `Cross` of four links, and one of six of which
 -- one is skipped, one runs straight up and one straight down.
-use Rattle.std.specs.Prelude.{ℕ, ◌≡◌, refl, Bool, true, false, List, [], ◌∷◌, ℤ, pos, neg_ℤ, get_or}
+use Rattle.std.specs.Prelude.{ℕ, ◌≡◌, refl, Bool, true, false, List, [], ◌∷◌, ℤ, pos, neg_ℤ, get_or, Some, None}
 use Rattle.std.proofs.Common.{arith}
 use Rattle.laws.specs.Lowest.{lowest}
 use Rattle.laws.specs.Count.{count}
-use Rattle.turn.specs.declared.Checked.TheVariants.{Fine}
 use Rattle.graph.specs.Graph.{Lent, lent, Graph, graph_of}
 use Rattle.graph.specs.Checks.{room, nodes_checked, each_checked, links_checked, checked}
 use Rattle.graph.specs.Fine.{fine}
-use Rattle.next.specs.declared.Next.TheVariants.{Link, Nothing}
 use Rattle.next.specs.Next.{is_unvisited, next_link, first_link}
 use Rattle.next.specs.Choice.{Mem}
 use Rattle.rings.specs.Ends.{end_of}
@@ -18,6 +16,7 @@ use Rattle.rings.specs.NextByRing.{marked_entry}
 use Rattle.rings.proofs.NextByRing.{next_by_ring}
 use Rattle.rings.specs.Linked.{Linked}
 use Rattle.rings.specs.RingTest.{is_ring, ring_test}
+use Rattle.turn.specs.Refusals.{no_fault}
 
 abbrev p : ℕ → ℤ
 p = pos
@@ -46,7 +45,7 @@ unvisited6 = 0 ∷ 0 ∷ 0 ∷ 0 ∷ 0 ∷ 0 ∷ []
 abbrev bow_graph : Graph
 bow_graph = graph_of bow bow_tops
 
-bow_fine : checked bow bow_tops unvisited6 (room 12 2 2 2) ≡ Fine
+bow_fine : checked bow bow_tops unvisited6 (room 12 2 2 2) ≡ no_fault
 unfolding checked links_checked each_checked nodes_checked lowest count
 bow_fine = refl
 
@@ -74,19 +73,19 @@ abbrev walked_all : List ℕ
 walked_all = 0 ∷ 3 ∷ 3 ∷ 3 ∷ 3 ∷ 0 ∷ []
 
 -- from link 1, counterclockwise and clockwise
-bow_next : (next_link bow_graph false walked1 2 1 ≡ Link 3) × (next_link bow_graph true walked1 2 1 ≡ Link 2)
+bow_next : (next_link bow_graph false walked1 2 1 ≡ Some 3) × (next_link bow_graph true walked1 2 1 ≡ Some 2)
 unfolding next_link
 bow_next = (refl, refl)
 
 -- from link 4: past the ring's end; past visited links; where none is left
-bow_later : (next_link bow_graph false walked14 2 4 ≡ Link 2) × (next_link bow_graph false walked124 2 4 ≡ Link 3)
-    × (next_link bow_graph true walked_all 2 4 ≡ Nothing)
+bow_later : (next_link bow_graph false walked14 2 4 ≡ Some 2) × (next_link bow_graph false walked124 2 4 ≡ Some 3)
+    × (next_link bow_graph true walked_all 2 4 ≡ None)
 unfolding next_link
 bow_later = (refl, refl, refl)
 
-bow_by_ring : (first_unvisited walked14 (round_from false 4 bow_ring) ≡ Link 2)
-    × (first_unvisited walked124 (round_from false 4 bow_ring) ≡ Link 3)
-    × (first_unvisited walked_all (round_from true 4 bow_ring) ≡ Nothing)
+bow_by_ring : (first_unvisited walked14 (round_from false 4 bow_ring) ≡ Some 2)
+    × (first_unvisited walked124 (round_from false 4 bow_ring) ≡ Some 3)
+    × (first_unvisited walked_all (round_from true 4 bow_ring) ≡ None)
 bow_by_ring = (refl, refl, refl)
 
 -- as the law has it, for every state that is reached from the entry states
@@ -111,7 +110,7 @@ bow_linked = record { next = (refl, (refl, (refl, refl))); back = (refl, (refl, 
 abbrev scanned3 : List ℕ
 scanned3 = 3 ∷ 3 ∷ 3 ∷ 0 ∷ 0 ∷ 0 ∷ []
 
-bow_first : (first_link bow_graph scanned3 3 ≡ Link 4) × (last_unvisited scanned3 bow_ring ≡ Link 4)
+bow_first : (first_link bow_graph scanned3 3 ≡ Some 4) × (last_unvisited scanned3 bow_ring ≡ Some 4)
 unfolding first_link
 bow_first = (refl, refl)
 
@@ -137,7 +136,7 @@ fan_states = 0 ∷ 0 ∷ 0 ∷ 0 ∷ 0 ∷ 0 ∷ 0 ∷ 1 ∷ 0 ∷ 0 ∷ 0 ∷ 0
 abbrev fan_graph : Graph
 fan_graph = graph_of fan fan_tops
 
-fan_fine : checked fan fan_tops fan_states (room 24 4 4 4) ≡ Fine
+fan_fine : checked fan fan_tops fan_states (room 24 4 4 4) ≡ no_fault
 unfolding checked links_checked each_checked nodes_checked lowest count
 fan_fine = refl
 
@@ -155,15 +154,15 @@ walked36 = 0 ∷ 0 ∷ 0 ∷ 3 ∷ 0 ∷ 0 ∷ 3 ∷ 1 ∷ 0 ∷ 0 ∷ 0 ∷ 0 �
 abbrev only8 : List ℕ
 only8 = 0 ∷ 2 ∷ 0 ∷ 3 ∷ 0 ∷ 2 ∷ 3 ∷ 1 ∷ 0 ∷ 0 ∷ 0 ∷ 0 ∷ []
 
-fan_next : (next_link fan_graph false walked36 2 6 ≡ Link 8) × (next_link fan_graph true walked36 2 6 ≡ Link 1)
-    × (next_link fan_graph false only8 2 5 ≡ Link 8) × (next_link fan_graph true only8 2 5 ≡ Link 8)
+fan_next : (next_link fan_graph false walked36 2 6 ≡ Some 8) × (next_link fan_graph true walked36 2 6 ≡ Some 1)
+    × (next_link fan_graph false only8 2 5 ≡ Some 8) × (next_link fan_graph true only8 2 5 ≡ Some 8)
 unfolding next_link
 fan_next = (refl, refl, refl, refl)
 
-fan_by_ring : (first_unvisited walked36 (round_from false 6 fan_ring) ≡ Link 8)
-    × (first_unvisited walked36 (round_from true 6 fan_ring) ≡ Link 1)
-    × (first_unvisited only8 (round_from false 5 fan_ring) ≡ Link 8)
-    × (first_unvisited only8 (round_from true 5 fan_ring) ≡ Link 8)
+fan_by_ring : (first_unvisited walked36 (round_from false 6 fan_ring) ≡ Some 8)
+    × (first_unvisited walked36 (round_from true 6 fan_ring) ≡ Some 1)
+    × (first_unvisited only8 (round_from false 5 fan_ring) ≡ Some 8)
+    × (first_unvisited only8 (round_from true 5 fan_ring) ≡ Some 8)
 fan_by_ring = (refl, refl, refl, refl)
 
 -- the scan stands at link 5, which runs straight up and so is the last of the ring; then, with 5 walked, at link 6
@@ -173,8 +172,8 @@ scanned5 = 2 ∷ 2 ∷ 2 ∷ 2 ∷ 2 ∷ 0 ∷ 0 ∷ 1 ∷ 0 ∷ 0 ∷ 0 ∷ 0 �
 abbrev scanned6 : List ℕ
 scanned6 = 2 ∷ 2 ∷ 2 ∷ 2 ∷ 2 ∷ 3 ∷ 0 ∷ 1 ∷ 0 ∷ 0 ∷ 0 ∷ 0 ∷ []
 
-fan_first : (first_link fan_graph scanned5 5 ≡ Link 5) × (first_link fan_graph scanned6 6 ≡ Link 8)
-    × (last_unvisited scanned5 fan_ring ≡ Link 5) × (last_unvisited scanned6 fan_ring ≡ Link 8)
+fan_first : (first_link fan_graph scanned5 5 ≡ Some 5) × (first_link fan_graph scanned6 6 ≡ Some 8)
+    × (last_unvisited scanned5 fan_ring ≡ Some 5) × (last_unvisited scanned6 fan_ring ≡ Some 8)
 unfolding first_link
 fan_first = (refl, refl, refl, refl)
 

@@ -1,6 +1,6 @@
 -- Rule 1 by the ring: at a `Cross` where no unvisited link ends, as at the
 -- scan's, the first link is the last unvisited one of the ring.
-use Rattle.std.specs.Prelude.{ℕ, ◌≤◌, ◌<◌, ◌≡◌, refl, ◌⊎◌, Bool, true, false, List, [], ◌∷◌, reverse, pos, length}
+use Rattle.std.specs.Prelude.{ℕ, ◌≤◌, ◌<◌, ◌≡◌, refl, ◌⊎◌, Bool, true, false, List, [], ◌∷◌, reverse, pos, length, Some}
 use Rattle.std.proofs.Common.{sym, ap, ◌∙◌, subst, inl, inr, ⊎_elim, eq-eqb}
 use mathlib.Core.List.Memᴰ
 use Rattle.std.specs.Int.Signed.{lt_z}
@@ -9,7 +9,6 @@ use Rattle.turn.specs.declared.Point.{Point}
 use Rattle.turn.specs.Points.{before, from_to, cross}
 use Rattle.graph.specs.Graph.{Graph}
 use Rattle.graph.specs.Fine.{FineLinks, FineLists, OnePoint}
-use Rattle.next.specs.declared.Next.TheVariants.{Link}
 use Rattle.next.specs.Next.{is_unvisited, topmost, first_link}
 use Rattle.next.specs.Choice.{Mem}
 use Rattle.next.specs.Topmost.{Starts, Topmost, counterclockwise, first_at_cross, first_among, first_topmost}
@@ -22,15 +21,15 @@ use Rattle.rings.specs.NextByRing.{Marked}
 
 -- the first unvisited link of a sorted list is the one that no other stands before
 first_of : (R : Order) (st l : List ℕ) (r : ℕ) → Sorted R l → Mem r l → is_unvisited st r ≡ true
-    → ((x : ℕ) → Mem x l → is_unvisited st x ≡ true → R x r → ⊥) → first_unvisited st l ≡ Link r
+    → ((x : ℕ) → Mem x l → is_unvisited st x ≡ true → R x r → ⊥) → first_unvisited st l ≡ Some r
 first_of R st [] r s m o h = absurd (Memᴰ.not-nil m)
 first_of R st (x ∷ l) r s m o h =
     at (is_unvisited st x) refl (Memᴰ.cases_cons m)
     (λ k. first_of R st l r s.1 k o (λ y i. h y (Memᴰ.tail i)))
   where
-    at : (b : Bool) → is_unvisited st x ≡ b → (r ≡ x) ⊎ Mem r l → (Mem r l → first_unvisited st l ≡ Link r)
-        → first_unvisited st (x ∷ l) ≡ Link r
-    at true t (inl q) rest = first_found st x l t ∙ ap Link (sym q)
+    at : (b : Bool) → is_unvisited st x ≡ b → (r ≡ x) ⊎ Mem r l → (Mem r l → first_unvisited st l ≡ Some r)
+        → first_unvisited st (x ∷ l) ≡ Some r
+    at true t (inl q) rest = first_found st x l t ∙ ap Some (sym q)
     at true t (inr k) rest = absurd (h x (Memᴰ.head refl) t (s.0 r k))
     at false n (inl q) rest = absurd (true≢false o (subst (λ y. is_unvisited st y ≡ false) (sym q) n))
     at false n (inr k) rest = first_later st x l n ∙ rest k

@@ -1,11 +1,10 @@
 -- Where the loop over a linked ring starts, and that what it ends with is the next link by rule 3.
-use Rattle.std.specs.Prelude.{ℕ, ◌≤◌, ◌<◌, ◌≡◌, Bool, true, false, List, length}
+use Rattle.std.specs.Prelude.{ℕ, ◌≤◌, ◌<◌, ◌≡◌, Bool, true, false, List, length, Option}
 use Rattle.std.proofs.Common.{sym, subst}
 use Rattle.laws.specs.Test.{true_is}
 use Rattle.turn.specs.Angular.{irreflexive}
 use Rattle.graph.specs.Graph.{Graph}
 use Rattle.graph.specs.Checks.{away_from}
-use Rattle.next.specs.declared.Next.{Next}
 use Rattle.next.specs.Next.{is_unvisited, met_first, next_link}
 use Rattle.next.specs.Choice.{Mem}
 use Rattle.rings.specs.Ends.{end_of}
@@ -48,7 +47,7 @@ module _ {g : Graph} {state : List ℕ} {v n : ℕ} (sp : Spread g state v) (bel
 
   pub loop_start : Left g v home (step_of sense nxt prv) n st (next_link g sense st v e) home
   loop_start =
-      subst (λ (a : Next). Left g v home (step_of sense nxt prv) n st a home)
+      subst (λ (a : Option ℕ). Left g v home (step_of sense nxt prv) n st a home)
       (sym (next_by_ring sp r cross st marked e m visited sense))
       (from_start g v home (step_of sense nxt prv) e is_home {rest = round} (linked_round at_node.linked e m sense)
       (not_round sp r e m sense)

@@ -1,5 +1,5 @@
 -- Where every node of a fine graph is laid, the lists steer a walk and name the first links.
-use Rattle.std.specs.Prelude.{ℕ, suc, ◌*◌, ◌≤◌, ◌<◌, ◌≡◌, refl, ◌⊎◌, Bool, true, false, length, get_or}
+use Rattle.std.specs.Prelude.{ℕ, suc, ◌*◌, ◌≤◌, ◌<◌, ◌≡◌, refl, ◌⊎◌, Bool, true, false, length, get_or, Some}
 use Rattle.std.proofs.Common.{arith, sym, ◌∙◌, subst, inl, inr, ⊎_elim, eq-eqb}
 use Rattle.std.proofs.Math.Decide.{ℕ_discrete}
 use Rattle.std.proofs.Math.Path.{ap}
@@ -9,7 +9,6 @@ use Rattle.laws.specs.Test.{pick_ind, pick_true}
 use Rattle.turn.specs.Limits.{max_links}
 use Rattle.graph.specs.Graph.{Graph}
 use Rattle.graph.specs.Fine.{FineLinks, FineLists, OnePoint, FineBand}
-use Rattle.next.specs.declared.Next.TheVariants.{Link}
 use Rattle.next.specs.States.{unvisited_read}
 use Rattle.next.specs.Next.{is_unvisited, only_unvisited, next_link, first_at, first_link, node_of}
 use Rattle.next.specs.Choice.{Mem, next_of_first, next_of_second}
@@ -207,7 +206,7 @@ module _ {g : Graph} {m : ℕ} {top state : List ℕ} (links : FineLinks g m) (l
             ((at_node (a_end k) (a_below k l)).cross (is_cross (a_end k) (a_below k l) marked))
 
         asked_again : (k : ℕ) → k < g.n → (get_or nxt (a_end k) 0 < cross_mark → ⊥) → (s t : List ℕ) → Later state t → Later s t
-            → is_unvisited t k ≡ true → ((x : ℕ) → is_unvisited s x ≡ true → k ≤ x) → (f : ℕ) → first_link g s k ≡ Link f
+            → is_unvisited t k ≡ true → ((x : ℕ) → is_unvisited s x ≡ true → k ≤ x) → (f : ℕ) → first_link g s k ≡ Some f
             → is_unvisited t f ≡ false → Again g nxt t k f
         asked_again k l marked s t later since o lowest f named visited = record {
           below = lists.below v f (c.ring.only f by_ring.among).listed;

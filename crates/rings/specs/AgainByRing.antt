@@ -1,13 +1,11 @@
 -- Rule 1 asked again at a `Cross`, once the link that it named is visited: by the ring
 -- it is rule 3, clockwise from that link. All that stands after it in the ring stays visited.
-use Rattle.std.specs.Prelude.{ℕ, ◌≡◌, refl, ◌⊎◌, Bool, true, false}
+use Rattle.std.specs.Prelude.{ℕ, ◌≡◌, refl, ◌⊎◌, Bool, true, false, Option, Some}
 use Rattle.std.proofs.Common.{sym, ap, ◌∙◌, subst, inl, inr, ⊎_elim, true≢false}
 use mathlib.Core.List.Memᴰ
 use mathlib.Core.List.{List, [], ◌∷◌, reverse_aux}
 use Rattle.laws.specs.Test.{pick}
 use Rattle.graph.specs.Graph.{Graph}
-use Rattle.next.specs.declared.Next.{Next}
-use Rattle.next.specs.declared.Next.TheVariants.{Link}
 use Rattle.next.specs.Next.{is_unvisited, next_link, first_link}
 use Rattle.next.specs.Choice.{Mem}
 use Rattle.rings.specs.Rotation.{first_unvisited, first_later}
@@ -18,12 +16,12 @@ pub record Unvisited (st l : List ℕ) (f : ℕ) : Type 0 where
   pub among : Mem f l
   pub fresh : is_unvisited st f ≡ true
 
-pub first_unvisited_lem : (st l : List ℕ) (f : ℕ) → first_unvisited st l ≡ Link f → Unvisited st l f
+pub first_unvisited_lem : (st l : List ℕ) (f : ℕ) → first_unvisited st l ≡ Some f → Unvisited st l f
 first_unvisited_lem st [] f e = absurd (true≢false (cc))
 first_unvisited_lem st (x ∷ l) f e = at (is_unvisited st x) refl e (first_unvisited_lem st l f)
   where
-    at : (b : Bool) → is_unvisited st x ≡ b → pick b (Link x) (first_unvisited st l) ≡ Link f
-        → (first_unvisited st l ≡ Link f → Unvisited st l f) → Unvisited st (x ∷ l) f
+    at : (b : Bool) → is_unvisited st x ≡ b → pick b (Some x) (first_unvisited st l) ≡ Some f
+        → (first_unvisited st l ≡ Some f → Unvisited st l f) → Unvisited st (x ∷ l) f
     at true t q rest =
         let z : f ≡ x = cc in
         record { among = Memᴰ.head z; fresh = ap (is_unvisited st) z ∙ t }
@@ -41,7 +39,7 @@ shut_first st (x ∷ p) r h =
 pub same_first : (st p r s : List ℕ) → first_unvisited st r ≡ first_unvisited st s
     → first_unvisited st (reverse_aux p r) ≡ first_unvisited st (reverse_aux p s)
 same_first st [] r s e = e
-same_first st (x ∷ p) r s e = same_first st p (x ∷ r) (x ∷ s) (ap (λ (n : Next). pick (is_unvisited st x) (Link x) n) e)
+same_first st (x ∷ p) r s e = same_first st p (x ∷ r) (x ∷ s) (ap (λ (n : Option ℕ). pick (is_unvisited st x) (Some x) n) e)
 
 -- ---- what follows the last unvisited link of a list is visited
 last_is : (st : List ℕ) (c : ℕ) (l : List ℕ) → (last_or st c l ≡ c) ⊎ Mem (last_or st c l) l

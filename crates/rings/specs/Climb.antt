@@ -1,13 +1,11 @@
 -- Rule 1 by a loop over the linked ring: from the scan's link onward
 -- to the ring's end, keeping the last unvisited link met.
-use Rattle.std.specs.Prelude.{ℕ, zero, suc, ◌*◌, ◌≤◌, ◌<◌, ◌≡◌, refl, Bool, true, false, length}
+use Rattle.std.specs.Prelude.{ℕ, zero, suc, ◌*◌, ◌≤◌, ◌<◌, ◌≡◌, refl, Bool, true, false, length, Option, Some}
 use Rattle.std.proofs.Common.{not-suc-le-zero, le_of_suc-le-suc, arith, sym, ap, ◌∙◌, subst}
 use mathlib.Core.List.Memᴰ
 use mathlib.Core.List.{List, [], ◌∷◌, ◌++◌, reverse_aux}
 use Rattle.laws.specs.Test.{pick, pick_true, pick_false, true≢false}
 use Rattle.graph.specs.Graph.{Graph}
-use Rattle.next.specs.declared.Next.{Next}
-use Rattle.next.specs.declared.Next.TheVariants.{Link}
 use Rattle.next.specs.Next.{is_unvisited}
 use Rattle.next.specs.Choice.{Mem}
 use Rattle.rings.specs.Ends.{link_of, end_of, end_link, end_below}
@@ -34,12 +32,12 @@ to_top step wraps zero at = 0
 to_top step wraps (suc n) at = pick (wraps at) 0 (suc (to_top step wraps n (step at)))
 
 -- ---- the last unvisited link of a list with an unvisited k in it is found from k on
-pub last_aux : (st : List ℕ) (c : ℕ) (t r : List ℕ) → first_unvisited st r ≡ Link c
-    → first_unvisited st (reverse_aux t r) ≡ Link (last_or st c t)
+pub last_aux : (st : List ℕ) (c : ℕ) (t r : List ℕ) → first_unvisited st r ≡ Some c
+    → first_unvisited st (reverse_aux t r) ≡ Some (last_or st c t)
 last_aux st c [] r e = e
 last_aux st c (x ∷ t) r e = last_aux st (pick (is_unvisited st x) x c) t (x ∷ r) (by (is_unvisited st x))
   where
-    by : (b : Bool) → pick b (Link x) (first_unvisited st r) ≡ Link (pick b x c)
+    by : (b : Bool) → pick b (Some x) (first_unvisited st r) ≡ Some (pick b x c)
     by true = refl
     by false = e
 
@@ -51,13 +49,13 @@ module _ (g : Graph) (v : ℕ) (step : ℕ → ℕ) (wraps : ℕ → Bool) where
   Climbs at (x ∷ rest) = (wraps at ≡ false) × (step at ≡ end_of g v x) × Climbs (end_of g v x) rest
 
   -- at end `at`, of n links, with s the last unvisited link met: `rest` is what is left up to the ring's end
-  pub record Above (n : ℕ) (st : List ℕ) (answer : Next) (at s : ℕ) : Type 0 where
+  pub record Above (n : ℕ) (st : List ℕ) (answer : Option ℕ) (at s : ℕ) : Type 0 where
     pub here : at < 2 * n
     pub rest : List ℕ
     pub climbs : Climbs at rest
     pub below : (x : ℕ) → Mem x rest → x < n
     pub short : length rest ≤ n
-    pub is : Link (last_or st s rest) ≡ answer
+    pub is : Some (last_or st s rest) ≡ answer
 
   -- ---- the measure is the length of what is left
   to_top_lem : (n at : ℕ) (rest : List ℕ) → Climbs at rest → length rest ≤ n → to_top step wraps n at ≡ length rest
@@ -69,16 +67,16 @@ module _ (g : Graph) (v : ℕ) (step : ℕ → ℕ) (wraps : ℕ → Bool) where
       ∙ ap suc (to_top_lem n (end_of g v x) rest c.2 (le_of_suc-le-suc z))
 
   -- ---- at the ring's end
-  pub at_top : {n : ℕ} {st : List ℕ} {answer : Next} {at s : ℕ} → Above n st answer at s → wraps at ≡ true
-      → Link s ≡ answer
+  pub at_top : {n : ℕ} {st : List ℕ} {answer : Option ℕ} {at s : ℕ} → Above n st answer at s → wraps at ≡ true
+      → Some s ≡ answer
   at_top {st = st} {answer} {at} {s} k w = by k.rest k.climbs k.is
     where
-      by : (rest : List ℕ) → Climbs at rest → Link (last_or st s rest) ≡ answer → Link s ≡ answer
+      by : (rest : List ℕ) → Climbs at rest → Some (last_or st s rest) ≡ answer → Some s ≡ answer
       by [] c i = i
       by (x ∷ rest) c i = absurd (true≢false w c.0)
 
   -- ---- before it, a step, to end `to`
-  module _ {n : ℕ} {st : List ℕ} {answer : Next} {at s to : ℕ} (k : Above n st answer at s) (w : wraps at ≡ false)
+  module _ {n : ℕ} {st : List ℕ} {answer : Option ℕ} {at s to : ℕ} (k : Above n st answer at s) (w : wraps at ≡ false)
       (e : to ≡ step at) where
     -- it is an end of the n links
     pub climb_below : to < 2 * n
@@ -93,7 +91,7 @@ module _ (g : Graph) (v : ℕ) (step : ℕ → ℕ) (wraps : ℕ → Bool) where
     climbed = by k.rest k.climbs k.below k.short k.is
       where
         by : (rest : List ℕ) → Climbs at rest → ((x : ℕ) → Mem x rest → x < n) → length rest ≤ n
-            → Link (last_or st s rest) ≡ answer
+            → Some (last_or st s rest) ≡ answer
             → Above n st answer to (pick (is_unvisited st (link_of to)) (link_of to) s)
         by [] c b z i = absurd (true≢false c w)
         by (x ∷ rest) c b z i =
@@ -104,7 +102,7 @@ module _ (g : Graph) (v : ℕ) (step : ℕ → ℕ) (wraps : ℕ → Bool) where
               climbs = subst (λ h. Climbs h rest) (sym (e ∙ c.1)) c.2;
               below = λ y m. b y (Memᴰ.tail m);
               short = omega arith;
-              is = ap (λ (y : ℕ). Link (last_or st (pick (is_unvisited st y) y s) rest)) l ∙ i;
+              is = ap (λ (y : ℕ). Some (last_or st (pick (is_unvisited st y) y s) rest)) l ∙ i;
             }
 
     pub higher : to_top step wraps n to < to_top step wraps n at

@@ -1,12 +1,11 @@
 -- The field of ends as the code keeps it: two lists of numbers, by ends.
 -- What a walk, the scan and the pass over the nodes promise each other of them.
-use Rattle.std.specs.Prelude.{ℕ, ◌*◌, ◌%◌, ◌≤◌, ◌<◌, ◌≡◌, ◌⊎◌, Bool, true, false, List, [], ◌∷◌, eqb, leb, ℤ, length, get_or}
+use Rattle.std.specs.Prelude.{ℕ, ◌*◌, ◌%◌, ◌≤◌, ◌<◌, ◌≡◌, ◌⊎◌, Bool, true, false, List, [], ◌∷◌, eqb, leb, ℤ, length, get_or, Some}
 use Rattle.laws.specs.Test.{pick}
 use Rattle.turn.specs.Limits.{max_links}
 use Rattle.turn.specs.Points.{clockwise}
 use Rattle.graph.specs.Graph.{Lent, Graph, graph_of, node_count, point_at}
 use Rattle.graph.specs.Fine.{FineLinks}
-use Rattle.next.specs.declared.Next.TheVariants.{Link}
 use Rattle.next.specs.Next.{is_unvisited, only_unvisited, next_link, first_link}
 use Rattle.next.specs.Choice.{Mem}
 use Rattle.rings.specs.Ends.{a_end, link_of, is_a, far, node_of_end, end_of}
@@ -147,7 +146,7 @@ pub record Firsts (g : Graph) (nxt lead st : List ℕ) : Type 0 where
       → Above g (g.a_node k) (next_of nxt) (wraps_at nxt) g.n s (first_link g s k) (a_end k) k
   -- it named f in states s, of which some have been marked since; k was the lowest unvisited link then
   pub again : (k : ℕ) → k < g.n → (get_or nxt (a_end k) 0 < cross_mark → ⊥) → (s t : List ℕ) → Later st t → Later s t
-      → is_unvisited t k ≡ true → ((x : ℕ) → is_unvisited s x ≡ true → k ≤ x) → (f : ℕ) → first_link g s k ≡ Link f
+      → is_unvisited t k ≡ true → ((x : ℕ) → is_unvisited s x ≡ true → k ≤ x) → (f : ℕ) → first_link g s k ≡ Some f
       → is_unvisited t f ≡ false → Again g nxt t k f
 
 -- there is such a graph

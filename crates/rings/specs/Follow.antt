@@ -1,12 +1,10 @@
 -- A loop that follows the linked ring from the end of the link just walked:
 -- what it knows at each end, and what each way out of a turn tells.
-use Rattle.std.specs.Prelude.{ℕ, zero, suc, ◌*◌, ◌≤◌, ◌<◌, ◌≡◌, refl, true, false, List, [], ◌∷◌, eqb, length}
+use Rattle.std.specs.Prelude.{ℕ, zero, suc, ◌*◌, ◌≤◌, ◌<◌, ◌≡◌, refl, true, false, List, [], ◌∷◌, eqb, length, Option, Some, None}
 use Rattle.std.proofs.Common.{not-suc-le-zero, le_of_suc-le-suc, arith, sym, ap, ◌∙◌, subst, eq-eqb, ne_eqb}
 use mathlib.Core.List.Memᴰ
 use Rattle.laws.specs.Test.{pick, pick_true, pick_false}
 use Rattle.graph.specs.Graph.{Graph}
-use Rattle.next.specs.declared.Next.{Next}
-use Rattle.next.specs.declared.Next.TheVariants.{Link, Nothing}
 use Rattle.next.specs.Next.{is_unvisited}
 use Rattle.next.specs.Choice.{Mem}
 use Rattle.rings.specs.Ends.{link_of, end_of, end_link, end_once, end_below}
@@ -14,9 +12,9 @@ use Rattle.rings.specs.Rotation.{first_unvisited, first_found, first_later}
 use Rattle.rings.specs.Linked.{Along, Leads}
 
 -- where a walk that arrives at end `home` of node v goes on: the next link's end there, or `home` where there is none
-abbrev pub next_end : Graph → ℕ → ℕ → Next → ℕ
-next_end g v home Nothing = home
-next_end g v home (Link k) = end_of g v k
+abbrev pub next_end : Graph → ℕ → ℕ → Option ℕ → ℕ
+next_end g v home None = home
+next_end g v home (Some k) = end_of g v k
 
 -- how many ends lie on the way from an end to `home`, looked for over n steps: it falls with each step
 abbrev pub to_go : (ℕ → ℕ) → ℕ → ℕ → ℕ → ℕ
@@ -35,7 +33,7 @@ module _ (g : Graph) (v home : ℕ) (step : ℕ → ℕ) where
 
   -- What the loop knows at end `at`, of n links: `rest` is what is left of the
   -- ring on the way home, and its first unvisited link is the answer.
-  pub record Left (n : ℕ) (st : List ℕ) (answer : Next) (at : ℕ) : Type 0 where
+  pub record Left (n : ℕ) (st : List ℕ) (answer : Option ℕ) (at : ℕ) : Type 0 where
     pub here : at < 2 * n
     pub at_home : home < 2 * n
     pub rest : List ℕ
@@ -58,7 +56,7 @@ module _ (g : Graph) (v home : ℕ) (step : ℕ → ℕ) where
       ∙ ap suc (to_go_lem n (end_of g v x) rest f.1 (λ y m. o y (Memᴰ.tail m)) (le_of_suc-le-suc s))
 
   -- ---- a step, to end `to`
-  module _ {n : ℕ} {st : List ℕ} {answer : Next} {at to : ℕ} (k : Left n st answer at) (e : to ≡ step at) where
+  module _ {n : ℕ} {st : List ℕ} {answer : Option ℕ} {at to : ℕ} (k : Left n st answer at) (e : to ≡ step at) where
     -- it is an end of the n links
     pub step_below : to < 2 * n
     step_below = by k.rest k.follows k.below

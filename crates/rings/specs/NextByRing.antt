@@ -1,12 +1,11 @@
 -- Rule 3 by the ring: at a `Cross` the next link is the first
 -- unvisited one of the ring, read round from the link just walked.
-use Rattle.std.specs.Prelude.{ℕ, ◌≡◌, refl, Bool, true, false, List, [], ◌∷◌, get_or}
+use Rattle.std.specs.Prelude.{ℕ, ◌≡◌, refl, Bool, true, false, List, [], ◌∷◌, get_or, Some, None}
 use Rattle.std.proofs.Common.{arith, sym, ap, ◌∙◌, subst, ⊎_elim}
 use Rattle.std.proofs.Math.Decide.{ℕ_discrete}
 use mathlib.Core.List.Memᴰ
 use Rattle.laws.specs.Test.{Is, true_is, true≢false}
 use Rattle.graph.specs.Graph.{Graph}
-use Rattle.next.specs.declared.Next.TheVariants.{Link, Nothing}
 use Rattle.next.specs.Next.{is_unvisited, best, first_met}
 use Rattle.next.specs.States.{unvisited_read}
 use Rattle.next.specs.Choice.{Mem, first_met_lem}
@@ -21,14 +20,14 @@ pub record Open (st o l : List ℕ) : Type 0 where
 -- ---- the first met of some links is the first of them in a list that is sorted so
 module _ (st : List ℕ) (lt : ℕ → ℕ → Bool) (irr : (x : ℕ) → Is (lt x x) → ⊥)
     (trans : (x y z : ℕ) → Is (lt x y) → Is (lt y z) → Is (lt x z)) where
-  none : (o : List ℕ) → ((x : ℕ) → Mem x o → ⊥) → first_met lt o ≡ Nothing
+  none : (o : List ℕ) → ((x : ℕ) → Mem x o → ⊥) → first_met lt o ≡ None
   none [] h = refl
   none (x ∷ o) h = absurd (h x (Memᴰ.head refl))
 
   -- x is the first met where all others are met after it
-  one : (o : List ℕ) (x : ℕ) → Mem x o → ((y : ℕ) → Mem y o → (y ≡ x → ⊥) → lt x y ≡ true) → first_met lt o ≡ Link x
+  one : (o : List ℕ) (x : ℕ) → Mem x o → ((y : ℕ) → Mem y o → (y ≡ x → ⊥) → lt x y ≡ true) → first_met lt o ≡ Some x
   one [] x m h = absurd (Memᴰ.not-nil m)
-  one (z ∷ o) x m h = ap Link (by (ℕ_discrete f x))
+  one (z ∷ o) x m h = ap Some (by (ℕ_discrete f x))
     where
       f : ℕ
       f = best lt z o
@@ -44,7 +43,7 @@ module _ (st : List ℕ) (lt : ℕ → ℕ → Bool) (irr : (x : ℕ) → Is (lt
   first_in o [] s h = none o (λ x m. Memᴰ.not-nil (h.of x m).0)
   first_in o (x ∷ l) s h = at (is_unvisited st x) refl (first_in o l s.1)
     where
-      head_met : is_unvisited st x ≡ true → first_met lt o ≡ Link x
+      head_met : is_unvisited st x ≡ true → first_met lt o ≡ Some x
       head_met t = one o x (h.into x (Memᴰ.head refl) t)
           (λ y m d. ⊎_elim (λ q. absurd (d q)) (λ k. s.0 y k) (Memᴰ.cases_cons (h.of y m).0))
 

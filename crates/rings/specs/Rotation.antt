@@ -1,12 +1,10 @@
 -- A list read round from one of its elements: what follows it, then what stands before it.
 -- The first and the last unvisited link of a list.
-use Rattle.std.specs.Prelude.{ℕ, ◌≡◌, refl, ◌⊎◌, Bool, true, false, List, [], ◌∷◌, ◌++◌, reverse, eqb}
+use Rattle.std.specs.Prelude.{ℕ, ◌≡◌, refl, ◌⊎◌, Bool, true, false, List, [], ◌∷◌, ◌++◌, reverse, eqb, Option, Some, None}
 use Rattle.std.proofs.Common.{sym, ap, ◌∙◌, inl, inr, ⊎_elim, eqb-true}
 use mathlib.Core.List.Memᴰ
 use Rattle.std.proofs.lemmas.Bool.{eqb-false}
 use Rattle.laws.specs.Test.{pick, pick_ind}
-use Rattle.next.specs.declared.Next.{Next}
-use Rattle.next.specs.declared.Next.TheVariants.{Link, Nothing}
 use Rattle.next.specs.Next.{is_unvisited}
 use Rattle.next.specs.Choice.{Mem}
 
@@ -30,11 +28,11 @@ backward e l = reverse (onward e l)
 abbrev pub round_from : Bool → ℕ → List ℕ → List ℕ
 round_from sense e l = pick sense (backward e l) (onward e l)
 
-abbrev pub first_unvisited : List ℕ → List ℕ → Next
-first_unvisited st [] = Nothing
-first_unvisited st (x ∷ l) = pick (is_unvisited st x) (Link x) (first_unvisited st l)
+abbrev pub first_unvisited : List ℕ → List ℕ → Option ℕ
+first_unvisited st [] = None
+first_unvisited st (x ∷ l) = pick (is_unvisited st x) (Some x) (first_unvisited st l)
 
-abbrev pub last_unvisited : List ℕ → List ℕ → Next
+abbrev pub last_unvisited : List ℕ → List ℕ → Option ℕ
 last_unvisited st l = first_unvisited st (reverse l)
 
 -- ---- the list, taken apart at e
@@ -73,7 +71,7 @@ parted {x} e (y ∷ l) m d = at (eqb y e) refl (λ k. parted e l k d)
         (Memᴰ.cases_cons m)
 
 -- ---- the first unvisited link
-pub first_found : (st : List ℕ) (x : ℕ) (l : List ℕ) → is_unvisited st x ≡ true → first_unvisited st (x ∷ l) ≡ Link x
+pub first_found : (st : List ℕ) (x : ℕ) (l : List ℕ) → is_unvisited st x ≡ true → first_unvisited st (x ∷ l) ≡ Some x
 first_found st x l o = rw o
 
 pub first_later : (st : List ℕ) (x : ℕ) (l : List ℕ) → is_unvisited st x ≡ false

@@ -1,12 +1,10 @@
 -- Of any graph: the fuel of the scan is enough, so that more changes nothing.
 use Prim.Native.Nat.{ℕ, zero, suc, ◌<◌}
 use Rattle.std.proofs.Common.{arith, ap}
-use Rattle.std.specs.Prelude.{◌≡◌, refl, Bool, true, false, not, length, ltb}
+use Rattle.std.specs.Prelude.{◌≡◌, refl, Bool, true, false, not, length, ltb, Option, Some, None}
 use mathlib.Core.List.{List, []}
 use Rattle.laws.specs.Test.{pick}
 use Rattle.graph.specs.Graph.{Graph}
-use Rattle.next.specs.declared.Next.{Next}
-use Rattle.next.specs.declared.Next.TheVariants.{Link, Nothing}
 use Rattle.next.specs.Next.{unvisited, first_link}
 use Rattle.walk.specs.Walk.{Walked, stuck, done, mark_of}
 use Rattle.scan.specs.Scan.{sense_of, walk_of, Scanned, walks, cons_walk, after_walk, scan_at, lowest_unvisited, scan_on}
@@ -23,14 +21,14 @@ pick_same false x y z h = refl
 module _ (g : Graph) (cw : Bool) where
   after_walk_lem : (p q : List ℕ → Scanned) (st : List ℕ) (k : ℕ) (hole : Bool) (o : Walked) → Visits (mark_of hole) st o
       → ((after : List ℕ) → unvisited after < unvisited st → p after ≡ q after) → after_walk k hole p o ≡ after_walk k hole q o
-  after_walk_lem p q st k hole (stuck number) v h = refl
+  after_walk_lem p q st k hole (stuck reason) v h = refl
   after_walk_lem p q st k hole (done l after) v h =
       ap (cons_walk (record { hole = hole; steps = l })) (h after (visits_fewer (mark_of hole) st l after (mark_of_lem hole) v))
 
-  at_first : (p q : List ℕ → Scanned) (st : List ℕ) (k : ℕ) (o : Next) → LinkUnvisited st o
+  at_first : (p q : List ℕ → Scanned) (st : List ℕ) (k : ℕ) (o : Option ℕ) → LinkUnvisited st o
       → ((after : List ℕ) → unvisited after < unvisited st → p after ≡ q after) → scan_at g cw p st k o ≡ scan_at g cw q st k o
-  at_first p q st k Nothing i h = refl
-  at_first p q st k (Link s) i h =
+  at_first p q st k None i h = refl
+  at_first p q st k (Some s) i h =
       after_walk_lem p q st k (g.top s) (walk_of g cw st s) (from_visits g (not (sense_of g cw s)) (sense_of g cw s) (mark_of (g.top s)) st s i) h
 
   pub scan_enough : (fuel fuel' : ℕ) (st : List ℕ) → unvisited st < fuel → unvisited st < fuel' → scan_on fuel g cw st ≡ scan_on fuel' g cw st

@@ -1,13 +1,13 @@
 -- The scan (rules 1, 2 and 7). The outcome is a refusal, or the list of all walks in order, kept and rejected alike.
-use Rattle.std.specs.Prelude.{ℕ, zero, suc, Bool, not, List, [], ◌∷◌, length, ltb}
+use Rattle.std.specs.Prelude.{ℕ, zero, suc, Bool, not, List, [], ◌∷◌, length, ltb, Option, Some, None}
 use Rattle.std.specs.Bool.{beq}
 use Rattle.laws.specs.Test.{pick}
 use Rattle.laws.specs.Lowest.{lowest}
 use Rattle.graph.specs.Graph.{Graph}
-use Rattle.next.specs.declared.Next.{Next}
-use Rattle.next.specs.declared.Next.TheVariants.{Link, Nothing}
 use Rattle.next.specs.Next.{is_unvisited, unvisited, first_link}
 use Rattle.walk.specs.Walk.{Walk, Walked, stuck, done, walk_from, mark_of}
+use Rattle.turn.specs.declared.Reason.{Reason}
+use Rattle.turn.specs.declared.Reason.TheVariants.{NoNextLink}
 
 -- ---- which walk: rule 2
 
@@ -22,21 +22,21 @@ walk_of g cw st s = walk_from g (not (sense_of g cw s)) (sense_of g cw s) (mark_
 -- ---- the scan
 
 pub data Scanned : Type 0 where
-  stopped : ℕ → ℕ → Scanned
+  stopped : Reason → ℕ → Scanned
   walks : List Walk → List ℕ → Scanned
 
 abbrev pub cons_walk : Walk → Scanned → Scanned
-cons_walk w (stopped number place) = stopped number place
+cons_walk w (stopped reason place) = stopped reason place
 cons_walk w (walks l st) = walks (w ∷ l) st
 
 abbrev pub after_walk : ℕ → Bool → (List ℕ → Scanned) → Walked → Scanned
-after_walk k hole go (stuck number) = stopped number k
+after_walk k hole go (stuck reason) = stopped reason k
 after_walk k hole go (done l st) = cons_walk (record { hole = hole; steps = l }) (go st)
 
 -- the walk that the scan starts at link k, and the scan after it
-abbrev pub scan_at : Graph → Bool → (List ℕ → Scanned) → List ℕ → ℕ → Next → Scanned
-scan_at g cw go st k Nothing = stopped 8 k
-scan_at g cw go st k (Link s) = after_walk k (g.top s) go (walk_of g cw st s)
+abbrev pub scan_at : Graph → Bool → (List ℕ → Scanned) → List ℕ → ℕ → Option ℕ → Scanned
+scan_at g cw go st k None = stopped NoNextLink k
+scan_at g cw go st k (Some s) = after_walk k (g.top s) go (walk_of g cw st s)
 
 -- the lowest unvisited link, or the number of links
 abbrev pub lowest_unvisited : List ℕ → ℕ

@@ -2,14 +2,12 @@
 -- and it has walked each link that was unvisited once, and no other.
 use Prim.Native.Nat.{ℕ, zero, suc, ◌+◌, ◌<◌}
 use native.Mathlib.Omega.{arith}
-use Rattle.std.specs.Prelude.{◌≡◌, refl, Bool, true, false, not, length, ltb}
+use Rattle.std.specs.Prelude.{◌≡◌, refl, Bool, true, false, not, length, ltb, Option, Some, None}
 use Rattle.std.proofs.Common.{ap, subst}
 use mathlib.Core.List.{List, [], ◌∷◌}
 use Rattle.laws.specs.Test.{pick, pick_ind, true≢false, not_true}
 use Rattle.laws.specs.Lowest.{some_of, none_of}
 use Rattle.graph.specs.Graph.{Graph}
-use Rattle.next.specs.declared.Next.{Next}
-use Rattle.next.specs.declared.Next.TheVariants.{Link, Nothing}
 use Rattle.next.specs.Next.{is_unvisited, unvisited, first_link}
 use Rattle.next.specs.States.{unvisited_below}
 use Rattle.walk.specs.Walk.{Walk, Walked, stuck, done, marked, mark_of}
@@ -49,26 +47,26 @@ pub lowest_none : (st : List ℕ) → ltb (lowest_unvisited st) (length st) ≡ 
 lowest_none st e k = not_true (is_unvisited st k) (λ o. true≢false o (none_of (is_unvisited st) (length st) e k (unvisited_below st k o)))
 
 abbrev pub LeavesAll : List ℕ → Scanned → Type 0
-LeavesAll st (stopped number place) = Unit {0}
+LeavesAll st (stopped reason place) = Unit {0}
 LeavesAll st (walks ws after) = (after ≡ states_after ws st) × AllFresh st ws × NoneUnvisited after
 
 module _ (g : Graph) (cw : Bool) where
   all_cons : (w : Walk) (st : List ℕ) (o : Scanned) → Fresh (mark_of w.hole) st w.steps → LeavesAll (marked (mark_of w.hole) w.steps st) o
       → LeavesAll st (cons_walk w o)
-  all_cons w st (stopped number place) f h = tt
+  all_cons w st (stopped reason place) f h = tt
   all_cons w st (walks ws after) f h = (h.0, (f, h.1), h.2)
 
   after_walk_lem : (go : List ℕ → Scanned) (st : List ℕ) (k : ℕ) (hole : Bool) (o : Walked) → Visits (mark_of hole) st o
       → ((after : List ℕ) → unvisited after < unvisited st → LeavesAll after (go after)) → LeavesAll st (after_walk k hole go o)
-  after_walk_lem go st k hole (stuck number) v h = tt
+  after_walk_lem go st k hole (stuck reason) v h = tt
   after_walk_lem go st k hole (done l after) v h =
       all_cons (record { hole = hole; steps = l }) st (go after) v.1
       (subst (λ a. LeavesAll a (go after)) v.0 (h after (visits_fewer (mark_of hole) st l after (mark_of_lem hole) v)))
 
-  at_first : (go : List ℕ → Scanned) (st : List ℕ) (k : ℕ) (o : Next) → LinkUnvisited st o
+  at_first : (go : List ℕ → Scanned) (st : List ℕ) (k : ℕ) (o : Option ℕ) → LinkUnvisited st o
       → ((after : List ℕ) → unvisited after < unvisited st → LeavesAll after (go after)) → LeavesAll st (scan_at g cw go st k o)
-  at_first go st k Nothing i h = tt
-  at_first go st k (Link s) i h =
+  at_first go st k None i h = tt
+  at_first go st k (Some s) i h =
       after_walk_lem go st k (g.top s) (walk_of g cw st s) (from_visits g (not (sense_of g cw s)) (sense_of g cw s) (mark_of (g.top s)) st s i) h
 
   pub scan_leaves : (fuel : ℕ) (st : List ℕ) → unvisited st < fuel → LeavesAll st (scan_on fuel g cw st)

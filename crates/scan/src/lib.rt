@@ -10,16 +10,9 @@ ghost use Rattle.contour.specs.Notes.{Fewer, Roomy};
 ghost use Rattle.scan.specs.Held.{Standing};
 ghost use Rattle.scan.specs.Promises.{ScanWalkSays};
 
-use contour::{Noted, Settings, note_contour};
+use contour::{Entered, Settings, note_contour};
 use keep::Counts;
-use next::Next;
-
-// The answer of extraction.
-#[derive(Clone, Copy)]
-pub enum Extraction {
-    Done(Counts),
-    Refused { number: u32, place: usize },
-}
+use turn::Reason;
 
 // Rule 1: one walk of the scan, which stands at link k and holds the first link of its last walk from there, if there was one.
 pub fn scan_walk(
@@ -38,9 +31,9 @@ pub fn scan_walk(
     len: &mut [u32],
     kind: &mut [u8],
     k: usize,
-    held: usize,
+    held: Option<usize>,
     c: Counts,
-) -> Noted
+) -> Result<Entered, Reason>
     requires standing { Standing ax.now ay.now bx.now by.now top.now nxt.now prv.now lead.now state.old k held }
     requires links { (Links ax.now ay.now bx.now by.now (length state.old)) × (length top.now ≡ length state.old) }
     requires roomy { Roomy (length state.old) (length points.old) (length first.old) (length len.old) (length kind.old) }
@@ -52,13 +45,10 @@ pub fn scan_walk(
     ensures fewer { Fewer (length state.old) state.old state.new result }
     ensures kept { Kept state.old state.new }
 {
-    match first::find_left_top_link(ax, ay, bx, by, nxt, prv, lead, state, k, held) {
-        Next::Nothing => Noted::Stuck(8),
-        Next::Link(s) => {
-            let hole = top[s] == 1;
-            note_contour(
-                ax, ay, bx, by, nxt, prv, settings, hole, state, points, first, len, kind, s, c,
-            )
-        }
-    }
+    let named = first::find_left_top_link(ax, ay, bx, by, nxt, prv, lead, state, k, held);
+    let s = named.ok_or(Reason::NoNextLink)?;
+    let hole = top[s] == 1;
+    note_contour(
+        ax, ay, bx, by, nxt, prv, settings, hole, state, points, first, len, kind, s, c,
+    )
 }

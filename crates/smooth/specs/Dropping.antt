@@ -1,7 +1,7 @@
 -- Of a graph that passes checks 1 to 7 dropping points on a straight line leaves no contour out, and the points that go are exactly those that are straight
 -- in the
 -- full contour: so contours keep their numbers, their kinds, their order and their areas. A refusal is what it was.
-use Rattle.std.specs.Prelude.{ℕ, ◌≡◌, Bool, length}
+use Rattle.std.specs.Prelude.{ℕ, ◌≡◌, Bool, length, Ok, Err}
 use Rattle.std.proofs.Common.{arith, sym, ap, ap₂, ◌∙◌, subst, ⊎_elim}
 use Rattle.std.proofs.Math.Path.{refl}
 use mathlib.Core.List.Memᴰ
@@ -9,15 +9,12 @@ use mathlib.Core.List.{List, [], ◌∷◌, map, Memᴰ}
 use Rattle.std.proofs.lemmas.List.{length-map}
 use Rattle.laws.specs.Lists.{padded}
 use Rattle.turn.specs.declared.Point.{Point}
-use Rattle.turn.specs.declared.Checked.{Checked}
-use Rattle.turn.specs.declared.Checked.TheVariants as check
 use Rattle.turn.specs.Area.{area}
 use Rattle.graph.specs.Graph.{Lent, Graph, graph_of}
 use Rattle.graph.specs.Checks.{Room, room, checked}
 use Rattle.walk.specs.Walk.{Walk, points}
 use Rattle.keep.specs.declared.Counts.{Counts}
 use Rattle.keep.specs.Outcome.{area_of, kept, counts_of}
-use Rattle.scan.specs.declared.Extraction.TheVariants.{Done, Refused}
 use Rattle.scan.specs.Scan.{Scanned, stopped, walks, scan}
 use Rattle.scan.specs.Visits.{scanned}
 use Rattle.finish.specs.Finish.{Buffers}
@@ -28,6 +25,8 @@ use Rattle.outlines.specs.Outlines.{Outline, straightened, whole, outline_kinds}
 use Rattle.outlines.specs.Outlines.{outlines_of, straight_counts, straight_scan, straight_checks, extracted_straight}
 use Rattle.outlines.specs.Straightening.{AllSpikeless, kept_spikeless, all_whole, none_left_out, same_kinds}
 use Rattle.smooth.specs.Spikes.{spikeless}
+use Rattle.turn.specs.Refusals.{Checked, refused, no_fault}
+use Rattle.turn.specs.declared.Reason.{Reason}
 
 -- the contour of a walk without the points that are straight in it
 abbrev pub cornered : Graph → Walk → Outline
@@ -51,20 +50,20 @@ module _ (g : Lent) (top : List ℕ) (cw : Bool) (minimum : ℕ) (b : Buffers) w
   zero_one : ◌≡◌ {A = ℕ} 0 1 → ⊥
   zero_one x = omega arith
 
-  refused_scan : (number place : ℕ) (o : Scanned) → (after_scan G minimum b o).answer ≡ Refused number place → straight_scan G minimum b o ≡ after_scan G
-      minimum b o
-  refused_scan number place (stopped m p) h = refl
-  refused_scan number place (walks ws after) h = let x : ◌≡◌ {A = ℕ} 0 1 = cc in absurd (zero_one x)
+  refused_scan : (reason : Reason) (place : ℕ) (o : Scanned) → (after_scan G minimum b o).answer ≡ refused reason place
+      → straight_scan G minimum b o ≡ after_scan G minimum b o
+  refused_scan reason place (stopped m p) h = refl
+  refused_scan reason place (walks ws after) h = let x : ◌≡◌ {A = ℕ} 0 1 = cc in absurd (zero_one x)
 
-  refused_checks : (number place : ℕ) (k : Checked) → (after_checks G cw minimum b k).answer ≡ Refused number place
+  refused_checks : (reason : Reason) (place : ℕ) (k : Checked) → (after_checks G cw minimum b k).answer ≡ refused reason place
       → straight_checks G cw minimum b k ≡ after_checks G cw minimum b k
-  refused_checks number place (check.Refused m p) h = refl
-  refused_checks number place check.Fine h = refused_scan number place (scan G cw b.state) h
+  refused_checks reason place (Err r) h = refl
+  refused_checks reason place (Ok u) h = refused_scan reason place (scan G cw b.state) h
 
-  pub same_refusal : (number place : ℕ) → (extracted g top cw minimum b).answer ≡ Refused number place
+  pub same_refusal : (reason : Reason) (place : ℕ) → (extracted g top cw minimum b).answer ≡ refused reason place
       → extracted_straight g top cw minimum b ≡ extracted g top cw minimum b
   unfolding extracted extracted_straight
-  same_refusal number place h = refused_checks number place (checked g top b.state rooms) h
+  same_refusal reason place h = refused_checks reason place (checked g top b.state rooms) h
 
   -- ---- after success
   pub record Dropping (c : Counts) : Type 0 where
@@ -72,7 +71,7 @@ module _ (g : Lent) (top : List ℕ) (cw : Bool) (minimum : ℕ) (b : Buffers) w
     pub found : List Walk
     pub found_is : scan G cw b.state ≡ walks found (extracted g top cw minimum b).lent.state
     -- it is a success too, with the same counts but for the points
-    pub answer : (extracted_straight g top cw minimum b).answer ≡ Done (straight_counts G minimum found)
+    pub answer : (extracted_straight g top cw minimum b).answer ≡ Ok (straight_counts G minimum found)
     pub contours : (straight_counts G minimum found).contours ≡ c.contours
     pub rejected : (straight_counts G minimum found).rejected ≡ c.rejected
     pub walked : (straight_counts G minimum found).walked ≡ c.walked
@@ -94,10 +93,10 @@ module _ (g : Lent) (top : List ℕ) (cw : Bool) (minimum : ℕ) (b : Buffers) w
       (ap area (sym (corners_left (points G v) h.0.0 h.0.1).0) ∙ area_stays (points G v)))
       (λ k. areas_of w ks h.1 k) (Memᴰ.cases_cons i)
 
-  by_scan : (c : Counts) (o : Scanned) → scan G cw b.state ≡ o → checked g top b.state rooms ≡ check.Fine
+  by_scan : (c : Counts) (o : Scanned) → scan G cw b.state ≡ o → checked g top b.state rooms ≡ no_fault
       → extracted g top cw minimum b ≡ after_scan G minimum b o → extracted_straight g top cw minimum b ≡ straight_scan G minimum b o
-      → (after_scan G minimum b o).answer ≡ Done c → Dropping c
-  by_scan c (stopped number place) e k q r d = let x : ◌≡◌ {A = ℕ} 0 1 = cc in absurd (zero_one x)
+      → (after_scan G minimum b o).answer ≡ Ok c → Dropping c
+  by_scan c (stopped reason place) e k q r d = let x : ◌≡◌ {A = ℕ} 0 1 = cc in absurd (zero_one x)
   by_scan c (walks ws after) e k q r d =
       let n : counts_of G minimum ws ≡ c = cc in
       let smooth : AllSpikeless G (kept G minimum ws) = kept_spikeless G minimum ws (spikeless g top b.state rooms cw k ws after e) in
@@ -122,10 +121,10 @@ module _ (g : Lent) (top : List ℕ) (cw : Bool) (minimum : ℕ) (b : Buffers) w
       }
 
   by_checks : (c : Counts) (k : Checked) → checked g top b.state rooms ≡ k → extracted g top cw minimum b ≡ after_checks G cw minimum b k
-      → extracted_straight g top cw minimum b ≡ straight_checks G cw minimum b k → (after_checks G cw minimum b k).answer ≡ Done c → Dropping c
-  by_checks c (check.Refused number place) e q r d = let x : ◌≡◌ {A = ℕ} 0 1 = cc in absurd (zero_one x)
-  by_checks c check.Fine e q r d = by_scan c (scan G cw b.state) refl e q r d
+      → extracted_straight g top cw minimum b ≡ straight_checks G cw minimum b k → (after_checks G cw minimum b k).answer ≡ Ok c → Dropping c
+  by_checks c (Err w) e q r d = let x : ◌≡◌ {A = ℕ} 0 1 = cc in absurd (zero_one x)
+  by_checks c (Ok u) e q r d = by_scan c (scan G cw b.state) refl e q r d
 
-  pub dropping : (c : Counts) → (extracted g top cw minimum b).answer ≡ Done c → Dropping c
+  pub dropping : (c : Counts) → (extracted g top cw minimum b).answer ≡ Ok c → Dropping c
   unfolding extracted extracted_straight
   dropping c d = by_checks c (checked g top b.state rooms) refl refl refl d

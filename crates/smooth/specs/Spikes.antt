@@ -8,7 +8,6 @@ use mathlib.Core.List.{List, [], ◌∷◌, map, Memᴰ}
 use Rattle.std.proofs.lemmas.List.{length-map}
 use Rattle.laws.specs.Test.{Is}
 use Rattle.turn.specs.declared.Point.{Point}
-use Rattle.turn.specs.declared.Checked.TheVariants.{Fine}
 use Rattle.turn.specs.Points.{from_to}
 use Rattle.turn.specs.Angle.{same_direction, nonzero}
 use Rattle.graph.specs.Graph.{Lent, Graph, graph_of}
@@ -27,6 +26,7 @@ use Rattle.straight.specs.Bends.{spike, no_spike}
 use Rattle.straight.specs.Corners.{Smooth, Spikeless}
 use Rattle.outlines.specs.Straightening.{AllSpikeless}
 use Rattle.outlines.specs.Promises.{SpikelessScan}
+use Rattle.turn.specs.Refusals.{no_fault}
 
 -- ---- the last of some steps
 abbrev last_step : Step → List Step → Step
@@ -135,7 +135,7 @@ module _ (g : Graph) (st : List ℕ) (ok : Sound g st) where
       )
 
 -- ---- of what is lent
-pub spikeless : (g : Lent) (top st : List ℕ) (r : Room) (cw : Bool) → checked g top st r ≡ Fine → SpikelessScan (graph_of g top) cw st
+pub spikeless : (g : Lent) (top st : List ℕ) (r : Room) (cw : Bool) → checked g top st r ≡ no_fault → SpikelessScan (graph_of g top) cw st
 spikeless g top st r cw e ws after s =
     all_smooth (graph_of g top) st (sound g top st r e) st ws (scanned (graph_of g top) cw st ws after s).fresh (λ k o. o)
     (λ w m. let f = finished g top st r cw e ws after s w m in (f.closed, f.three))

@@ -1,4 +1,5 @@
 -- All entries of a `Cross` are taken, one after the other: what is known before each, and at the end.
+use Rattle.std.specs.Prelude.{Option, Some, None}
 use Prim.Native.Nat.{ℕ, ◌+◌, ◌*◌, ◌≤◌, ◌<◌, zero-le}
 use native.Mathlib.Nat.{not-suc-le-zero}
 use native.Mathlib.Omega.{arith}
@@ -14,7 +15,7 @@ use lib.Seq.{take_all}
 use borrow.Author.Count.{below_none}
 use borrow.Author.Tests.{le-leb}
 use Rattle.laws.specs.Test.{pick, pick_true, pick_false, true≢false, or_false, or_true}
-use Rattle.laws.specs.Lowest.{some, None, some_yes, some_no, none_of}
+use Rattle.laws.specs.Lowest.{some, NoneBelow, some_yes, some_no, none_of}
 use Rattle.turn.specs.declared.Point.{Point}
 use Rattle.turn.specs.Limits.{max_links}
 use Rattle.graph.specs.Graph.{lent, graph_of, point_at, part}
@@ -26,8 +27,6 @@ use Rattle.next.specs.Choice.{Mem}
 use Rattle.rings.specs.Making.{none_taken}
 use Rattle.rings.specs.Field.{LaidCross, ElseKept}
 use Rattle.hoop.specs.declared.Hoop.{Hoop}
-use Rattle.hoop.specs.declared.Taken.{Taken}
-use Rattle.hoop.specs.declared.Taken.TheVariants.{Wrong, Makes}
 use Rattle.spokes.specs.Entries.{wrong_at, Laying, Entered}
 
 -- ---- the answer, by the entries
@@ -47,7 +46,7 @@ module _ (ax ay bx by : List ℤ) (aid bid state here : List ℕ) (v : ℕ) wher
       or_true_first x y e = rw e
 
   -- entry j is wrong, and none before it
-  pub answer_wrong : (j : ℕ) → j < length here → None (wrong_at ax ay bx by aid bid state here v) j → wrong_at ax ay bx by aid bid state here v j ≡ true
+  pub answer_wrong : (j : ℕ) → j < length here → NoneBelow (wrong_at ax ay bx by aid bid state here v) j → wrong_at ax ay bx by aid bid state here v j ≡ true
       → true ≡ answer
   answer_wrong j h clear e = tell (stray_in aid bid here v) refl
     where
@@ -58,7 +57,7 @@ module _ (ax ay bx by : List ℤ) (aid bid state here : List ℕ) (v : ℕ) wher
           (or_true (stray aid bid v (get_or here j 0)) (clash j) e)))
 
   -- none is
-  pub answer_right : None (wrong_at ax ay bx by aid bid state here v) (length here) → false ≡ answer
+  pub answer_right : NoneBelow (wrong_at ax ay bx by aid bid state here v) (length here) → false ≡ answer
   answer_right clear = sym (pick_false _ _ (some_no (λ i. stray aid bid v (get_or here i 0)) (length here) (λ i h. (split i h).0))
       ∙ some_no clash (length here) (λ i h. (split i h).1))
     where
@@ -118,7 +117,7 @@ module _ {ax ay bx by : List ℤ} {aid bid state here : List ℕ} {v : ℕ} {hom
   module _ {nxt₀ prv₀ nxt prv : List ℕ} {hoop : Hoop} {j : ℕ} (c : Crossing ax ay bx by aid bid state here v home nxt₀ prv₀ nxt prv hoop j) where
     -- an entry has been taken
     pub cross_more : (nxt' prv' : List ℕ) (hoop' : Hoop) → j < length here → length nxt' ≡ length nxt → length prv' ≡ length prv
-        → (t : Taken) → t ≡ Makes hoop' → Entered ax ay bx by aid bid state here v home nxt' prv' j t
+        → (t : Option Hoop) → t ≡ Some hoop' → Entered ax ay bx by aid bid state here v home nxt' prv' j t
         → ElseKept aid bid v nxt nxt' → ElseKept aid bid v prv prv'
         → Crossing ax ay bx by aid bid state here v home nxt₀ prv₀ nxt' prv' hoop' (j + 1)
     cross_more nxt' prv' hoop' h n p t is y kn kp = record {
@@ -131,7 +130,7 @@ module _ {ax ay bx by : List ℤ} {aid bid state here : List ℕ} {v : ℕ} {hom
     }
 
     -- something is wrong with an entry
-    pub cross_wrong : (nxt' prv' : List ℕ) → j < length here → (t : Taken) → t ≡ Wrong
+    pub cross_wrong : (nxt' prv' : List ℕ) → j < length here → (t : Option Hoop) → t ≡ None
         → Entered ax ay bx by aid bid state here v home nxt' prv' j t → true ≡ answer ax ay bx by aid bid state here v
     cross_wrong nxt' prv' h t is e =
         answer_wrong ax ay bx by aid bid state here v j h c.laying.clear (subst (Entered ax ay bx by aid bid state here v home nxt' prv' j) is e)

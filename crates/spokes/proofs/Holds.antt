@@ -1,4 +1,5 @@
 -- Linking one more end at its place leaves a ring that the hoop tells, and every list as it was but at the ring's ends.
+use Rattle.std.specs.Prelude.{Some}
 use Prim.Native.Nat.{ℕ, suc, ◌+◌, ◌-◌, ◌<◌, zero-le, suc-le-suc}
 use native.Mathlib.Omega.{arith}
 use native.Mathlib.Numerals.{add-one}
@@ -19,7 +20,6 @@ use Rattle.rings.specs.Making.{RingOf}
 use Rattle.rings.specs.Field.{cross_mark, wrap_mark}
 use Rattle.hoop.specs.declared.Hoop.{Hoop}
 use Rattle.hoop.specs.declared.Place.TheVariants.{First, After}
-use Rattle.hoop.specs.declared.Taken.TheVariants.{Makes}
 use Rattle.hoop.specs.Hoops.{Outcome, makes, link_end, put_end}
 use Rattle.spokes.specs.Entries.{last_of, Stood, Told, Held}
 use Rattle.spokes.proofs.Lasts.{last_member, last_behind, head_before}
@@ -32,7 +32,7 @@ KeptOff g v l old new = (h : ℕ) → ((x : ℕ) → Mem x l → h ≡ end_of g 
 -- f has been put into the ring l
 pub record Grown (g : Graph) (state : List ℕ) (v : ℕ) (more nxt prv l : List ℕ) (o : Outcome) : Type 0 where
   pub hoop : Hoop
-  pub makes_it : o.taken ≡ Makes hoop
+  pub makes_it : o.taken ≡ Some hoop
   pub held : Held g state v more o.nxt o.prv hoop
   pub nxt_len : length o.nxt ≡ length nxt
   pub prv_len : length o.prv ≡ length prv

@@ -1,6 +1,6 @@
 -- The entries of a `Cross` that have been taken: their ring in the lists, what the hoop tells of it, and what is known of each.
-use Rattle.std.specs.Prelude.{ℕ, ◌+◌, ◌*◌, ◌≤◌, ◌<◌, ◌≡◌, Bool, true, ◌||◌, List, [], ◌∷◌, ℤ, length, get_or, take}
-use Rattle.laws.specs.Lowest.{None}
+use Rattle.std.specs.Prelude.{ℕ, ◌+◌, ◌*◌, ◌≤◌, ◌<◌, ◌≡◌, Bool, true, ◌||◌, List, [], ◌∷◌, ℤ, length, get_or, take, Option, Some, None}
+use Rattle.laws.specs.Lowest.{NoneBelow}
 use Rattle.turn.specs.declared.Point.{Point}
 use Rattle.turn.specs.Limits.{max_links}
 use Rattle.turn.specs.Points.{before}
@@ -16,8 +16,6 @@ use Rattle.rings.specs.Climb.{AtLast}
 use Rattle.rings.specs.Making.{RingOf}
 use Rattle.rings.specs.Field.{cross_mark, next_of, prev_of, wraps_at}
 use Rattle.hoop.specs.declared.Hoop.{Hoop}
-use Rattle.hoop.specs.declared.Taken.{Taken}
-use Rattle.hoop.specs.declared.Taken.TheVariants.{Wrong, Makes}
 
 -- the last of a list, or d
 abbrev pub last_of : ℕ → List ℕ → ℕ
@@ -60,10 +58,10 @@ module _ (ax ay bx by : List ℤ) (aid bid state here : List ℕ) (v : ℕ) (hom
     pub prv_long : 2 * length aid ≤ length prv
     pub first_below : get_or here 0 0 < length aid
     pub home_is : home ≡ end_at (point_at ax ay) (point_at bx by) (node_at aid) v (get_or here 0 0)
-    pub clear : None (wrong_at ax ay bx by aid bid state here v) j
+    pub clear : NoneBelow (wrong_at ax ay bx by aid bid state here v) j
     pub held : Held (links_of ax ay bx by aid) state v (take j here) nxt prv hoop
 
   -- what becomes of entry j
-  abbrev pub Entered : List ℕ → List ℕ → ℕ → Taken → Type 0
-  Entered nxt prv j Wrong = wrong_at ax ay bx by aid bid state here v j ≡ true
-  Entered nxt prv j (Makes hoop) = Laying nxt prv (j + 1) hoop
+  abbrev pub Entered : List ℕ → List ℕ → ℕ → Option Hoop → Type 0
+  Entered nxt prv j None = wrong_at ax ay bx by aid bid state here v j ≡ true
+  Entered nxt prv j (Some hoop) = Laying nxt prv (j + 1) hoop

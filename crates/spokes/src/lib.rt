@@ -16,20 +16,19 @@ ghost use Rattle.spokes.specs.Entries.{Laying, Entered};
 ghost use Rattle.spokes.specs.Promises.{LayCrossSays};
 
 use graph::{end_at, point_at};
-use hoop::{Hoop, Taken, find_place, put_end};
+use hoop::{Hoop, find_place, put_end};
 use rings::end_of;
 use turn::{Point, differ, wide};
 
 // Checks 5 to 7: whether x stands among the first j of a list.
+// By hand: no entry ends the loop, so that the compiler may look at several at once.
 fn stands_before(here: &[u32], j: usize, x: usize) -> bool
     requires { j ≤ length here.now }
     ensures { result ≡ stands_before here.now j x }
 {
     let mut stands = false;
-    let mut i = 0;
-    while i < j {
-        stands = stands | (wide(here[i]) == x);
-        i += 1;
+    for &e in &here[..j] {
+        stands |= wide(e) == x;
     }
     stands
 }
@@ -80,7 +79,7 @@ fn lay_entry(
     hoop: Hoop,
     home: Point,
     j: usize,
-) -> Taken
+) -> Option<Hoop>
     requires laying { Laying ax.now ay.now bx.now by.now aid.now bid.now state.now here.now v home nxt.old prv.old j hoop }
     requires j_in_bounds { j < length here.now }
     ensures entered { Entered ax.now ay.now bx.now by.now aid.now bid.now
@@ -90,13 +89,13 @@ fn lay_entry(
 {
     let f = wide(here[j]);
     if misses(ax, ay, bx, by, aid, bid, home, v, f) {
-        return Taken::Wrong;
+        return None;
     }
     if state[f] == 1 {
         if stands_before(here, j, f) {
-            return Taken::Wrong;
+            return None;
         }
-        return Taken::Makes(hoop);
+        return Some(hoop);
     }
     let q = end_of(aid, v, f);
     let place = find_place(ax, ay, bx, by, prv, hoop, home, q);
@@ -142,17 +141,15 @@ pub fn lay_cross(
         tail: 0,
         count: 0,
     };
-    let mut j = 0;
-    while j < here.len() {
+    for j in 0..here.len() {
         match lay_entry(
             ax, ay, bx, by, aid, bid, state, here, v, nxt, prv, hoop, home, j,
         ) {
-            Taken::Wrong => {
+            None => {
                 return true;
             }
-            Taken::Makes(ring) => {
+            Some(ring) => {
                 hoop = ring;
-                j += 1;
             }
         }
     }

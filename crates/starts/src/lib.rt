@@ -5,7 +5,6 @@ ghost use Rattle.std.specs.Prelude.{◌-◌, ◌≤◌, length};
 ghost use Rattle.starts.specs.Odds.{Odd, OddBelow};
 ghost use Rattle.starts.specs.Promises.{WrongStartsSays};
 
-use std::num::wrapping_sub_u32;
 use turn::{MAX_LINKS, wide};
 
 // A node has two entries, and at most so many more: two for each link.
@@ -16,20 +15,17 @@ const MOST_MORE: u32 = 8190;
 fn odd(from: u32, to: u32) -> bool
     ensures { Odd from to result }
 {
-    MOST_MORE < wrapping_sub_u32(wrapping_sub_u32(to, from), 2)
+    MOST_MORE < to.wrapping_sub(from).wrapping_sub(2)
 }
 
 // Whether some node has.
+#[tactic(auto, using(crate::specs::Odds::odd_more))]
 fn some_odd(start: &[u32]) -> bool
-    requires { 1 ≤ length start.now }
     ensures { OddBelow start.now (length start.now - 1) result }
 {
-    let m = start.len() - 1;
     let mut some = false;
-    let mut v = 0;
-    while v < m {
-        some = some | odd(start[v], start[v + 1]);
-        v += 1;
+    for pair in start.windows(2) {
+        some |= odd(pair[0], pair[1]);
     }
     some
 }

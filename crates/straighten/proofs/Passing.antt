@@ -53,7 +53,6 @@ module _ (l : List ℤ) (from size to : ℕ) where
 
   pub record Passing (now : List ℤ) (prev p : Point) (w i : ℕ) : Type 0 where
     pub past : from < i
-    pub within : i ≤ end
     pub behind : w < i
     pub prev_grid : OnGrid prev
     pub p_grid : OnGrid p
@@ -98,7 +97,6 @@ module _ (l : List ℤ) (from size to : ℕ) where
     pub starts : to ≤ from → 0 < size → Passing l (point_in l (end - 1)) home to (from + 1)
     starts h k = record {
       past = omega arith;
-      within = omega arith;
       behind = omega arith;
       prev_grid = grid (end - 1) (omega arith) (omega arith);
       p_grid = grid from (omega arith) (omega arith);
@@ -143,7 +141,6 @@ module _ (l : List ℤ) (from size to : ℕ) where
         let c : List Point = rest p (point_in l i) (i + 1) in
         record {
           past = omega (arith, h.past);
-          within = omega (arith, k);
           behind = behind_by w i b h.behind;
           prev_grid = h.p_grid;
           p_grid = grid i (omega (arith, h.past)) k;
@@ -182,7 +179,7 @@ module _ (l : List ℤ) (from size to : ℕ) where
         → (w' ≡ to + length whole) × (now' ≡ paste l to whole)
     ends {now} {prev} {p} {w} {i} h k now' w' ew ep =
         let b : Bool = on_line prev p home in
-        let z : end - i ≡ 0 = omega (arith, h.within) in
+        let z : end - i ≡ 0 = omega arith in
         let e : rest prev p i ≡ pick b [] (p ∷ []) = ap (λ n. corners prev home (p ∷ run l i n)) z in (
           ew ∙ none (pick b w (w + 1)) ∙ count_by w p [] b ∙ ap (λ (r : List Point). w + length r) (sym e) ∙ h.count,
           ep ∙ paste_by now w p [] b ∙ ap (paste now w) (sym e) ∙ h.written,

@@ -1,5 +1,5 @@
 -- The pass over all contours: what is written so far and the corners of the contours still to be read make those of the whole table.
-use Prim.Native.Nat.{ℕ, zero, suc, ◌+◌, ◌*◌, ◌-◌, ◌≤◌, ◌<◌}
+use Prim.Native.Nat.{ℕ, zero, suc, ◌+◌, ◌-◌, ◌≤◌, ◌<◌}
 use native.Mathlib.Omega.{arith}
 use native.Mathlib.Numerals.{add-one}
 use mathlib.Core.Path.{◌≡◌, refl, sym, ap, ap₂, ◌∙◌, subst}
@@ -61,7 +61,6 @@ module _ (l : List ℤ) (firsts₀ lens : List ℕ) (m : ℕ) where
   whole = corners_of (contours_of l lens m)
 
   pub record Passed (points : List ℤ) (first len : List ℕ) (c at to : ℕ) : Type 0 where
-    pub number : c ≤ m
     pub end : at + sum (left c) ≡ sum (sizes_from lens 0 m)
     pub some : Positive (left c)
     pub behind : to ≤ at
@@ -75,36 +74,7 @@ module _ (l : List ℤ) (firsts₀ lens : List ℕ) (m : ℕ) where
     pub len_are : sets len c (sizes (rest c at)) ≡ sets lens 0 (sizes whole)
     pub count : to + sum (sizes (rest c at)) ≡ sum (sizes whole)
 
-  all_left : left 0 ≡ sizes_from lens 0 m
-  all_left = ap (sizes_from lens 0) (none m)
-    where
-      none : (n : ℕ) → n - 0 ≡ n
-      none n = omega arith
-
-  all_rest : rest 0 0 ≡ whole
-  all_rest = ap (λ (ns : List ℕ). corners_of (contours_from l 0 ns)) all_left
-
-  nought : (n : ℕ) → 0 + n ≡ n
-  nought n = omega arith
-
   module _ (h : Stands l firsts₀ lens m) where
-    pub starts : Passed l firsts₀ lens 0 0 0
-    starts = record {
-      number = omega arith;
-      end = nought (sum (left 0)) ∙ ap sum all_left;
-      some = subst Positive (sym all_left) h.some;
-      behind = omega arith;
-      points_long = refl;
-      first_long = refl;
-      len_long = refl;
-      points_left = λ _ _. refl;
-      len_left = λ _ _. refl;
-      points_are = ap (λ (cs : List (List Point)). paste l 0 (joined cs)) all_rest;
-      first_are = ap (λ (cs : List (List Point)). sets firsts₀ 0 (firsts 0 (sizes cs))) all_rest;
-      len_are = ap (λ (cs : List (List Point)). sets lens 0 (sizes cs)) all_rest;
-      count = nought (sum (sizes (rest 0 0))) ∙ ap (λ (cs : List (List Point)). sum (sizes cs)) all_rest;
-    }
-
     module _ (points : List ℤ) (first len : List ℕ) (c at to : ℕ) (p : Passed points first len c at to) (k : c < m) where
       abbrev size : ℕ
       size = get_or lens c 0
@@ -136,13 +106,6 @@ module _ (l : List ℤ) (firsts₀ lens : List ℕ) (m : ℕ) where
       same_run : run points at size ≡ run l at size
       same_run = run_same points l at size p.points_left
 
-      -- what the pass over this contour asks for
-      abbrev Asks : ℕ → Type 0
-      Asks n = (to ≤ at) × (0 < n) × ((at + n) * 2 ≤ length points) × (RunOnGrid points at n)
-
-      pub asks : (size' : ℕ) → size' ≡ get_or len c 0 → Asks size'
-      asks size' e = subst Asks (sym (e ∙ read_size)) (p.behind, positive.0, omega (arith, sum_left, h.within, p.points_long), on_grid)
-
       -- nothing in it passes the limit
       pub few_points_lem : (size' : ℕ) → size' ≡ get_or len c 0 → at + size' ≤ max_links
       few_points_lem size' e = omega (arith, e, read_size, sum_left, h.few)
@@ -154,7 +117,6 @@ module _ (l : List ℤ) (firsts₀ lens : List ℕ) (m : ℕ) where
       -- and what it leaves
       one_more : Passed (paste points to kept) (set first c to) (set len c (length kept)) (c + 1) (at + size) (to + length kept)
       one_more = record {
-        number = omega (arith, k);
         end = omega (arith, sum_left);
         some = positive.1;
         behind = omega (arith, p.behind, kept_few);
@@ -189,24 +151,3 @@ module _ (l : List ℤ) (firsts₀ lens : List ℕ) (m : ℕ) where
           (subst (λ n. Passed (paste points to kept) (set first c to) (set len c (end - to)) (c + 1) (at + n) end) (sym s)
           (subst (λ n. Passed (paste points to kept) (set first c to) (set len c n) (c + 1) (at + size) end) (sym d)
           (subst (λ n. Passed (paste points to kept) (set first c to) (set len c (length kept)) (c + 1) (at + size) n) (sym e) one_more)))
-
-    -- ---- after the last
-    pub record All (points : List ℤ) (first len : List ℕ) (to : ℕ) : Type 0 where
-      pub answer : to ≡ sum (sizes whole)
-      pub points_are : points ≡ paste l 0 (joined whole)
-      pub first_are : first ≡ sets firsts₀ 0 (firsts 0 (sizes whole))
-      pub len_are : len ≡ sets lens 0 (sizes whole)
-
-    pub ends : (points : List ℤ) (first len : List ℕ) (c at to : ℕ) → Passed points first len c at to → m ≤ c → All points first len to
-    ends points first len c at to p k =
-        let z : m - c ≡ 0 = omega (arith, k) in
-        let e : rest c at ≡ [] = ap (λ n. corners_of (contours_from l at (sizes_from lens c n))) z in
-        record {
-          answer = plus to ∙ ap (λ (cs : List (List Point)). to + sum (sizes cs)) (sym e) ∙ p.count;
-          points_are = ap (λ (cs : List (List Point)). paste points to (joined cs)) (sym e) ∙ p.points_are;
-          first_are = ap (λ (cs : List (List Point)). sets first c (firsts to (sizes cs))) (sym e) ∙ p.first_are;
-          len_are = ap (λ (cs : List (List Point)). sets len c (sizes cs)) (sym e) ∙ p.len_are;
-        }
-      where
-        plus : (n : ℕ) → n ≡ n + 0
-        plus n = omega arith

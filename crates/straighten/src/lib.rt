@@ -16,7 +16,7 @@ use keep::Counts;
 use leave::put_point;
 use table::point_in;
 use turn::{Point, Vector, between, cross_product, wide};
-use zeros::zero_points;
+use zeros::zero_from;
 
 // A corner is written as point number `to`; a point where the edge to it, u, and the edge from it, v, lie on one line is not.
 fn keep_corner(points: &mut [i32], u: Vector, v: Vector, p: Point, to: usize) -> usize
@@ -25,10 +25,11 @@ fn keep_corner(points: &mut [i32], u: Vector, v: Vector, p: Point, to: usize) ->
     ensures points_after { points.new ≡ pick (level u v) points.old (put points.old to p) }
 {
     if cross_product(u, v) == 0 {
-        return to;
+        to
+    } else {
+        put_point(points, to, p);
+        to + 1
     }
-    put_point(points, to, p);
-    to + 1
 }
 
 // The corners of the contour of `size` points from number `from` on are written from number `to` on.
@@ -43,14 +44,12 @@ fn keep_corners(points: &mut [i32], from: usize, size: usize, to: usize) -> usiz
     let mut u = between(last, home);
     let mut p = home;
     let mut w = to;
-    let mut i = from + 1;
-    while i < end {
+    for i in from + 1..end {
         let next = point_in(points, i);
         let v = between(p, next);
         w = keep_corner(points, u, v, p, w);
         u = v;
         p = next;
-        i += 1;
     }
     keep_corner(points, u, between(p, home), p, w)
 }
@@ -65,17 +64,15 @@ fn pass_contours(points: &mut [i32], first: &mut [u32], len: &mut [u32], contour
         ≡ sets first.old 0 (firsts 0 (sizes (corners_of (contours_of points.old len.old contours)))) }
     ensures len_after { len.new ≡ sets len.old 0 (sizes (corners_of (contours_of points.old len.old contours))) }
 {
-    let mut c = 0;
     let mut at = 0;
     let mut to = 0;
-    while c < contours {
+    for c in 0..contours {
         let size = wide(len[c]);
         let end = keep_corners(points, at, size, to);
         first[c] = to as u32;
         len[c] = (end - to) as u32;
         at += size;
         to = end;
-        c += 1;
     }
     to
 }
@@ -87,16 +84,6 @@ pub fn drop_straight(points: &mut [i32], first: &mut [u32], len: &mut [u32], c: 
         len.new }
 {
     let to = pass_contours(points, first, len, c.contours);
-    zero_points(points, to * 2);
-    let kept_area = c.kept_area;
-    let rejected_area = c.rejected_area;
-    Counts {
-        contours: c.contours,
-        points: to,
-        rejected: c.rejected,
-        walked: c.walked,
-        left_out: c.left_out,
-        kept_area: kept_area,
-        rejected_area: rejected_area,
-    }
+    zero_from(points, to * 2);
+    Counts { points: to, ..c }
 }

@@ -9,8 +9,10 @@ ghost use Rattle.contour.specs.Notes.{Roomy};
 ghost use Rattle.scan.specs.Notes.{Ends};
 ghost use Rattle.sweep.specs.Promises.{ScanLinksSays};
 
-use contour::{Noted, Settings};
-use scan::{Extraction, scan_walk};
+use contour::Settings;
+use keep::Counts;
+use scan::scan_walk;
+use turn::Refusal;
 
 // The scan: a walk from each lowest unvisited link. Rule 7: it moves on only when link k is visited; until then it holds the last walk's first link.
 pub fn scan_links(
@@ -28,7 +30,7 @@ pub fn scan_links(
     first: &mut [u32],
     len: &mut [u32],
     kind: &mut [u8],
-) -> Extraction
+) -> Result<Counts, Refusal>
     requires fielded { Fielded ax.now ay.now bx.now by.now top.now nxt.now prv.now lead.now state.old }
     requires links { (Links ax.now ay.now bx.now by.now (length state.old)) × (length top.now ≡ length state.old) }
     requires roomy { Roomy (length state.old) (length points.old) (length first.old) (length len.old) (length kind.old) }
@@ -40,32 +42,25 @@ pub fn scan_links(
 {
     let n = state.len();
     let mut k = 0;
-    let mut held = n;
+    let mut held = None;
     let mut c = keep::no_counts();
+    // By index: k moves on only past a visited link, and a `for` over k would have a second loop in it.
     while k < n {
         if state[k] != 0 {
             k += 1;
-            held = n;
+            held = None;
             continue;
         }
         match scan_walk(
             ax, ay, bx, by, nxt, prv, lead, top, settings, state, points, first, len, kind, k,
             held, c,
         ) {
-            Noted::Stuck(number) => {
-                return Extraction::Refused {
-                    number: number,
-                    place: k,
-                };
-            }
-            Noted::Entered {
-                counts: d,
-                first: s,
-            } => {
-                c = d;
-                held = s;
+            Err(reason) => return Err(Refusal { reason, place: k }),
+            Ok(entered) => {
+                c = entered.counts;
+                held = Some(entered.first);
             }
         }
     }
-    Extraction::Done(c)
+    Ok(c)
 }

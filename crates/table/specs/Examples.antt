@@ -1,9 +1,10 @@
 -- The contour tables of E9 and E10, and what check 10 says of them and of tables with a fault.
 use Rattle.std.specs.Prelude.{◌≡◌, refl, List, [], ◌∷◌, ◌++◌, ℤ, pos, negsuc}
 use Rattle.laws.specs.Lowest.{lowest}
-use Rattle.turn.specs.declared.Checked.TheVariants.{Fine, Refused}
 use Rattle.table.specs.Table.{Table, table}
 use Rattle.table.specs.TableChecks.{table_checked}
+use Rattle.turn.specs.Refusals.{refused, no_fault}
+use Rattle.turn.specs.declared.Reason.TheVariants.{WrongTable}
 
 -- ---- the contours of E9 and E10
 abbrev pub first_hull : List ℤ
@@ -35,28 +36,28 @@ e10_one = table (first_hull ++ first_hole ++ far_hole) (0 ∷ 4 ∷ 8 ∷ []) (4
 abbrev pub no_hull : Table
 no_hull = table (first_hole ++ far_hole) (0 ∷ 4 ∷ []) (4 ∷ 4 ∷ []) (1 ∷ 1 ∷ [])
 
-e9_cramped : table_checked e9 3 ≡ Refused 10 0
+e9_cramped : table_checked e9 3 ≡ refused WrongTable 0
 unfolding table_checked lowest
 e9_cramped = refl
 
 -- the last point equal to the first: neighbours round the contour
 closed : table_checked (table (first_hull ++ (pos 1 ∷ pos 1 ∷ pos 3 ∷ pos 1 ∷ pos 2 ∷ pos 2 ∷ pos 1 ∷ pos 1 ∷ [])) (0 ∷ 4 ∷ []) (4 ∷ 4 ∷ [])
-    (0 ∷ 0 ∷ [])) 2 ≡ Refused 10 1
+    (0 ∷ 0 ∷ [])) 2 ≡ refused WrongTable 1
 unfolding table_checked lowest
 closed = refl
 
-outside : table_checked (table (negsuc 524287 ∷ pos 524288 ∷ pos 0 ∷ pos 0 ∷ pos 524289 ∷ pos 0 ∷ []) (0 ∷ []) (3 ∷ []) (0 ∷ [])) 1 ≡ Refused 10 0
+outside : table_checked (table (negsuc 524287 ∷ pos 524288 ∷ pos 0 ∷ pos 0 ∷ pos 524289 ∷ pos 0 ∷ []) (0 ∷ []) (3 ∷ []) (0 ∷ [])) 1 ≡ refused WrongTable 0
 unfolding table_checked lowest
 outside = refl
 
-at_the_bounds : table_checked (table (negsuc 524287 ∷ pos 524288 ∷ pos 0 ∷ pos 0 ∷ pos 524288 ∷ pos 0 ∷ []) (0 ∷ []) (3 ∷ []) (0 ∷ [])) 1 ≡ Fine
+at_the_bounds : table_checked (table (negsuc 524287 ∷ pos 524288 ∷ pos 0 ∷ pos 0 ∷ pos 524288 ∷ pos 0 ∷ []) (0 ∷ []) (3 ∷ []) (0 ∷ [])) 1 ≡ no_fault
 unfolding table_checked lowest
 at_the_bounds = refl
 
-no_contour : table_checked (table [] [] [] []) 0 ≡ Fine
+no_contour : table_checked (table [] [] [] []) 0 ≡ no_fault
 unfolding table_checked lowest
 no_contour = refl
 
-points_without_contour : table_checked (table first_hull [] [] []) 0 ≡ Refused 10 0
+points_without_contour : table_checked (table first_hull [] [] []) 0 ≡ refused WrongTable 0
 unfolding table_checked lowest
 points_without_contour = refl

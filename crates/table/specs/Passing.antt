@@ -6,8 +6,8 @@ use Rattle.laws.specs.Lowest.{lowest, some, found}
 use Rattle.laws.specs.Fails.{Iff, then, both, ne_fails, or_fails, some_fails}
 use Rattle.turn.specs.Limits.{max_links}
 use Rattle.turn.specs.Points.{differ, Coord, OnGrid, Grid}
-use Rattle.turn.specs.declared.Checked.TheVariants.{Fine}
-use Rattle.turn.specs.Refusals.{refuses}
+use Rattle.turn.specs.Refusals.{refuses, no_fault}
+use Rattle.turn.specs.declared.Reason.TheVariants.{WrongTable}
 use Rattle.table.specs.Table.{Table, point_count, point, contour_count, max_contours, first_of, len_of, range_end, kind_of, contour_of, next_in}
 use Rattle.table.specs.Table.{previous_in, next}
 use Rattle.table.specs.TableChecks.{misfit, start_in, unended, bad_contour, table_checked}
@@ -102,13 +102,13 @@ abbrev Parts : Table → ℕ → Type 0
 Parts t owners =
     ((Fitting t owners) × (start_in t.first t.len (contour_count t) ≡ point_count t)) × ((c : ℕ) → c < contour_count t → Right t c)
 
-parts : (t : Table) (owners : ℕ) → Iff (table_checked t owners ≡ Fine) (Parts t owners)
+parts : (t : Table) (owners : ℕ) → Iff (table_checked t owners ≡ no_fault) (Parts t owners)
 unfolding table_checked
 parts t owners =
-    then (refuses (misfit (length t.points) (length t.first) (length t.len) (length t.kind) owners || unended t) 10 0 _)
+    then (refuses (misfit (length t.points) (length t.first) (length t.len) (length t.kind) owners || unended t) WrongTable 0 _)
     (both
     (or_fails (fitting (length t.points) (length t.first) (length t.len) (length t.kind) owners) (ne_fails _ _))
-    (then (refuses (some (bad_contour t) (contour_count t)) 10 (lowest (bad_contour t) (contour_count t)) Fine)
+    (then (refuses (some (bad_contour t) (contour_count t)) WrongTable (lowest (bad_contour t) (contour_count t)) no_fault)
     (then (record { to = λ h. h.0; from = λ h. (h, refl) })
     (some_fails (contour_count t) (λ c. contour_right t.points (start_in t.first t.len c) (first_of t c) (len_of t c) (kind_of t c))))))
 
@@ -192,7 +192,7 @@ module _ (t : Table) (owners : ℕ) (s : Sound t) (r : contour_count t ≤ owner
   parts_of = ((((((s.len_long, s.kind_long), r), s.few), omega (arith, s.whole)), s.ends), right)
 
 -- check 10 passes exactly the sound tables with room for the owners
-pub passes_sound : (t : Table) (owners : ℕ) → Iff (table_checked t owners ≡ Fine) ((Sound t) × (contour_count t ≤ owners))
+pub passes_sound : (t : Table) (owners : ℕ) → Iff (table_checked t owners ≡ no_fault) ((Sound t) × (contour_count t ≤ owners))
 passes_sound t owners =
     then (parts t owners)
     (record { to = λ h. (sound_of t owners h, h.0.0.0.0.1); from = λ h. parts_of t owners h.0 h.1 })

@@ -6,6 +6,7 @@ use Rattle.laws.specs.Count.{count}
 use Rattle.turn.specs.declared.Point.{Point}
 use Rattle.turn.specs.Limits.{max_links}
 use Rattle.turn.specs.Area.{points_of}
+use Rattle.table.specs.declared.Contours.{Contours}
 
 -- The points of all contours, x and y in turn; at a number c the other lists have contour c's first point, how many
 -- points it has, and its kind: 0 a hull, 1 a hole.
@@ -17,6 +18,10 @@ pub record Table : Type 0 where
 
 abbrev pub table : List ℤ → List ℕ → List ℕ → List ℕ → Table
 table points first len kind = record { points = points; first = first; len = len; kind = kind }
+
+-- what the code is lent
+abbrev pub table_of : Contours → Table
+table_of c = table c.points.now c.first.now c.len.now c.kind.now
 
 -- ---- points, by their position in the list
 abbrev pub point_in : List ℤ → ℕ → Point

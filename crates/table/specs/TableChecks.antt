@@ -3,10 +3,9 @@ use Rattle.std.specs.Prelude.{ℕ, zero, suc, ◌+◌, ◌/◌, ◌%◌, Bool, n
 use Rattle.laws.specs.Lowest.{some}
 use Rattle.turn.specs.Limits.{max_links}
 use Rattle.turn.specs.Points.{differ, off_grid}
-use Rattle.turn.specs.Refusals.{refuse_if, refuse_at}
-use Rattle.turn.specs.declared.Checked.{Checked}
-use Rattle.turn.specs.declared.Checked.TheVariants.{Fine}
+use Rattle.turn.specs.Refusals.{refuse_if, refuse_at, Checked, no_fault}
 use Rattle.table.specs.Table.{Table, point_in, point_count, contour_count, first_of, len_of, kind_of, previous_in}
+use Rattle.turn.specs.declared.Reason.TheVariants.{WrongTable}
 
 -- ---- 10, "binding, first", at 0
 -- "lists differ in length; room for owners below the contour count; more than 4,096 points"; a last x without its y counts as a list of wrong length
@@ -48,6 +47,6 @@ bad_contour t c = contour_fault t.points (start_in t.first t.len c) (first_of t 
 -- check 10, of a table and the length of the owner buffer
 unfoldable pub table_checked : Table → ℕ → Checked
 table_checked t owners =
-    refuse_if 10 (misfit (length t.points) (length t.first) (length t.len) (length t.kind) owners || unended t)
-    (refuse_at 10 (bad_contour t) (contour_count t)
-    Fine)
+    refuse_if WrongTable (misfit (length t.points) (length t.first) (length t.len) (length t.kind) owners || unended t)
+    (refuse_at WrongTable (bad_contour t) (contour_count t)
+    no_fault)

@@ -6,6 +6,16 @@ ghost use Rattle.table.specs.Promises.{PointInSays, NextPositionSays, PreviousPo
 
 use turn::Point;
 
+// The contour table as it is lent: the points of all contours, x and y in turn, and at a number c contour c's first point,
+// how many points it has, and its kind.
+#[derive(Clone, Copy)]
+pub struct Contours<'a> {
+    pub points: &'a [i32],
+    pub first: &'a [u32],
+    pub len: &'a [u32],
+    pub kind: &'a [u8],
+}
+
 // The most contours of a table: each has at least 3 points.
 pub const MAX_CONTOURS: usize = turn::MAX_LINKS / 3;
 
@@ -29,10 +39,7 @@ pub fn next_position(p: usize, from: usize, to: usize) -> usize
     requires { p < to }
     ensures { NextPositionSays from to p result }
 {
-    if p + 1 == to {
-        return from;
-    }
-    p + 1
+    if p + 1 == to { from } else { p + 1 }
 }
 
 // The position before p, round a contour that stands from a position up to another.
@@ -40,10 +47,7 @@ pub fn previous_position(p: usize, from: usize, to: usize) -> usize
     requires { (from ≤ p) × (p < to) }
     ensures { PreviousPositionSays from to p result }
 {
-    if p == from {
-        return to - 1;
-    }
-    p - 1
+    if p == from { to - 1 } else { p - 1 }
 }
 
 // How many of the first n contours are hulls.
@@ -51,11 +55,10 @@ pub fn hulls_before(kind: &[u8], n: usize) -> usize
     requires { n ≤ length kind.now }
     ensures { HullsBeforeSays kind.now n result }
 {
+    // By hand: `filter` and `count` jump at every kind, and execute twice as many instructions.
     let mut count = 0;
-    let mut c = 0;
-    while c < n {
-        count = one_more_if_hull(kind[c], count);
-        c += 1;
+    for k in &kind[..n] {
+        count = one_more_if_hull(*k, count);
     }
     count
 }
@@ -65,8 +68,5 @@ pub fn one_more_if_hull(kind: u8, count: usize) -> usize
     requires { count + 1 < 2 ^ 64 }
     ensures { OneMoreIfHullSays kind count result }
 {
-    if kind == 0 {
-        return count + 1;
-    }
-    count
+    if kind == 0 { count + 1 } else { count }
 }

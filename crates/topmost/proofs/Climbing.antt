@@ -1,4 +1,5 @@
 -- The climb at a `Cross` (`topmost`): what the loop keeps, and one law for each thing that a turn needs.
+use Rattle.std.specs.Prelude.{Option, Some}
 use Prim.Native.Nat.{ℕ, ◌*◌, ◌%◌, ◌≤◌, ◌<◌}
 use native.Mathlib.Omega.{arith}
 use mathlib.Core.Path.{◌≡◌, refl, sym, ap, ◌∙◌, subst}
@@ -8,8 +9,6 @@ use lib.ListN.{length, get_or}
 use borrow.Author.Tests.{le-leb, lt-leb}
 use Rattle.laws.specs.Test.{pick, pick_ind}
 use Rattle.graph.specs.Graph.{Graph}
-use Rattle.next.specs.declared.Next.{Next}
-use Rattle.next.specs.declared.Next.TheVariants.{Link}
 use Rattle.next.specs.Next.{is_unvisited}
 use Rattle.next.specs.States.{read_unvisited, read_shut}
 use Rattle.rings.specs.Ends.{a_end, link_of, link_below}
@@ -27,7 +26,7 @@ module _ (st : List ℕ) (x s : ℕ) (l : x < length st) where
 
 -- ---- the loop, at end `at`, with s the last unvisited link met and f what `nxt` holds at `at`
 pub record Climbing (nxt st : List ℕ) (k at s f : ℕ) : Type 0 where
-  pub on : (g : Graph) (v : ℕ) (answer : Next)
+  pub on : (g : Graph) (v : ℕ) (answer : Option ℕ)
       → Above g v (next_of nxt) (wraps_at nxt) (length st) st answer (a_end k) k
       → Above g v (next_of nxt) (wraps_at nxt) (length st) st answer at s
   pub unvisited : is_unvisited st s ≡ true
@@ -84,8 +83,8 @@ module _ (nxt st : List ℕ) (k : ℕ) (r : Rises nxt st k) where
       }
 
     -- at the ring's last
-    pub climb_ends : wrap_mark ≤ f → (g : Graph) (v : ℕ) (answer : Next)
-        → Above g v (next_of nxt) (wraps_at nxt) (length st) st answer (a_end k) k → Link s ≡ answer
+    pub climb_ends : wrap_mark ≤ f → (g : Graph) (v : ℕ) (answer : Option ℕ)
+        → Above g v (next_of nxt) (wraps_at nxt) (length st) st answer (a_end k) k → Some s ≡ answer
     climb_ends w g v answer a =
         at_top g v (next_of nxt) (wraps_at nxt) (c.on g v answer a)
         (le-leb wrap_mark (get_or nxt at 0) (subst (λ x. wrap_mark ≤ x) c.read w))

@@ -1,4 +1,5 @@
 -- The descent at a `Cross` (`next_below`): what the loop keeps, and one law for each thing that a turn needs.
+use Rattle.std.specs.Prelude.{Option, Some}
 use Prim.Native.Nat.{ℕ, ◌*◌, ◌<◌}
 use native.Mathlib.Omega.{arith}
 use mathlib.Core.Path.{◌≡◌, sym, ap, ◌∙◌}
@@ -7,8 +8,6 @@ use mathlib.Core.List.{List}
 use lib.ListN.{length}
 use Rattle.laws.specs.Test.{true≢false}
 use Rattle.graph.specs.Graph.{Graph}
-use Rattle.next.specs.declared.Next.{Next}
-use Rattle.next.specs.declared.Next.TheVariants.{Link}
 use Rattle.next.specs.Next.{is_unvisited}
 use Rattle.rings.specs.Ends.{a_end, link_of, a_link, end_link, link_below}
 use Rattle.rings.specs.Follow.{next_end, to_go, step_below, came_back, found, passed, nearer}
@@ -20,7 +19,7 @@ use Rattle.topmost.specs.Ring.{LeftAt, Falls}
 pub record Falling (prv st : List ℕ) (held at : ℕ) : Type 0 where
   pub prior : ℕ
   pub is : at ≡ prev_of prv prior
-  pub on : (g : Graph) (v : ℕ) (answer : Next) → LeftAt g v prv st held answer (a_end held) → LeftAt g v prv st held answer prior
+  pub on : (g : Graph) (v : ℕ) (answer : Option ℕ) → LeftAt g v prv st held answer (a_end held) → LeftAt g v prv st held answer prior
 
 -- the measure
 abbrev pub to_go_down : List ℕ → List ℕ → ℕ → ℕ → ℕ
@@ -37,8 +36,8 @@ module _ (prv st : List ℕ) (held : ℕ) (r : Falls prv st held) where
   fall_starts at e = record { prior = a_end held; is = e; on = λ g v answer l. l }
 
   module _ (at : ℕ) (c : Falling prv st held at) where
-    here : LeftAt r.graph r.node prv st held (Link r.link) c.prior
-    here = c.on r.graph r.node (Link r.link) r.left
+    here : LeftAt r.graph r.node prv st held (Some r.link) c.prior
+    here = c.on r.graph r.node (Some r.link) r.left
 
     pub at_below : at < 2 * length st
     at_below = step_below r.graph r.node (a_end held) (prev_of prv) here c.is
@@ -57,11 +56,11 @@ module _ (prv st : List ℕ) (held : ℕ) (r : Falls prv st held) where
         true≢false r.fresh (ap (is_unvisited st) l ∙ r.visited)
 
     -- at the end of an unvisited link: that is the one
-    pub fall_ends : is_unvisited st (link_of at) ≡ true → (g : Graph) (v : ℕ) (answer : Next)
-        → LeftAt g v prv st held answer (a_end held) → Link (link_of at) ≡ answer
+    pub fall_ends : is_unvisited st (link_of at) ≡ true → (g : Graph) (v : ℕ) (answer : Option ℕ)
+        → LeftAt g v prv st held answer (a_end held) → Some (link_of at) ≡ answer
     fall_ends o g v answer l =
         let f : at ≡ next_end g v (a_end held) answer = found g v (a_end held) (prev_of prv) (c.on g v answer l) c.is away o in
-        ap (λ (x : ℕ). Link (link_of x)) f ∙ sym (some_next g v (a_end held) answer (λ q. away (f ∙ q)))
+        ap (λ (x : ℕ). Some (link_of x)) f ∙ sym (some_next g v (a_end held) answer (λ q. away (f ∙ q)))
 
     -- at the end of a visited one: the loop goes on
     pub fall_on : is_unvisited st (link_of at) ≡ false → (to : ℕ) → to ≡ prev_of prv at → Falling prv st held to

@@ -1,9 +1,7 @@
 -- Rule 1 at a `Cross` as the code reads it off the field of ends: what the climb and the descent need.
-use Rattle.std.specs.Prelude.{ℕ, ◌*◌, ◌≤◌, ◌≡◌, true, false, List, length}
+use Rattle.std.specs.Prelude.{ℕ, ◌*◌, ◌≤◌, ◌≡◌, true, false, List, length, Option, Some}
 use Rattle.turn.specs.Limits.{max_links}
 use Rattle.graph.specs.Graph.{Graph}
-use Rattle.next.specs.declared.Next.{Next}
-use Rattle.next.specs.declared.Next.TheVariants.{Link}
 use Rattle.next.specs.Next.{is_unvisited}
 use Rattle.rings.specs.Ends.{a_end}
 use Rattle.rings.specs.Climb.{Above}
@@ -16,11 +14,11 @@ pub record Rises (nxt st : List ℕ) (k : ℕ) : Type 0 where
   pub nxt_long : 2 * length st ≤ length nxt
   pub graph : Graph
   pub node : ℕ
-  pub answer : Next
+  pub answer : Option ℕ
   pub above : Above graph node (next_of nxt) (wraps_at nxt) (length st) st answer (a_end k) k
 
 -- what is left of a ring at end `at`, down from link held's a
-abbrev pub LeftAt : Graph → ℕ → (prv st : List ℕ) → ℕ → Next → ℕ → Type 0
+abbrev pub LeftAt : Graph → ℕ → (prv st : List ℕ) → ℕ → Option ℕ → ℕ → Type 0
 LeftAt g v prv st held answer at = Left g v (a_end held) (prev_of prv) (length st) st answer at
 
 -- down from link held, which is visited, the ends of `prv` lead to an unvisited link: in some graph, at some node
@@ -32,4 +30,4 @@ pub record Falls (prv st : List ℕ) (held : ℕ) : Type 0 where
   pub node : ℕ
   pub link : ℕ
   pub fresh : is_unvisited st link ≡ true
-  pub left : LeftAt graph node prv st held (Link link) (a_end held)
+  pub left : LeftAt graph node prv st held (Some link) (a_end held)

@@ -1,8 +1,7 @@
 -- The third demand for extraction itself: a graph that passes the checks and comes by turns, lent with enough room, is
--- answered Done, and the kept and the rejected total are the total over the links.
+-- answered Ok, and the kept and the rejected total are the total over the links.
 use Rattle.std.specs.Prelude.{ℕ, ◌≡◌, Bool, List}
 use Rattle.std.proofs.Common.{ap, ◌∙◌}
-use Rattle.turn.specs.declared.Checked.TheVariants as check
 use Rattle.graph.specs.Graph.{Lent, Graph, graph_of}
 use Rattle.graph.specs.Checks.{checked}
 use Rattle.keep.specs.Outcome.{counts_of, states_after}
@@ -12,9 +11,10 @@ use Rattle.finish.specs.Finish.{Buffers}
 use Rattle.tour.specs.Statement.{ComesByTurns}
 use Rattle.tour.proofs.Demand.{third_demand, kept_total}
 use Rattle.tour.specs.Answer.{room_in, Answered}
+use Rattle.turn.specs.Refusals.{no_fault}
 
 pub answered : (g : Lent) (top : List ℕ) (cw : Bool) (minimum : ℕ) (b : Buffers) → checked g top b.state (room_in b)
-    ≡ check.Fine → ComesByTurns (graph_of g top) b.state → Answered g top cw minimum b
+    ≡ no_fault → ComesByTurns (graph_of g top) b.state → Answered g top cw minimum b
 unfolding extracted
 answered g top cw minimum b e t =
     let G : Graph = graph_of g top in

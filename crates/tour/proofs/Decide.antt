@@ -1,5 +1,5 @@
 -- The condition is decidable: a test that computes, and that passes exactly where a graph that passes the checks comes by turns.
-use Rattle.std.specs.Prelude.{ℕ, ◌≤◌, ◌≡◌, refl, Bool, true, false, not, List, [], ◌∷◌}
+use Rattle.std.specs.Prelude.{ℕ, ◌≤◌, ◌≡◌, refl, Bool, true, false, not, List, [], ◌∷◌, Some}
 use Rattle.std.proofs.Common.{arith, sym, ap, ◌∙◌, subst, ⊎_elim}
 use Rattle.std.proofs.Math.Decide.{ℕ_discrete, dec_le}
 use Rattle.std.specs.Bool.{beq}
@@ -7,12 +7,10 @@ use mathlib.Core.List.Memᴰ
 use Rattle.std.proofs.lemmas.Bool.{not-false}
 use Rattle.laws.specs.Test.{and_true, true_and, not_is}
 use Rattle.laws.specs.Lowest.{some, none_of, some_no}
-use Rattle.turn.specs.declared.Checked.TheVariants.{Fine}
 use Rattle.graph.specs.Graph.{Lent, Graph, graph_of, node_count}
 use Rattle.graph.specs.Checks.{Room, checked}
 use Rattle.laws.specs.Fails.{Iff}
 use Rattle.graph.specs.Fine.{fine}
-use Rattle.next.specs.declared.Next.TheVariants.{Link}
 use Rattle.next.specs.Next.{unvisited_in, met_first, first_met}
 use Rattle.next.specs.Choice.{Mem, unvisited_in_in, unvisited_in_of}
 use Rattle.tour.specs.Statement.{leaves, ComesByTurns}
@@ -22,6 +20,7 @@ use Rattle.tour.specs.Sound.{Sound, At, NoneBetween, NextTurns}
 use Rattle.tour.proofs.Round.{order, next_turns, comes_by_turns_lem}
 use Rattle.tour.specs.Passing.{sound, sound_fine}
 use Rattle.tour.specs.Decide.{all_of, other_sort, turns_at, comes_by_turns}
+use Rattle.turn.specs.Refusals.{no_fault}
 
 all_of_lem : (test : ℕ → Bool) (l : List ℕ) → all_of test l ≡ true → (x : ℕ) → Mem x l → test x ≡ true
 all_of_lem test [] t x m = absurd (Memᴰ.not-nil m)
@@ -47,7 +46,7 @@ eq_beq false false e = refl
 
 module _ (g : Graph) (st : List ℕ) (ok : Sound g st) where
   -- the next clockwise: it is there, whatever the sorts
-  next_there : (v x : ℕ) → At g st v x → (z : ℕ) × (first_met (met_first g true v x) (unvisited_in st (g.entries v)) ≡ Link z)
+  next_there : (v x : ℕ) → At g st v x → (z : ℕ) × (first_met (met_first g true v x) (unvisited_in st (g.entries v)) ≡ Some z)
       × (At g st v z × NoneBetween g st v x z)
   next_there v x a =
       let l : List ℕ = g.entries v in
@@ -70,7 +69,7 @@ module _ (g : Graph) (st : List ℕ) (ok : Sound g st) where
       one x a = by (n v x a) (next_there v x a)
         where
           by : (z : ℕ) × (At g st v z × NoneBetween g st v x z) × (leaves g v z ≡ not (leaves g v x))
-              → (y : ℕ) × (first_met (met_first g true v x) (unvisited_in st (g.entries v)) ≡ Link y) × (At g st v y × NoneBetween g st v x y) → test v x ≡ true
+              → (y : ℕ) × (first_met (met_first g true v x) (unvisited_in st (g.entries v)) ≡ Some y) × (At g st v y × NoneBetween g st v x y) → test v x ≡ true
           by p r = ap (other_sort g v x) r.1 ∙ eq_beq (leaves g v r.0) (not (leaves g v x)) (ap (leaves g v) (same (ℕ_discrete r.0 p.0)) ∙ p.2)
             where
               same : Dec (r.0 ≡ p.0) → r.0 ≡ p.0
@@ -93,11 +92,11 @@ module _ (g : Graph) (st : List ℕ) (ok : Sound g st) where
 -- ---- of what is lent
 
 -- the two forms of the condition say one thing
-pub two_forms : (g : Lent) (top st : List ℕ) (r : Room) → checked g top st r ≡ Fine → Iff (ComesByTurns (graph_of g top) st) (NextTurns (graph_of g top) st)
+pub two_forms : (g : Lent) (top st : List ℕ) (r : Room) → checked g top st r ≡ no_fault → Iff (ComesByTurns (graph_of g top) st) (NextTurns (graph_of g top) st)
 two_forms g top st r e = let ok = sound g top st r e in record { to = next_turns (graph_of g top) st ok; from = comes_by_turns_lem (graph_of g top) st ok }
 
 -- and the test passes exactly there
-pub comes_exactly : (g : Lent) (top st : List ℕ) (r : Room) → checked g top st r ≡ Fine → Iff (comes_by_turns (graph_of g top) st (node_count g) ≡ true)
+pub comes_exactly : (g : Lent) (top st : List ℕ) (r : Room) → checked g top st r ≡ no_fault → Iff (comes_by_turns (graph_of g top) st (node_count g) ≡ true)
     (ComesByTurns (graph_of g top) st)
 comes_exactly g top st r e =
     let h = fine g top st r e in

@@ -9,6 +9,7 @@ use Rattle.tour.specs.Statement.{Toured, ThirdDemand, link_total}
 use Rattle.tour.proofs.Round.{next_turns}
 use Rattle.tour.proofs.Theorem.{tour}
 use Rattle.tour.specs.Passing.{sound}
+use Rattle.turn.specs.declared.Reason.{Reason}
 
 pub third_demand : ThirdDemand
 third_demand g top st r cw e t = let ok = sound g top st r e in tour _ st ok (next_turns _ st ok t) cw
@@ -19,9 +20,9 @@ pub kept_total : (g : Graph) (cw : Bool) (st : List ℕ) (minimum : ℕ) (t : To
 kept_total g cw st minimum t = kept_and_rejected g minimum t.found ∙ t.area
 
 -- the scan of such a graph is never refused
-pub not_stopped : (g : Graph) (cw : Bool) (st : List ℕ) → Toured g cw st → (number place : ℕ) → scan g cw st ≡ stopped number place → ⊥
-not_stopped g cw st t number place e = subst IsWalks (sym t.done ∙ e) tt
+pub not_stopped : (g : Graph) (cw : Bool) (st : List ℕ) → Toured g cw st → (reason : Reason) (place : ℕ) → scan g cw st ≡ stopped reason place → ⊥
+not_stopped g cw st t reason place e = subst IsWalks (sym t.done ∙ e) tt
   where
     IsWalks : Scanned → Type 0
-    IsWalks (stopped number place) = ⊥
+    IsWalks (stopped reason place) = ⊥
     IsWalks (walks ws after) = Unit {0}

@@ -3,7 +3,6 @@
 use Rattle.std.specs.Prelude.{ℕ, ◌≡◌, refl, Bool, true, false, not, List, [], ◌∷◌, map, eqb, ℤ, pos, neg_ℤ}
 use Rattle.laws.specs.Test.{true≢false}
 use Rattle.laws.specs.Lowest.{lowest, some}
-use Rattle.turn.specs.declared.Checked.TheVariants.{Fine}
 use Rattle.graph.specs.Graph.{Lent, lent, Graph, graph_of}
 use Rattle.laws.specs.Count.{count}
 use Rattle.graph.specs.Checks.{room, nodes_checked, each_checked, links_checked, checked}
@@ -14,6 +13,8 @@ use Rattle.tour.specs.Statement.{leaves, how_many, ComesByTurns, link_total, Tou
 use Rattle.tour.proofs.Demand.{third_demand}
 use Rattle.tour.specs.Decide.{comes_by_turns}
 use Rattle.tour.proofs.Decide.{comes_exactly}
+use Rattle.turn.specs.Refusals.{no_fault}
+use Rattle.turn.specs.declared.Reason.TheVariants.{NoNextLink, WrongLastLink}
 
 abbrev p : ℕ → ℤ
 p = pos
@@ -49,7 +50,7 @@ island_states = 0 ∷ 0 ∷ 0 ∷ 0 ∷ 0 ∷ 0 ∷ 0 ∷ 0 ∷ 0 ∷ 0 ∷ 0 �
 abbrev island_graph : Graph
 island_graph = graph_of island island_tops
 
-island_fine : checked island island_tops island_states (room 24 4 4 4) ≡ Fine
+island_fine : checked island island_tops island_states (room 24 4 4 4) ≡ no_fault
 unfolding checked links_checked each_checked nodes_checked lowest count
 island_fine = refl
 
@@ -101,7 +102,7 @@ crossed_states = 0 ∷ 0 ∷ 0 ∷ 0 ∷ 0 ∷ 0 ∷ []
 abbrev crossed_graph : Graph
 crossed_graph = graph_of crossed crossed_tops
 
-crossed_fine : checked crossed crossed_tops crossed_states (room 12 2 2 2) ≡ Fine
+crossed_fine : checked crossed crossed_tops crossed_states (room 12 2 2 2) ≡ no_fault
 unfolding checked links_checked each_checked nodes_checked lowest count
 crossed_fine = refl
 
@@ -120,7 +121,7 @@ crossed_test = refl
 pub crossed_not_by_turns : ComesByTurns crossed_graph crossed_states → ⊥
 crossed_not_by_turns t = true≢false ((comes_exactly crossed crossed_tops crossed_states (room 12 2 2 2) crossed_fine).from t) crossed_test
 
-pub crossed_refused : scan crossed_graph false crossed_states ≡ stopped 9 0
+pub crossed_refused : scan crossed_graph false crossed_states ≡ stopped WrongLastLink 0
 unfolding scan_on walk_on walk_from next_link first_link lowest
 crossed_refused = refl
 
@@ -138,7 +139,7 @@ square_states = 1 ∷ 0 ∷ 0 ∷ 0 ∷ []
 abbrev square_graph : Graph
 square_graph = graph_of square square_tops
 
-square_fine : checked square square_tops square_states (room 8 1 1 1) ≡ Fine
+square_fine : checked square square_tops square_states (room 8 1 1 1) ≡ no_fault
 unfolding checked links_checked each_checked nodes_checked lowest count
 square_fine = refl
 
@@ -149,6 +150,6 @@ square_test = refl
 pub square_not_by_turns : ComesByTurns square_graph square_states → ⊥
 square_not_by_turns t = true≢false ((comes_exactly square square_tops square_states (room 8 1 1 1) square_fine).from t) square_test
 
-pub square_refused : scan square_graph false square_states ≡ stopped 8 1
+pub square_refused : scan square_graph false square_states ≡ stopped NoNextLink 1
 unfolding scan_on walk_on walk_from next_link first_link lowest
 square_refused = refl

@@ -1,10 +1,8 @@
 -- The condition as a test that computes.
-use Rattle.std.specs.Prelude.{ℕ, Bool, true, false, not, ◌&&◌, List, [], ◌∷◌}
+use Rattle.std.specs.Prelude.{ℕ, Bool, true, false, not, ◌&&◌, List, [], ◌∷◌, Option, Some, None}
 use Rattle.std.specs.Bool.{beq}
 use Rattle.laws.specs.Lowest.{some}
 use Rattle.graph.specs.Graph.{Graph}
-use Rattle.next.specs.declared.Next.{Next}
-use Rattle.next.specs.declared.Next.TheVariants.{Link, Nothing}
 use Rattle.next.specs.Next.{unvisited_in, met_first, first_met}
 use Rattle.tour.specs.Statement.{leaves}
 
@@ -13,9 +11,9 @@ all_of test [] = true
 all_of test (x ∷ l) = test x && all_of test l
 
 -- what is named is of the other sort than x
-abbrev pub other_sort : Graph → ℕ → ℕ → Next → Bool
-other_sort g v x Nothing = false
-other_sort g v x (Link z) = beq (leaves g v z) (not (leaves g v x))
+abbrev pub other_sort : Graph → ℕ → ℕ → Option ℕ → Bool
+other_sort g v x None = false
+other_sort g v x (Some z) = beq (leaves g v z) (not (leaves g v x))
 
 -- at node v each unskipped link's next clockwise is of the other sort
 abbrev pub turns_at : Graph → List ℕ → ℕ → Bool

@@ -1,12 +1,11 @@
 -- One walk: it closes, along the links' directions, and leaves the unvisited ends by turns.
-use Rattle.std.specs.Prelude.{ℕ, zero, suc, ◌<◌, ◌≡◌, refl, ◌⊎◌, Bool, true, List, [], ◌∷◌, length, set}
+use Rattle.std.specs.Prelude.{ℕ, zero, suc, ◌<◌, ◌≡◌, refl, ◌⊎◌, Bool, true, List, [], ◌∷◌, length, set, Some}
 use Rattle.std.proofs.Common.{arith, ◌∙◌, subst, inl, inr, ⊎_elim, true≢false, eq-eqb, ne_eqb}
 use Rattle.std.proofs.Math.Decide.{ℕ_discrete}
 use Rattle.std.proofs.Math.Path.{sym, ap}
 use Rattle.std.proofs.Math.Dec.{eqb}
 use Rattle.laws.specs.Test.{pick_true, pick_false}
 use Rattle.graph.specs.Graph.{Graph}
-use Rattle.next.specs.declared.Next.TheVariants.{Link}
 use Rattle.next.specs.Next.{met_first, next_link, other, unvisited}
 use Rattle.next.specs.Choice.{Mem}
 use Rattle.next.specs.States.{unvisited_below}
@@ -178,7 +177,7 @@ module _ (g : Graph) (ok : Listed g) (cw w : Bool) (st₀ : List ℕ) (len : len
         turns = finished σ e i p;
       }
 
-  onward : (fuel : ℕ) (σ : List ℕ) (e f : ℕ) → (e ≡ t → ⊥) → next_link g w σ (head_n g cw e) e ≡ Link f → other g (head_n g cw e) f ≡ head_n g cw f
+  onward : (fuel : ℕ) (σ : List ℕ) (e f : ℕ) → (e ≡ t → ⊥) → next_link g w σ (head_n g cw e) e ≡ Some f → other g (head_n g cw e) f ≡ head_n g cw f
       → cons_step (step_from g (head_n g cw e) f) (run fuel f (set σ f m)) ≡ run (suc fuel) e σ
   unfolding walk_on
   onward fuel σ e f d p q =

@@ -5,13 +5,13 @@ use Rattle.laws.specs.Test.{Is, pick_ind, is_true, true≢false}
 use Rattle.turn.specs.Points.{from_to}
 use Rattle.turn.specs.Angle.{nonzero}
 use Rattle.turn.specs.PointOrder.{before_differ, differ_sym, nonzero_between}
-use Rattle.turn.specs.declared.Checked.TheVariants.{Fine}
 use Rattle.graph.specs.Graph.{Lent, Graph, graph_of}
 use Rattle.graph.specs.Checks.{Room, checked}
 use Rattle.graph.specs.Fine.{FineGraph, fine}
 use Rattle.next.specs.States.{unvisited_below}
 use Rattle.walk.specs.States.{Unvisited}
 use Rattle.tour.specs.Sound.{Sound}
+use Rattle.turn.specs.Refusals.{no_fault}
 
 -- an unvisited link is unskipped
 not_skipped : (st : List ℕ) (k : ℕ) → Unvisited st k → get_or st k 0 ≡ 1 → ⊥
@@ -37,5 +37,5 @@ sound_fine g top st r h =
       };
     }
 
-pub sound : (g : Lent) (top st : List ℕ) (r : Room) → checked g top st r ≡ Fine → Sound (graph_of g top) st
+pub sound : (g : Lent) (top st : List ℕ) (r : Room) → checked g top st r ≡ no_fault → Sound (graph_of g top) st
 sound g top st r e = sound_fine g top st r (fine g top st r e)

@@ -6,7 +6,6 @@ use mathlib.Core.List.{List, [], ◌∷◌, ◌++◌, map, Memᴰ}
 use Rattle.laws.specs.Test.{pick}
 use Rattle.turn.specs.declared.Point.{Point}
 use Rattle.turn.specs.Area.{wedge}
-use Rattle.turn.specs.declared.Checked.TheVariants.{Fine}
 use Rattle.graph.specs.Graph.{Lent, Graph, graph_of}
 use Rattle.laws.specs.Count.{count}
 use Rattle.graph.specs.Checks.{Room, checked}
@@ -14,6 +13,7 @@ use Rattle.next.specs.Next.{is_unvisited, unvisited_in, met_first}
 use Rattle.walk.specs.Walk.{Step, Walk, left}
 use Rattle.scan.specs.Scan.{walks, scan}
 use Rattle.keep.specs.Outcome.{states_after, areas, total}
+use Rattle.turn.specs.Refusals.{no_fault}
 
 -- ---- What is asked: clockwise round every node the unskipped links come by turns as arriving and leaving, as many of one as of the other.
 
@@ -120,4 +120,5 @@ pub record Toured (g : Graph) (cw : Bool) (st : List ℕ) : Type 0 where
 
 -- ---- The demand, of every graph that is lent, both directions of output and any room for the answer: where checks 1 to 7 find nothing wrong.
 abbrev pub ThirdDemand : Type 0
-ThirdDemand = (g : Lent) (top st : List ℕ) (r : Room) (cw : Bool) → checked g top st r ≡ Fine → ComesByTurns (graph_of g top) st → Toured (graph_of g top) cw st
+ThirdDemand =
+    (g : Lent) (top st : List ℕ) (r : Room) (cw : Bool) → checked g top st r ≡ no_fault → ComesByTurns (graph_of g top) st → Toured (graph_of g top) cw st

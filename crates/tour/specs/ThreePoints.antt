@@ -2,7 +2,7 @@
 -- 6's "at least 3 points" decides nothing there.
 use Prim.Native.Nat.{ℕ, zero, suc, ◌≤◌, ◌<◌}
 use Rattle.std.proofs.Common.{arith, sym, ap₂, ◌∙◌, subst, inl, inr, ⊎_elim, eqb-true, eq-eqb, ne_eqb, le-leb}
-use Rattle.std.specs.Prelude.{◌≡◌, refl, ◌⊎◌, Bool, true, false, not, ◌||◌, length, set, eqb, leb, ltb}
+use Rattle.std.specs.Prelude.{◌≡◌, refl, ◌⊎◌, Bool, true, false, not, ◌||◌, length, set, eqb, leb, ltb, Option, Some, None}
 use mathlib.Core.List.Memᴰ
 use mathlib.Core.List.{List, [], ◌∷◌, Memᴰ}
 use Rattle.laws.specs.Test.{Is, pick, pick_true, pick_false, pick_ind, true≢false}
@@ -10,11 +10,8 @@ use Rattle.turn.specs.Points.{from_to}
 use Rattle.turn.specs.Directions.{same_refl}
 use Rattle.turn.specs.Angle.{same_direction}
 use Rattle.turn.specs.Size.{half}
-use Rattle.turn.specs.declared.Checked.TheVariants.{Fine}
 use Rattle.graph.specs.Graph.{Lent, Graph, graph_of}
 use Rattle.graph.specs.Checks.{Room, checked, away_from}
-use Rattle.next.specs.declared.Next.{Next}
-use Rattle.next.specs.declared.Next.TheVariants.{Link, Nothing}
 use Rattle.next.specs.Next.{other, next_link, first_link, unvisited}
 use Rattle.next.specs.Choice.{Mem}
 use Rattle.walk.specs.Walk.{Step, Walk, Walked, stuck, done, cons_step, on_next, step_from, walk_on, walk_from, left, marked, mark_of}
@@ -29,6 +26,8 @@ use Rattle.tour.specs.Ends.{Listed}
 use Rattle.tour.specs.Sums.{meet}
 use Rattle.tour.specs.Sound.{Sound, below}
 use Rattle.tour.specs.Passing.{sound}
+use Rattle.turn.specs.declared.Reason.TheVariants.{WrongLastLink}
+use Rattle.turn.specs.Refusals.{no_fault}
 
 -- ---- a finished walk is closed
 module _ (g : Graph) (ok : Listed g) where
@@ -38,27 +37,27 @@ module _ (g : Graph) (ok : Listed g) where
       (λ n. ⊎_elim (λ e. absurd (true≢false (eq-eqb (g.a_node f) v e) n)) (λ e. e) (ok.only v f m))
 
   abbrev Runs : ℕ → ℕ → Walked → Type 0
-  Runs v u (stuck number) = Unit {0}
+  Runs v u (stuck reason) = Unit {0}
   Runs v u (done l after) = Line g v l u
 
   runs_cons : (v u : ℕ) (s : Step) (o : Walked) → node_left g s ≡ v → Runs (node_reached g s) u o → Runs v u (cons_step s o)
-  runs_cons v u s (stuck number) e h = tt
+  runs_cons v u s (stuck reason) e h = tt
   runs_cons v u s (done l after) e h = (e, h)
 
   module _ (w : Bool) (home last mark : ℕ) where
-    runs_next : (go : ℕ → ℕ → List ℕ → Walked) (v : ℕ) (st : List ℕ) → ((v e : ℕ) (st : List ℕ) → Runs v home (go v e st)) → (o : Next)
+    runs_next : (go : ℕ → ℕ → List ℕ → Walked) (v : ℕ) (st : List ℕ) → ((v e : ℕ) (st : List ℕ) → Runs v home (go v e st)) → (o : Option ℕ)
         → Among st (g.entries v) o
         → Runs v home (on_next (λ f. cons_step (step_from g v f) (go (other g v f) f (set st f mark))) o)
-    runs_next go v st h Nothing a = tt
-    runs_next go v st h (Link f) a =
+    runs_next go v st h None a = tt
+    runs_next go v st h (Some f) a =
         runs_cons v home (step_from g v f) (go (other g v f) f (set st f mark)) (step_left v f a.0) (h (other g v f) f (set st f mark))
 
     walk_runs : (fuel v e : ℕ) (st : List ℕ) → Runs v home (walk_on fuel g w home last mark v e st)
     unfolding walk_on
     walk_runs zero v e st = tt
     walk_runs (suc fuel) v e st =
-        pick_ind (eqb e last) (pick (eqb v home) (done [] st) (stuck 9)) _ (Runs v home)
-        (λ p. pick_ind (eqb v home) (done [] st) (stuck 9) (Runs v home) (eqb-true v home) (λ q. tt))
+        pick_ind (eqb e last) (pick (eqb v home) (done [] st) (stuck WrongLastLink)) _ (Runs v home)
+        (λ p. pick_ind (eqb v home) (done [] st) (stuck WrongLastLink) (Runs v home) (eqb-true v home) (λ q. tt))
         (λ n. runs_next (λ v e st. walk_on fuel g w home last mark v e st) v st (walk_runs fuel) (next_link g w st v e) (next_among g w st v e))
 
   -- closed, with a step at least
@@ -66,11 +65,11 @@ module _ (g : Graph) (ok : Listed g) where
   Round l = ((v : ℕ) × Line g v l v) × (0 < length l)
 
   abbrev Rounds : Walked → Type 0
-  Rounds (stuck number) = Unit {0}
+  Rounds (stuck reason) = Unit {0}
   Rounds (done l after) = Round l
 
   rounds_cons : (h : ℕ) (s : Step) (o : Walked) → node_left g s ≡ h → Runs (node_reached g s) h o → Rounds (cons_step s o)
-  rounds_cons h s (stuck number) e r = tt
+  rounds_cons h s (stuck reason) e r = tt
   rounds_cons h s (done l after) e r = ((h, (e, r)), omega arith)
 
   from_rounds : (forward sense : Bool) (mark : ℕ) (st : List ℕ) (s : ℕ) → Rounds (walk_from g forward sense mark st s)
@@ -83,33 +82,33 @@ module _ (g : Graph) (ok : Listed g) where
       ahead : ℕ
       ahead = pick forward (g.b_node s) (g.a_node s)
 
-      by : (o : Next)
+      by : (o : Option ℕ)
           → Rounds (on_next
           (λ last. cons_step (record { link = s; forward = forward })
           (walk_on (suc (unvisited (set st s mark))) g sense home last mark ahead s (set st s mark))) o)
-      by Nothing = tt
-      by (Link last) =
+      by None = tt
+      by (Some last) =
           rounds_cons home (record { link = s; forward = forward })
           (walk_on (suc (unvisited (set st s mark))) g sense home last mark ahead s (set st s mark)) refl
           (walk_runs sense home last mark (suc (unvisited (set st s mark))) ahead s (set st s mark))
 
   module _ (cw : Bool) where
     abbrev AllRounds : Scanned → Type 0
-    AllRounds (stopped number place) = Unit {0}
+    AllRounds (stopped reason place) = Unit {0}
     AllRounds (walks ws after) = (w : Walk) → Memᴰ w ws → Round w.steps
 
     all_cons : (w : Walk) (o : Scanned) → Round w.steps → AllRounds o → AllRounds (cons_walk w o)
-    all_cons w (stopped number place) r h = tt
+    all_cons w (stopped reason place) r h = tt
     all_cons w (walks ws after) r h = λ x m. ⊎_elim (λ (e : x ≡ w). subst (λ y. Round y.steps) (sym e) r) (λ k. h x k) (Memᴰ.cases_cons m)
 
     after_walk_lem : (go : List ℕ → Scanned) (k : ℕ) (hole : Bool) (o : Walked) → Rounds o → ((after : List ℕ) → AllRounds (go after))
         → AllRounds (after_walk k hole go o)
-    after_walk_lem go k hole (stuck number) r h = tt
+    after_walk_lem go k hole (stuck reason) r h = tt
     after_walk_lem go k hole (done l after) r h = all_cons (record { hole = hole; steps = l }) (go after) r (h after)
 
-    at_first : (go : List ℕ → Scanned) (st : List ℕ) (k : ℕ) (o : Next) → ((after : List ℕ) → AllRounds (go after)) → AllRounds (scan_at g cw go st k o)
-    at_first go st k Nothing h = tt
-    at_first go st k (Link s) h = after_walk_lem go k (g.top s) (walk_of g cw st s) (from_rounds (not (sense_of g cw s)) (sense_of g cw s)
+    at_first : (go : List ℕ → Scanned) (st : List ℕ) (k : ℕ) (o : Option ℕ) → ((after : List ℕ) → AllRounds (go after)) → AllRounds (scan_at g cw go st k o)
+    at_first go st k None h = tt
+    at_first go st k (Some s) h = after_walk_lem go k (g.top s) (walk_of g cw st s) (from_rounds (not (sense_of g cw s)) (sense_of g cw s)
         (mark_of (g.top s)) st s) h
 
     none_there : (st : List ℕ) → AllRounds (walks [] st)
@@ -216,7 +215,7 @@ pub record Finished (g : Graph) (w : Walk) : Type 0 where
   pub closed : Closed g w
   pub three : 3 ≤ length w.steps
 
-pub finished : (g : Lent) (top st : List ℕ) (r : Room) (cw : Bool) → checked g top st r ≡ Fine → (ws : List Walk) (after : List ℕ)
+pub finished : (g : Lent) (top st : List ℕ) (r : Room) (cw : Bool) → checked g top st r ≡ no_fault → (ws : List Walk) (after : List ℕ)
     → scan (graph_of g top) cw st ≡ walks ws after
     → (w : Walk) → Memᴰ w ws → Finished (graph_of g top) w
 finished g top st r cw e ws after s w m =

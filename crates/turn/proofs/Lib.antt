@@ -1,4 +1,3 @@
 -- What the proofs cite beside the laws of specs/.
 pub mod Operands
 pub mod Sums
-pub mod Absolutes

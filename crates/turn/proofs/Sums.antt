@@ -15,12 +15,6 @@ use Rattle.turn.specs.Limits.{max_links}
 use Rattle.turn.specs.Points.{OnGrid, Grid}
 use Rattle.turn.specs.Area.{wedge, wedge_bound, area_to, area, points_of}
 
--- fewer than two numbers are no point
-pub short : (l : List ℤ) → length l < 2 → area (points_of l) ≡ pos 0
-short [] h = refl
-short (x ∷ []) h = refl
-short (x ∷ (y ∷ l)) h = absurd (omega arith)
-
 -- the point that the numbers at i and i + 1 are
 abbrev pub point_at : List ℤ → ℕ → Point
 point_at l i = record { x = get_or l i (pos 0); y = get_or l (i + 1) (pos 0) }
@@ -41,7 +35,6 @@ read_on l i g h = subst OnGrid (sym (read_is l i g h)) (on_grid l i g h)
 
 -- before the number at i is read
 pub record Summed (l : List ℤ) (home p : Point) (sum : ℤ) (i : ℕ) : Type 0 where
-  pub from : 2 ≤ i
   pub within : i ≤ length l
   pub on : OnGrid p
   pub size : nat_abs sum + wedge_bound ≤ i * wedge_bound
@@ -54,7 +47,7 @@ first_value (x ∷ (y ∷ l)) h = +ℤ_idl (area_to (record { x = x; y = y }) (r
 
 pub starts : (l : List ℤ) → 2 ≤ length l → Grid l → Summed l (read_at l 0) (read_at l 0) (pos 0) 2
 starts l h g = subst (λ home. Summed l home home (pos 0) 2) (sym (read_is l 0 g h))
-    (record { from = omega arith; within = h; on = on_grid l 0 g h; size = omega arith; value = first_value l h })
+    (record { within = h; on = on_grid l 0 g h; size = omega arith; value = first_value l h })
 
 -- one more point q, at i
 rest_is : (l : List ℤ) (i : ℕ) → i + 1 < length l → points_of (drop i l) ≡ point_at l i ∷ points_of (drop (i + 2) l)
@@ -71,7 +64,6 @@ next_size s w i h k = omega (arith, abs_add s w)
 module _ {l : List ℤ} {home p : Point} {sum : ℤ} {i : ℕ} (s : Summed l home p sum i) where
   pub adds : (w : ℤ) → w ≡ wedge p (read_at l i) → nat_abs w ≤ wedge_bound → Grid l → i + 1 < length l → Summed l home (read_at l i) (sum +ℤ w) (i + 2)
   adds w e k g h = let rest = points_of (drop (i + 2) l) in record {
-    from = omega (arith, s.from);
     within = omega arith;
     on = read_on l i g h;
     size = omega (arith, next_size sum w i s.size k);

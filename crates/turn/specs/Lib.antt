@@ -9,6 +9,7 @@ pub mod Rightward
 pub mod Angular
 pub mod First
 pub mod PointOrder
+pub mod Reasons
 pub mod Refusals
 pub mod Areas
 pub mod Grids

@@ -4,6 +4,8 @@ use Rattle.laws.specs.Unique.{Determines, by_equation, by_equation_with}
 use Rattle.turn.specs.declared.Point.{Point}
 use Rattle.turn.specs.declared.Vector.{Vector}
 use Rattle.turn.specs.Points.{before, differ, outside, off_grid, Short, from_to, cross, turn, clockwise, product_bound}
+use Rattle.turn.specs.declared.Reason.{Reason}
+use Rattle.turn.specs.Reasons.{number_of}
 use Rattle.turn.specs.Angle.{same_direction}
 use Rattle.turn.specs.Area.{wedge, area, points_of, wedge_bound}
 
@@ -84,3 +86,9 @@ AbsoluteSays x r = r ≡ nat_abs x
 
 pub absolute_once : (x : ℤ) → Determines (AbsoluteSays x)
 absolute_once x = by_equation (nat_abs x)
+
+abbrev pub NumberSays : Reason → ℕ → Type 0
+NumberSays reason r = r ≡ number_of reason
+
+pub number_once : (reason : Reason) → Determines (NumberSays reason)
+number_once reason = by_equation (number_of reason)

@@ -8,7 +8,7 @@ ghost use Rattle.turn.specs.Points.{span, Grid};
 ghost use Rattle.turn.specs.Angle.{same_direction};
 ghost use Rattle.turn.specs.Area.{wedge, area, points_of, wedge_bound};
 ghost use Rattle.turn.specs.Promises.{BeforeSays, DifferSays, OutsideSays, OffGridSays, WideSays, BetweenSays, CrossProductSays, TurnOfSays};
-ghost use Rattle.turn.specs.Promises.{ClockwiseSays, SameDirectionSays, WedgeSays, DoubledAreaSays, AbsoluteSays};
+ghost use Rattle.turn.specs.Promises.{ClockwiseSays, SameDirectionSays, WedgeSays, DoubledAreaSays, NumberSays, AbsoluteSays};
 
 // The most links of a graph, and the most points of a contour table.
 pub const MAX_LINKS: usize = 4096;
@@ -16,21 +16,49 @@ pub const MAX_LINKS: usize = 4096;
 // Coordinates lie from -MAX_COORDINATE to MAX_COORDINATE.
 pub const MAX_COORDINATE: i32 = 524288;
 
-// What a check says: nothing is wrong, or document 01's number and place.
-#[derive(Clone, Copy)]
-pub enum Checked {
-    Fine,
-    Refused { number: u32, place: usize },
+// Why something is refused, by document 01's numbers.
+#[derive(Clone, Copy, Debug, PartialEq, Eq)]
+pub enum Reason {
+    TooManyLinks = 1,
+    WrongLengths = 2,
+    WrongLink = 3,
+    LinksOutOfOrder = 4,
+    WrongNodes = 5,
+    EndsApart = 6,
+    EndsAlike = 7,
+    NoNextLink = 8,
+    WrongLastLink = 9,
+    WrongTable = 10,
+    WrongAnchor = 11,
+    NoParent = 12,
+    WrongFile = 13,
 }
 
-#[derive(Clone, Copy)]
+impl Reason {
+    // Document 01's number.
+    pub fn number(self) -> u32
+        ensures { NumberSays self result }
+    {
+        self as u32
+    }
+}
+
+// A refusal: why, and document 01's place.
+#[derive(Clone, Copy, Debug, PartialEq, Eq)]
+pub struct Refusal {
+    pub reason: Reason,
+    pub place: usize,
+}
+
+// In order by x, then by y.
+#[derive(Clone, Copy, Debug, PartialEq, Eq, PartialOrd, Ord)]
 pub struct Point {
     pub x: i32,
     pub y: i32,
 }
 
 // The way from one point to another.
-#[derive(Clone, Copy)]
+#[derive(Clone, Copy, Debug, PartialEq, Eq)]
 pub struct Vector {
     pub x: i64,
     pub y: i64,
@@ -40,14 +68,14 @@ pub struct Vector {
 pub fn before(p: Point, q: Point) -> bool
     ensures { BeforeSays p q result }
 {
-    (p.x < q.x) | (!(q.x < p.x) & (p.y < q.y))
+    p < q
 }
 
 // Whether p and q are different points.
 pub fn differ(p: Point, q: Point) -> bool
     ensures { DifferSays p q result }
 {
-    (p.x != q.x) | (p.y != q.y)
+    p != q
 }
 
 // Whether a coordinate is out of bounds.
@@ -65,6 +93,7 @@ pub fn off_grid(p: Point) -> bool
 }
 
 // A 32-bit number as an index.
+// By hand: as in Rust, no `From` leads from u32 to usize.
 pub fn wide(x: u32) -> usize
     ensures { WideSays x result }
 {
@@ -84,9 +113,10 @@ pub fn between(p: Point, q: Point) -> Vector
     requires { (OnGrid p) × (OnGrid q) }
     ensures { BetweenSays p q result }
 {
-    let x = difference(q.x, p.x);
-    let y = difference(q.y, p.y);
-    Vector { x: x, y: y }
+    Vector {
+        x: difference(q.x, p.x),
+        y: difference(q.y, p.y),
+    }
 }
 
 // The cross product of two vectors between points.
@@ -150,15 +180,13 @@ pub fn doubled_area(points: &[i32]) -> i64
     };
     let mut p = home;
     let mut sum: i64 = 0;
-    let mut i = 2;
-    while i + 1 < points.len() {
+    for k in 1..points.len() / 2 {
         let q = Point {
-            x: points[i],
-            y: points[i + 1],
+            x: points[k * 2],
+            y: points[k * 2 + 1],
         };
         sum += wedge(p, q);
         p = q;
-        i += 2;
     }
     sum + wedge(p, home)
 }
@@ -167,9 +195,5 @@ pub fn doubled_area(points: &[i32]) -> i64
 pub fn absolute(x: i64) -> u64
     ensures { AbsoluteSays x result }
 {
-    if x < 0 {
-        (-(x + 1)) as u64 + 1
-    } else {
-        x as u64
-    }
+    x.unsigned_abs()
 }

@@ -13,6 +13,7 @@ use pairs::{lay_pair, like_wrong, parallel_wrong, set_lead};
 use turn::{between, cross_product, differ, wide};
 
 // A `Bridge` with the a's of links e and f, of which f's is known to be at node v.
+// By hand: it is no twin of `lay_two_b`, since the side of the turn, which `like_wrong` does not tell, names the lead.
 pub fn lay_two_a(
     ax: &[i32],
     ay: &[i32],

@@ -1,4 +1,5 @@
 -- A whole walk, as the code starts it: the first link's two ends, its mark, its point and its last link.
+use Rattle.std.specs.Prelude.{Some, None, Result, Ok, Err}
 use Prim.Native.Nat.{ℕ, suc, ◌+◌, ◌≤◌, ◌<◌}
 use mathlib.Core.Path.{◌≡◌, sym, ap, ap₂, ◌∙◌, subst}
 use mathlib.Core.Bool.{Bool, true, false, not}
@@ -16,17 +17,17 @@ use Rattle.rings.specs.Ends.{link_of, is_a, far, node_of_end}
 use Rattle.rings.specs.Ends.{a_end, b_end, a_is_a, b_is_b, a_link, b_link, a_node_lem, b_node_lem}
 use Rattle.rings.specs.Field.{Reads}
 use Rattle.walk.specs.declared.Walker.{Walker}
-use Rattle.onward.specs.declared.Onward.TheVariants as onward
 use Rattle.leave.specs.Points.{put}
 use Rattle.onward.specs.Goes.{Arrived, GoesTo}
-use Rattle.walk.specs.declared.Ended.{Ended}
-use Rattle.walk.specs.declared.Ended.TheVariants as ended
 use Rattle.walk.specs.Walk.{Step, Walked, stuck, done, cons_step, walk_on, walk_from, left}
 use Rattle.walk.specs.Code.{Marks, Summed}
 use Rattle.walk.specs.Code.{finished, RestLeaves, WalkLeaves, Counted, Sized, SizedFrom}
 use Rattle.walk.specs.States.{unvisited_some}
 use Rattle.walk.proofs.Steps.{mark_arrived}
 use Rattle.walk.proofs.Walks.{rest_of}
+use Rattle.turn.specs.declared.Reason.TheVariants.{NoNextLink}
+use Rattle.turn.specs.declared.Reason.{Reason}
+use Rattle.walk.specs.declared.Finished.{Finished}
 
 -- ---- a whole walk, from its first link
 -- the first link's two ends: where the walk begins, and where it arrives
@@ -73,12 +74,12 @@ begin_is {ax = ax} {ay} {bx} {by} d s false h e =
 abbrev pub start_at : ℕ → ℕ → Point → Walker
 start_at end at p = record { end = end; written = at + 1; last = p; area = pos 0 }
 
-whole_cons : (g : Graph) (pts : List ℤ) (at : ℕ) (r : Ended) (st' : List ℕ) (pts' : List ℤ) (s : Step) (end : ℕ) (o : Walked)
+whole_cons : (g : Graph) (pts : List ℤ) (at : ℕ) (r : Result Finished Reason) (st' : List ℕ) (pts' : List ℤ) (s : Step) (end : ℕ) (o : Walked)
     → RestLeaves g (left g s) (put pts at (left g s)) (start_at end at (left g s)) o r st' pts'
     → WalkLeaves g pts at (cons_step s o) r st' pts'
-whole_cons g pts at r st' pts' s end (stuck number) h = h
+whole_cons g pts at r st' pts' s end (stuck reason) h = h
 whole_cons g pts at r st' pts' s end (done l st) h = (
-  h.0 ∙ ap₂ (λ (n : ℕ) (z : ℤ). ended.Done (finished n z)) (longer at (length l)) (+ℤ_idl (area_to (left g s) (left g s ∷ map (left g) l))),
+  h.0 ∙ ap₂ (λ (n : ℕ) (z : ℤ). Ok (finished n z)) (longer at (length l)) (+ℤ_idl (area_to (left g s) (left g s ∷ map (left g) l))),
   h.1,
   h.2,
 )
@@ -86,8 +87,8 @@ whole_cons g pts at r st' pts' s end (done l st) h = (
     longer : (m n : ℕ) → m + 1 + n ≡ m + suc n
     longer m n = omega arith
 
-module _ (g : Graph) (forward sense : Bool) (mark : ℕ) (st : List ℕ) (s : ℕ) (pts : List ℤ) (at home : ℕ) (r : Ended) (st' : List ℕ) (pts' : List ℤ)
-    (h : home ≡ pick forward (a_end s) (b_end s)) where
+module _ (g : Graph) (forward sense : Bool) (mark : ℕ) (st : List ℕ) (s : ℕ) (pts : List ℤ) (at home : ℕ) (r : Result Finished Reason)
+    (st' : List ℕ) (pts' : List ℤ) (h : home ≡ pick forward (a_end s) (b_end s)) where
   node_is : node_of_end g home ≡ pick forward (g.a_node s) (g.b_node s)
   node_is = ap (node_of_end g) h ∙ home_node g s forward
 
@@ -95,12 +96,12 @@ module _ (g : Graph) (forward sense : Bool) (mark : ℕ) (st : List ℕ) (s : �
       ≡ next_link g (not sense) (set st s mark) (node_of_end g home) (link_of home)
   next_is = ap₂ (next_link g (not sense) (set st s mark)) (sym node_is) (sym (end_number_at s forward home h))
 
-  pub starts_nowhere : GoesTo g (not sense) (set st s mark) home onward.Nowhere → r ≡ ended.Stuck 8
+  pub starts_nowhere : GoesTo g (not sense) (set st s mark) home None → r ≡ Err NoNextLink
       → WalkLeaves g pts at (walk_from g forward sense mark st s) r st' pts'
   unfolding walk_from
   starts_nowhere e q = rw (next_is ∙ e) q
 
-  pub starts_on : (ahead back : ℕ) (p : Point) (q : List ℤ) → GoesTo g (not sense) (set st s mark) home (onward.To back)
+  pub starts_on : (ahead back : ℕ) (p : Point) (q : List ℤ) → GoesTo g (not sense) (set st s mark) home (Some back)
       → ahead ≡ pick (not forward) (a_end s) (b_end s) → p ≡ pick forward (g.a s) (g.b s) → q ≡ put pts at p
       → RestLeaves g p q (start_at ahead at p)
       (rest_of g sense (node_of_end g (far back)) (link_of back) mark (set st s mark) (start_at ahead at p)) r st' pts'
@@ -120,11 +121,11 @@ module _ (g : Graph) (forward sense : Bool) (mark : ℕ) (st : List ℕ) (s : �
       (subst (λ x. RestLeaves g x (put pts at x) (start_at ahead at x) (go (node_of_end g (far back)) (node_of_end g ahead) (link_of ahead)) r st' pts') b
       (subst (λ l. RestLeaves g p l (start_at ahead at p) (go (node_of_end g (far back)) (node_of_end g ahead) (link_of ahead)) r st' pts') i w))))
 
-pub counted_on : (at : ℕ) (st st' st'' : List ℕ) (r : Ended) → unvisited st ≡ suc (unvisited st') → Counted (at + 1) (at + 1) st' st'' r
+pub counted_on : (at : ℕ) (st st' st'' : List ℕ) (r : Result Finished Reason) → unvisited st ≡ suc (unvisited st') → Counted (at + 1) (at + 1) st' st'' r
     → Counted (at + 1) at st st'' r
-counted_on at st st' st'' (ended.Stuck number) u h = tt
-counted_on at st st' st'' (ended.Done f) u h = (h.0, omega (arith, h.1))
+counted_on at st st' st'' (Err reason) u h = tt
+counted_on at st st' st'' (Ok f) u h = (h.0, omega (arith, h.1))
 
-pub sized_on : (end at : ℕ) (p : Point) (r : Ended) → SizedFrom (start_at end at p) r → Sized at r
-sized_on end at p (ended.Stuck number) h = tt
-sized_on end at p (ended.Done f) h = omega (arith, h)
+pub sized_on : (end at : ℕ) (p : Point) (r : Result Finished Reason) → SizedFrom (start_at end at p) r → Sized at r
+sized_on end at p (Err reason) h = tt
+sized_on end at p (Ok f) h = omega (arith, h)

@@ -1,4 +1,5 @@
 -- One step, as the code goes it: a mark, a point, and the area so far.
+use Rattle.std.specs.Prelude.{Some, None}
 use Prim.Native.Nat.{ℕ, ◌+◌, ◌*◌, ◌≤◌, ◌<◌}
 use mathlib.Core.Path.{◌≡◌, refl, sym, ap, ap₂, ◌∙◌, subst}
 use mathlib.Core.Bool.{Bool, true, false, not}
@@ -22,10 +23,8 @@ use Rattle.next.specs.Known.{Links}
 use Rattle.rings.specs.Ends.{link_of, is_a, far, node_of_end, starts_at, end_of, far_sort, end_sort}
 use Rattle.rings.specs.Field.{Steers, Reads}
 use Rattle.walk.specs.declared.Walker.{Walker}
-use Rattle.onward.specs.declared.Onward.TheVariants as onward
 use Rattle.leave.specs.Points.{put}
 use Rattle.onward.specs.Goes.{Arrived, GoesTo, near_end, far_end}
-use Rattle.walk.specs.declared.Stepped.TheVariants.{Went, Nowhere}
 use Rattle.walk.specs.Walk.{step_from, left}
 use Rattle.walk.specs.Code.{Marks, step_out, step_to, step_by}
 
@@ -73,10 +72,10 @@ module _ {g : Graph} {m : ℕ} (l : FineLinks g m) (v to : ℕ) (below : link_of
 module _ {nxt prv st : List ℕ} (pts : List ℤ) (sense : Bool) (mark : ℕ) (w : Walker) (g : Graph) (s : Steers g nxt prv st)
   where
     pub step_went : {ax ay bx by : List ℤ} → Reads g ax ay bx by → (to : ℕ) (p : Point) (sum : ℤ) (pts' : List ℤ) → link_of to < length st
-        → GoesTo g sense st w.end (onward.To to)
+        → GoesTo g sense st w.end (Some to)
         → p ≡ pick (is_a to) (point_at bx by (link_of to)) (point_at ax ay (link_of to)) → sum ≡ w.area +ℤ wedge w.last p
         → pts' ≡ put pts w.written p
-        → step_out (Went (record { end = to; written = w.written + 1; last = p; area = sum })) (set st (link_of to) mark) pts'
+        → step_out (Some (record { end = to; written = w.written + 1; last = p; area = sum })) (set st (link_of to) mark) pts'
         ≡ step_by g sense mark st pts w
     step_went reads to p sum pts' l goes q a i =
         let v : ℕ = node_of_end g w.end in
@@ -85,11 +84,11 @@ module _ {nxt prv st : List ℕ} (pts : List ℤ) (sense : Bool) (mark : ℕ) (w
         let f : p ≡ left g (step_from g v (link_of to)) =
         q ∙ sym (point_left s.links v to b goes.1
         ∙ ap₂ (pick (is_a to)) (reads.b_is (link_of to)) (reads.a_is (link_of to))) in
-        ap₂ (λ (x : Walker) (y : List ℤ). step_out (Went x) (set st (link_of to) mark) y)
+        ap₂ (λ (x : Walker) (y : List ℤ). step_out (Some x) (set st (link_of to) mark) y)
         (ap₂ (λ (x : ℕ) (y : ℤ). record { end = x; written = w.written + 1; last = p; area = y }) e a
         ∙ ap (λ (y : Point). record { end = far (end_of g v (link_of to)); written = w.written + 1; last = y; area = w.area +ℤ wedge w.last y }) f)
         (i ∙ ap (put pts w.written) f)
         ∙ ap (step_to g mark st pts w) (sym goes.0)
 
-    pub step_nowhere : GoesTo g sense st w.end onward.Nowhere → step_out Nowhere st pts ≡ step_by g sense mark st pts w
+    pub step_nowhere : GoesTo g sense st w.end None → step_out None st pts ≡ step_by g sense mark st pts w
     step_nowhere goes = ap (step_to g mark st pts w) (sym goes)

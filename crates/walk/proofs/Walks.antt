@@ -1,4 +1,5 @@
 -- One walk, as the code goes it: what each step leaves of the definition's walk, and its three ends.
+use Rattle.std.specs.Prelude.{Option, Some, None, Result, Ok, Err}
 use Prim.Native.Nat.{ℕ, suc, ◌+◌, ◌*◌, ◌-◌, ◌%◌, ◌≤◌, ◌<◌}
 use mathlib.Core.Path.{◌≡◌, refl, sym, ap, ap₂, ◌∙◌, subst}
 use mathlib.Core.Bool.{Bool, true, false, true≢false}
@@ -14,8 +15,6 @@ use Rattle.turn.specs.Points.{OnGrid}
 use Rattle.turn.specs.Area.{wedge, wedge_bound, area_to}
 use Rattle.graph.specs.Graph.{Graph}
 use Rattle.graph.specs.Fine.{FineLinks}
-use Rattle.next.specs.declared.Next.{Next}
-use Rattle.next.specs.declared.Next.TheVariants.{Link, Nothing}
 use Rattle.next.specs.Next.{unvisited, other, next_link}
 use Rattle.rings.specs.Ends.{link_of, is_a, far, node_of_end, end_of, far_link, end_link, far_node}
 use Rattle.rings.specs.Ends.{is_a_lem, is_b, a_node_lem, b_node_lem, far_a, far_b}
@@ -23,18 +22,17 @@ use Rattle.rings.specs.Field.{Steers, Reads}
 use Rattle.leave.specs.Points.{put}
 use Rattle.onward.specs.Goes.{Arrived}
 use Rattle.walk.specs.declared.Walker.{Walker}
-use Rattle.walk.specs.declared.Stepped.{Stepped}
-use Rattle.walk.specs.declared.Stepped.TheVariants.{Went, Nowhere}
-use Rattle.walk.specs.declared.Ended.{Ended}
-use Rattle.walk.specs.declared.Ended.TheVariants as ended
 use Rattle.walk.specs.Walk.{Step, Walked, stuck, done, cons_step, on_next, step_from, walk_on, left}
 use Rattle.walk.specs.Code.{Kept, Summed, step_out, step_to, step_by, went_by, StepOut, Goes}
 use Rattle.walk.specs.Code.{finished, RestLeaves, SizedFrom}
 use Rattle.walk.specs.Marks.{kept_none, kept_then}
 use Rattle.walk.specs.Later.{kept_later, steers_later}
+use Rattle.turn.specs.declared.Reason.TheVariants.{NoNextLink, WrongLastLink}
+use Rattle.turn.specs.declared.Reason.{Reason}
+use Rattle.walk.specs.declared.Finished.{Finished}
 
 -- ---- a walk: one step before it, and its three ends
-module _ (g : Graph) (begin : Point) (pts : List ℤ) (w : Walker) (r : Ended) (st' : List ℕ) (pts' : List ℤ) where
+module _ (g : Graph) (begin : Point) (pts : List ℤ) (w : Walker) (r : Result Finished Reason) (st' : List ℕ) (pts' : List ℤ) where
   -- the walker once it has gone along a link that is left at p
   abbrev onward_by : ℕ → Point → Walker
   onward_by end p = record { end = end; written = w.written + 1; last = p; area = w.area +ℤ wedge w.last p }
@@ -42,9 +40,9 @@ module _ (g : Graph) (begin : Point) (pts : List ℤ) (w : Walker) (r : Ended) (
   leaves_cons : (s : Step) (end : ℕ) (o : Walked)
       → RestLeaves g begin (put pts w.written (left g s)) (onward_by end (left g s)) o r st' pts'
       → RestLeaves g begin pts w (cons_step s o) r st' pts'
-  leaves_cons s end (stuck number) h = h
+  leaves_cons s end (stuck reason) h = h
   leaves_cons s end (done l st) h = (
-    h.0 ∙ ap₂ (λ (n : ℕ) (z : ℤ). ended.Done (finished n z)) (longer w.written (length l))
+    h.0 ∙ ap₂ (λ (n : ℕ) (z : ℤ). Ok (finished n z)) (longer w.written (length l))
         (+ℤ_assoc w.area (wedge w.last (left g s)) (area_to begin (left g s ∷ map (left g) l))),
     h.1,
     h.2,
@@ -100,41 +98,41 @@ module _ (g : Graph) (sense : Bool) (home last mark : ℕ) (begin : Point) (st :
   unfolding walk_on
   on_step_lem fuel away = rw (ne_eqb _ _ away)
 
-  module _ (r : Ended) (s : List ℕ) (p : List ℤ) where
-    ends_home : link ≡ last → node ≡ home → r ≡ ended.Done (finished w.written (w.area +ℤ wedge w.last begin)) → s ≡ st → p ≡ pts
+  module _ (r : Result Finished Reason) (s : List ℕ) (p : List ℤ) where
+    ends_home : link ≡ last → node ≡ home → r ≡ Ok (finished w.written (w.area +ℤ wedge w.last begin)) → s ≡ st → p ≡ pts
         → RestLeaves g begin pts w (rest_of g sense home last mark st w) r s p
     unfolding walk_on
     ends_home e h q i j =
         rw (eq-eqb _ _ e, eq-eqb _ _ h)
-        (q ∙ ap (λ n. ended.Done (finished n (w.area +ℤ wedge w.last begin))) (more w.written), i, j)
+        (q ∙ ap (λ n. Ok (finished n (w.area +ℤ wedge w.last begin))) (more w.written), i, j)
       where
         more : (n : ℕ) → n ≡ n + 0
         more n = omega arith
 
-    ends_away : link ≡ last → (node ≡ home → ⊥) → r ≡ ended.Stuck 9 → RestLeaves g begin pts w (rest_of g sense home last mark st w) r s p
+    ends_away : link ≡ last → (node ≡ home → ⊥) → r ≡ Err WrongLastLink → RestLeaves g begin pts w (rest_of g sense home last mark st w) r s p
     unfolding walk_on
     ends_away e h q = rw (eq-eqb _ _ e, ne_eqb _ _ h) q
 
     module _ (away : link ≡ last → ⊥) (st' : List ℕ) (pts' : List ℤ) where
-      by_nowhere : (go : ℕ → Walked) (n : Next) → step_out Nowhere st' pts' ≡ step_to g mark st pts w n → r ≡ ended.Stuck 8
+      by_nowhere : (go : ℕ → Walked) (n : Option ℕ) → step_out None st' pts' ≡ step_to g mark st pts w n → r ≡ Err NoNextLink
           → RestLeaves g begin pts w (on_next go n) r s p
-      by_nowhere go Nothing e q = q
-      by_nowhere go (Link f) e q = let z : Nowhere ≡ _ = ap (λ (o : StepOut). o.result) e in absurd (true≢false (cc))
+      by_nowhere go None e q = q
+      by_nowhere go (Some f) e q = let z : None ≡ _ = ap (λ (o : StepOut). o.result) e in absurd (true≢false (cc))
 
-      ends_nowhere : step_out Nowhere st' pts' ≡ step_by g sense mark st pts w → r ≡ ended.Stuck 8
+      ends_nowhere : step_out None st' pts' ≡ step_by g sense mark st pts w → r ≡ Err NoNextLink
           → RestLeaves g begin pts w (rest_of g sense home last mark st w) r s p
       ends_nowhere e q =
           rw (on_step_lem (unvisited st) away)
           (by_nowhere (λ f. cons_step (step_from g node f) (walk_on (unvisited st) g sense home last mark (other g node f) f (set st f mark)))
           (next_link g sense st node link) e q)
 
-      by_went : (fuel : ℕ) (v : Walker) (n : Next) → step_out (Went v) st' pts' ≡ step_to g mark st pts w n
+      by_went : (fuel : ℕ) (v : Walker) (n : Option ℕ) → step_out (Some v) st' pts' ≡ step_to g mark st pts w n
           → RestLeaves g begin pts' v (walk_on fuel g sense home last mark (node_of_end g v.end) (link_of v.end) st') r s p
           → RestLeaves g begin pts w
           (on_next (λ f. cons_step (step_from g node f) (walk_on fuel g sense home last mark (other g node f) f (set st f mark))) n) r s p
-      by_went fuel v Nothing e h = let z : Went v ≡ _ = ap (λ (o : StepOut). o.result) e in absurd (true≢false (cc))
-      by_went fuel v (Link f) e h =
-          let z : Went v ≡ Went (went_by g w f) = ap (λ (o : StepOut). o.result) e in
+      by_went fuel v None e h = let z : Some v ≡ _ = ap (λ (o : StepOut). o.result) e in absurd (true≢false (cc))
+      by_went fuel v (Some f) e h =
+          let z : Some v ≡ Some (went_by g w f) = ap (λ (o : StepOut). o.result) e in
           let x : v ≡ went_by g w f = cc in
           let y : st' ≡ set st f mark = ap (λ (o : StepOut). o.state) e in
           let u : pts' ≡ put pts w.written (left g (step_from g node f)) = ap (λ (o : StepOut). o.points) e in
@@ -142,14 +140,14 @@ module _ (g : Graph) (sense : Bool) (home last mark : ℕ) (begin : Point) (st :
           (walk_on fuel g sense home last mark (other g node f) f (set st f mark))
           (rw (far_node g node f, far_link (end_of g node f), end_link g node f) at (rw (x, y, u) at h))
 
-      goes_on : (v : Walker) → step_out (Went v) st' pts' ≡ step_by g sense mark st pts w → unvisited st ≡ suc (unvisited st')
+      goes_on : (v : Walker) → step_out (Some v) st' pts' ≡ step_by g sense mark st pts w → unvisited st ≡ suc (unvisited st')
           → RestLeaves g begin pts' v (rest_of g sense home last mark st' v) r s p → RestLeaves g begin pts w (rest_of g sense home last mark st w) r s p
       goes_on v e u h = rw (on_step_lem (unvisited st) away, u) (by_went (suc (unvisited st')) v (next_link g sense st node link) e h)
 
 -- what the loop of `walk_on` keeps: what the walk leaves from here it leaves from the loop's start
 pub record Walking (ax ay bx by : List ℤ) (nxt prv : List ℕ) (sense : Bool) (mark back : ℕ) (begin : Point) (st₀ : List ℕ) (pts₀ : List ℤ)
     (w₀ : Walker) (st : List ℕ) (pts : List ℤ) (w : Walker) : Type 0 where
-  pub goes : (g : Graph) → Steers g nxt prv st₀ → Reads g ax ay bx by → (r : Ended) (s : List ℕ) (p : List ℤ)
+  pub goes : (g : Graph) → Steers g nxt prv st₀ → Reads g ax ay bx by → (r : Result Finished Reason) (s : List ℕ) (p : List ℤ)
       → RestLeaves g begin pts w (rest_of g sense (node_of_end g (far back)) (link_of back) mark st w) r s p
       → RestLeaves g begin pts₀ w₀ (rest_of g sense (node_of_end g (far back)) (link_of back) mark st₀ w₀) r s p
   pub arrived : Arrived st w.end
@@ -161,10 +159,10 @@ pub record Walking (ax ay bx by : List ℤ) (nxt prv : List ℕ) (sense : Bool) 
   pub room : length pts ≡ length pts₀
 
 -- a step that went, by what it tells
-went_to : (w v : Walker) (st st' : List ℕ) (s : Stepped) → s ≡ Went v → Goes w st st' s → Goes w st st' (Went v)
+went_to : (w v : Walker) (st st' : List ℕ) (s : Option Walker) → s ≡ Some v → Goes w st st' s → Goes w st st' (Some v)
 went_to w v st st' s q ok = subst (Goes w st st') q ok
 
-pub walking_less : (w v : Walker) (st st' : List ℕ) (s : Stepped) → s ≡ Went v → Goes w st st' s → unvisited st' < unvisited st
+pub walking_less : (w v : Walker) (st st' : List ℕ) (s : Option Walker) → s ≡ Some v → Goes w st st' s → unvisited st' < unvisited st
 walking_less w v st st' s q ok = omega (arith, (went_to w v st st' s q ok).2)
 
 module _ {ax ay bx by : List ℤ} {nxt prv : List ℕ} {sense : Bool} {mark back : ℕ} {begin : Point} {st₀ : List ℕ} {pts₀ : List ℤ} {w₀ : Walker} where
@@ -185,7 +183,7 @@ module _ {ax ay bx by : List ℤ} {nxt prv : List ℕ} {sense : Bool} {mark back
     pub still_summed : Summed st₀ w₀.area → Summed st w.area
     still_summed h = omega (arith, i.size, i.count, h)
 
-    pub walking_again : (v : Walker) (st' : List ℕ) (pts' : List ℤ) (s : Stepped) → s ≡ Went v → Goes w st st' s → (link_of w.end ≡ link_of back → ⊥)
+    pub walking_again : (v : Walker) (st' : List ℕ) (pts' : List ℤ) (s : Option Walker) → s ≡ Some v → Goes w st st' s → (link_of w.end ≡ link_of back → ⊥)
         → ((g : Graph) → Steers g nxt prv st → Reads g ax ay bx by → step_out s st' pts' ≡ step_by g sense mark st pts w)
         → Kept st st' → length pts' ≡ length pts
         → Walking ax ay bx by nxt prv sense mark back begin st₀ pts₀ w₀ st' pts' v
@@ -205,34 +203,34 @@ module _ {ax ay bx by : List ℤ} {nxt prv : List ℕ} {sense : Bool} {mark back
         }
 
     -- no step: the walk is refused
-    pub walking_nowhere : (st' : List ℕ) (pts' : List ℤ) (s : Stepped) → s ≡ Nowhere → (link_of w.end ≡ link_of back → ⊥)
+    pub walking_nowhere : (st' : List ℕ) (pts' : List ℤ) (s : Option Walker) → s ≡ None → (link_of w.end ≡ link_of back → ⊥)
         → ((g : Graph) → Steers g nxt prv st → Reads g ax ay bx by → step_out s st' pts' ≡ step_by g sense mark st pts w)
         → (g : Graph) → Steers g nxt prv st₀ → Reads g ax ay bx by
-        → RestLeaves g begin pts₀ w₀ (rest_of g sense (node_of_end g (far back)) (link_of back) mark st₀ w₀) (ended.Stuck 8) st' pts'
+        → RestLeaves g begin pts₀ w₀ (rest_of g sense (node_of_end g (far back)) (link_of back) mark st₀ w₀) (Err NoNextLink) st' pts'
     walking_nowhere st' pts' s q away e g d f =
-        i.goes g d f (ended.Stuck 8) st' pts'
-        (ends_nowhere g sense (node_of_end g (far back)) (link_of back) mark begin st pts w (ended.Stuck 8) st' pts' away st' pts'
+        i.goes g d f (Err NoNextLink) st' pts'
+        (ends_nowhere g sense (node_of_end g (far back)) (link_of back) mark begin st pts w (Err NoNextLink) st' pts' away st' pts'
         (ap (λ x. step_out x st' pts') (sym q) ∙ e g (steers_later d (kept_later i.kept)) f) refl)
 
     -- on the last link: the walk is back at its start, or it came along it the other way round
     module _ (last : link_of w.end ≡ link_of back) (g : Graph) (d : Steers g nxt prv st₀) (f : Reads g ax ay bx by) where
       pub walking_home : (w.end ≡ back → ⊥) → (sum : ℤ) → sum ≡ w.area +ℤ wedge w.last begin
-          → RestLeaves g begin pts₀ w₀ (rest_of g sense (node_of_end g (far back)) (link_of back) mark st₀ w₀) (ended.Done (finished w.written sum)) st pts
+          → RestLeaves g begin pts₀ w₀ (rest_of g sense (node_of_end g (far back)) (link_of back) mark st₀ w₀) (Ok (finished w.written sum)) st pts
       walking_home n sum e =
-          i.goes g d f (ended.Done (finished w.written sum)) st pts
-          (ends_home g sense (node_of_end g (far back)) (link_of back) mark begin st pts w (ended.Done (finished w.written sum)) st pts last
-          (ap (node_of_end g) (other_end w.end back last n)) (ap (λ z. ended.Done (finished w.written z)) e) refl refl)
+          i.goes g d f (Ok (finished w.written sum)) st pts
+          (ends_home g sense (node_of_end g (far back)) (link_of back) mark begin st pts w (Ok (finished w.written sum)) st pts last
+          (ap (node_of_end g) (other_end w.end back last n)) (ap (λ z. Ok (finished w.written z)) e) refl refl)
 
       pub walking_away : w.end ≡ back
-          → RestLeaves g begin pts₀ w₀ (rest_of g sense (node_of_end g (far back)) (link_of back) mark st₀ w₀) (ended.Stuck 9) st pts
+          → RestLeaves g begin pts₀ w₀ (rest_of g sense (node_of_end g (far back)) (link_of back) mark st₀ w₀) (Err WrongLastLink) st pts
       walking_away q =
-          i.goes g d f (ended.Stuck 9) st pts
-          (ends_away g sense (node_of_end g (far back)) (link_of back) mark begin st pts w (ended.Stuck 9) st pts last
+          i.goes g d f (Err WrongLastLink) st pts
+          (ends_away g sense (node_of_end g (far back)) (link_of back) mark begin st pts w (Err WrongLastLink) st pts last
           (λ h. far_apart d.links back below (ap (node_of_end g) (sym q) ∙ h)) refl)
         where
           below : link_of back < g.n
           below = omega (arith, i.arrived.0, i.kept.len, d.size, last)
 
     -- the area as it is at the end
-    pub walking_sized : (sum z : ℤ) → sum ≡ w.area +ℤ z → nat_abs z ≤ wedge_bound → SizedFrom w₀ (ended.Done (finished w.written sum))
+    pub walking_sized : (sum z : ℤ) → sum ≡ w.area +ℤ z → nat_abs z ≤ wedge_bound → SizedFrom w₀ (Ok (finished w.written sum))
     walking_sized sum z e h = omega (arith, ap nat_abs e, abs_add w.area z, i.size)

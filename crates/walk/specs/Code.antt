@@ -1,24 +1,20 @@
 -- What the functions of one walk promise each other: points and marks written one by one, and what a walk leaves in the lent buffers.
 use Rattle.std.specs.Prelude.{ℕ, suc, ◌+◌, ◌*◌, ◌-◌, ◌≤◌, ◌≡◌, Bool, false, List, [], ◌∷◌, map, length, set, ℤ, nat_abs, ◌+ℤ◌, eqb}
+use Rattle.std.specs.Prelude.{Option, Some, None, Result, Ok, Err}
 use Rattle.laws.specs.Test.{pick}
 use Rattle.turn.specs.declared.Point.{Point}
 use Rattle.turn.specs.Limits.{max_links}
 use Rattle.turn.specs.Points.{OnGrid}
 use Rattle.turn.specs.Area.{wedge, wedge_bound, area_to, area}
 use Rattle.graph.specs.Graph.{Graph}
-use Rattle.next.specs.declared.Next.{Next}
-use Rattle.next.specs.declared.Next.TheVariants.{Link, Nothing}
 use Rattle.next.specs.Next.{is_unvisited, unvisited, next_link}
 use Rattle.rings.specs.Ends.{link_of, far, node_of_end, end_of}
 use Rattle.leave.specs.Points.{put}
 use Rattle.onward.specs.Goes.{Arrived}
 use Rattle.walk.specs.declared.Walker.{Walker}
-use Rattle.walk.specs.declared.Stepped.{Stepped}
-use Rattle.walk.specs.declared.Stepped.TheVariants as stepped
 use Rattle.walk.specs.declared.Finished.{Finished}
-use Rattle.walk.specs.declared.Ended.{Ended}
-use Rattle.walk.specs.declared.Ended.TheVariants as ended
 use Rattle.walk.specs.Walk.{Walked, stuck, done, step_from, left}
+use Rattle.turn.specs.declared.Reason.{Reason}
 
 -- ---- points
 
@@ -51,11 +47,11 @@ Summed st sum = nat_abs sum + unvisited st * wedge_bound ≤ max_links * wedge_b
 
 -- one step: what it names, the states and the points that it leaves
 pub record StepOut : Type 0 where
-  pub result : Stepped
+  pub result : Option Walker
   pub state : List ℕ
   pub points : List ℤ
 
-abbrev pub step_out : Stepped → List ℕ → List ℤ → StepOut
+abbrev pub step_out : Option Walker → List ℕ → List ℤ → StepOut
 step_out r st pts = record { result = r; state = st; points = pts }
 
 -- the walker once it has gone along link f, and what it has left there
@@ -65,18 +61,18 @@ went_by g w f =
     let p : Point = left g (step_from g v f) in
     record { end = far (end_of g v f); written = w.written + 1; last = p; area = w.area +ℤ wedge w.last p }
 
-abbrev pub step_to : Graph → ℕ → List ℕ → List ℤ → Walker → Next → StepOut
-step_to g mark st pts w Nothing = step_out stepped.Nowhere st pts
-step_to g mark st pts w (Link f) =
-    step_out (stepped.Went (went_by g w f)) (set st f mark) (put pts w.written (left g (step_from g (node_of_end g w.end) f)))
+abbrev pub step_to : Graph → ℕ → List ℕ → List ℤ → Walker → Option ℕ → StepOut
+step_to g mark st pts w None = step_out None st pts
+step_to g mark st pts w (Some f) =
+    step_out (Some (went_by g w f)) (set st f mark) (put pts w.written (left g (step_from g (node_of_end g w.end) f)))
 
 abbrev pub step_by : Graph → Bool → ℕ → List ℕ → List ℤ → Walker → StepOut
 step_by g sense mark st pts w = step_to g mark st pts w (next_link g sense st (node_of_end g w.end) (link_of w.end))
 
 -- where a step goes to: an end of a link that is now marked, one point more, one unvisited link less, and an area that fits
-abbrev pub Goes : Walker → List ℕ → List ℕ → Stepped → Type 0
-Goes w st st' stepped.Nowhere = Unit
-Goes w st st' (stepped.Went v) =
+abbrev pub Goes : Walker → List ℕ → List ℕ → Option Walker → Type 0
+Goes w st st' None = Unit
+Goes w st st' (Some v) =
     (Arrived st' v.end) × (v.written ≡ w.written + 1) × (unvisited st ≡ suc (unvisited st')) × (OnGrid v.last)
     × (nat_abs v.area ≤ nat_abs w.area + wedge_bound)
 
@@ -86,29 +82,29 @@ Goes w st st' (stepped.Went v) =
 abbrev pub finished : ℕ → ℤ → Finished
 finished to sum = record { to = to; area = sum }
 
--- what is left of a walk that began at a point: where it is refused only its number counts
-abbrev pub RestLeaves : Graph → Point → List ℤ → Walker → Walked → Ended → List ℕ → List ℤ → Type 0
-RestLeaves g begin pts w (stuck number) r st' pts' = r ≡ ended.Stuck number
+-- what is left of a walk that began at a point: where it is refused only its reason counts
+abbrev pub RestLeaves : Graph → Point → List ℤ → Walker → Walked → Result Finished Reason → List ℕ → List ℤ → Type 0
+RestLeaves g begin pts w (stuck reason) r st' pts' = r ≡ Err reason
 RestLeaves g begin pts w (done l st) r st' pts' =
-    (r ≡ ended.Done (finished (w.written + length l) (w.area +ℤ area_to begin (w.last ∷ map (left g) l)))) × (st' ≡ st)
+    (r ≡ Ok (finished (w.written + length l) (w.area +ℤ area_to begin (w.last ∷ map (left g) l)))) × (st' ≡ st)
     × (pts' ≡ paste pts w.written (map (left g) l))
 
 -- what a walk leaves whose points stand from number `at` on
-abbrev pub WalkLeaves : Graph → List ℤ → ℕ → Walked → Ended → List ℕ → List ℤ → Type 0
-WalkLeaves g pts at (stuck number) r st' pts' = r ≡ ended.Stuck number
+abbrev pub WalkLeaves : Graph → List ℤ → ℕ → Walked → Result Finished Reason → List ℕ → List ℤ → Type 0
+WalkLeaves g pts at (stuck reason) r st' pts' = r ≡ Err reason
 WalkLeaves g pts at (done l st) r st' pts' =
-    (r ≡ ended.Done (finished (at + length l) (area (map (left g) l)))) × (st' ≡ st) × (pts' ≡ paste pts at (map (left g) l))
+    (r ≡ Ok (finished (at + length l) (area (map (left g) l)))) × (st' ≡ st) × (pts' ≡ paste pts at (map (left g) l))
 
 -- each point written is a link marked, and some are written
-abbrev pub Counted : ℕ → ℕ → List ℕ → List ℕ → Ended → Type 0
-Counted least at st st' (ended.Stuck number) = Unit
-Counted least at st st' (ended.Done f) = (least ≤ f.to) × (f.to + unvisited st' ≡ at + unvisited st)
+abbrev pub Counted : ℕ → ℕ → List ℕ → List ℕ → Result Finished Reason → Type 0
+Counted least at st st' (Err reason) = Unit
+Counted least at st st' (Ok f) = (least ≤ f.to) × (f.to + unvisited st' ≡ at + unvisited st)
 
 -- the area is that of so many points; of a walk under way, with those before
-abbrev pub Sized : ℕ → Ended → Type 0
-Sized at (ended.Stuck number) = Unit
-Sized at (ended.Done f) = nat_abs f.area ≤ (f.to - at) * wedge_bound
+abbrev pub Sized : ℕ → Result Finished Reason → Type 0
+Sized at (Err reason) = Unit
+Sized at (Ok f) = nat_abs f.area ≤ (f.to - at) * wedge_bound
 
-abbrev pub SizedFrom : Walker → Ended → Type 0
-SizedFrom w (ended.Stuck number) = Unit
-SizedFrom w (ended.Done f) = nat_abs f.area + w.written * wedge_bound ≤ nat_abs w.area + (f.to + 1) * wedge_bound
+abbrev pub SizedFrom : Walker → Result Finished Reason → Type 0
+SizedFrom w (Err reason) = Unit
+SizedFrom w (Ok f) = nat_abs f.area + w.written * wedge_bound ≤ nat_abs w.area + (f.to + 1) * wedge_bound

@@ -2,16 +2,15 @@
 use Prim.Native.Nat.{ℕ, zero, suc, ◌+◌, ◌<◌}
 use Rattle.std.proofs.Common.{arith, sym, ap, ap₂, ◌∙◌, eq-eqb, ne_eqb}
 use Rattle.std.proofs.Math.Decide.{ℕ_discrete}
-use Rattle.std.specs.Prelude.{◌≡◌, refl, Bool, true, false, not, length, set, eqb}
+use Rattle.std.specs.Prelude.{◌≡◌, refl, Bool, true, false, not, length, set, eqb, Option, Some, None}
 use mathlib.Core.List.{List, [], ◌∷◌}
 use Rattle.laws.specs.Test.{pick, pick_true, pick_false, pick_ind}
 use Rattle.graph.specs.Graph.{Graph}
-use Rattle.next.specs.declared.Next.{Next}
-use Rattle.next.specs.declared.Next.TheVariants.{Link, Nothing}
 use Rattle.next.specs.Next.{is_unvisited, unvisited, other, next_link}
 use Rattle.walk.specs.Walk.{Step, Walked, stuck, done, cons_step, on_next, step_from, walk_on, walk_from, marked, mark_of}
 use Rattle.walk.specs.States.{Unvisited, Mark, set_other, set_same, unvisited_set}
 use Rattle.onward.specs.Named.{Among, next_among}
+use Rattle.turn.specs.declared.Reason.TheVariants.{WrongLastLink}
 
 -- ---- walks that mark unvisited links only
 abbrev pub Fresh : ℕ → List ℕ → List Step → Type 0
@@ -48,35 +47,35 @@ fresh_times k m st (s ∷ l) n f = omega (arith, step_times k m st s.link f.0 n,
 
 -- ---- a walk
 abbrev pub Leaves : ℕ → List ℕ → Walked → Type 0
-Leaves m st (stuck number) = Unit {0}
+Leaves m st (stuck reason) = Unit {0}
 Leaves m st (done l after) = (after ≡ marked m l st) × Fresh m st l
 
 leaves_cons : (m : ℕ) (st : List ℕ) (s : Step) (o : Walked) → Unvisited st s.link → Leaves m (set st s.link m) o → Leaves m st (cons_step s o)
-leaves_cons m st s (stuck number) o h = tt
+leaves_cons m st s (stuck reason) o h = tt
 leaves_cons m st s (done l after) o h = (h.0, (o, h.1))
 
 module _ (g : Graph) (w : Bool) (home last mark : ℕ) where
   leaves_next : (go : ℕ → ℕ → List ℕ → Walked) (v : ℕ) (st : List ℕ) → ((v e : ℕ) (st : List ℕ) → Leaves mark st (go v e st))
-      → (l : List ℕ) (o : Next) → Among st l o
+      → (l : List ℕ) (o : Option ℕ) → Among st l o
       → Leaves mark st (on_next (λ f. cons_step (step_from g v f) (go (other g v f) f (set st f mark))) o)
-  leaves_next go v st h l Nothing a = tt
-  leaves_next go v st h l (Link f) a = leaves_cons mark st (step_from g v f) (go (other g v f) f (set st f mark)) a.1 (h (other g v f) f (set st f mark))
+  leaves_next go v st h l None a = tt
+  leaves_next go v st h l (Some f) a = leaves_cons mark st (step_from g v f) (go (other g v f) f (set st f mark)) a.1 (h (other g v f) f (set st f mark))
 
   pub walk_leaves : (fuel v e : ℕ) (st : List ℕ) → Leaves mark st (walk_on fuel g w home last mark v e st)
   unfolding walk_on
   walk_leaves zero v e st = tt
   walk_leaves (suc fuel) v e st =
-      pick_ind (eqb e last) (pick (eqb v home) (done [] st) (stuck 9)) _ (Leaves mark st)
-      (λ p. pick_ind (eqb v home) (done [] st) (stuck 9) (Leaves mark st) (λ q. (refl, tt)) (λ q. tt))
+      pick_ind (eqb e last) (pick (eqb v home) (done [] st) (stuck WrongLastLink)) _ (Leaves mark st)
+      (λ p. pick_ind (eqb v home) (done [] st) (stuck WrongLastLink) (Leaves mark st) (λ q. (refl, tt)) (λ q. tt))
       (λ n. leaves_next (λ v e st. walk_on fuel g w home last mark v e st) v st (walk_leaves fuel) (g.entries v) (next_link g w st v e) (next_among g w st v e))
 
 -- a whole walk has a link at least
 abbrev pub Visits : ℕ → List ℕ → Walked → Type 0
-Visits m st (stuck number) = Unit {0}
+Visits m st (stuck reason) = Unit {0}
 Visits m st (done l after) = (after ≡ marked m l st) × Fresh m st l × (0 < length l)
 
 visits_cons : (m : ℕ) (st : List ℕ) (s : Step) (o : Walked) → Unvisited st s.link → Leaves m (set st s.link m) o → Visits m st (cons_step s o)
-visits_cons m st s (stuck number) o h = tt
+visits_cons m st s (stuck reason) o h = tt
 visits_cons m st s (done l after) o h = (h.0, (o, h.1), omega arith)
 
 pub from_visits : (g : Graph) (forward sense : Bool) (mark : ℕ) (st : List ℕ) (s : ℕ) → Unvisited st s → Visits mark st (walk_from g forward sense mark st s)
@@ -89,12 +88,12 @@ from_visits g forward sense mark st s o = by (next_link g (not sense) (set st s 
     ahead : ℕ
     ahead = pick forward (g.b_node s) (g.a_node s)
 
-    by : (o : Next)
+    by : (o : Option ℕ)
         → Visits mark st
         (on_next (λ last. cons_step (record { link = s; forward = forward })
         (walk_on (suc (unvisited (set st s mark))) g sense home last mark ahead s (set st s mark))) o)
-    by Nothing = tt
-    by (Link last) =
+    by None = tt
+    by (Some last) =
         visits_cons mark st (record { link = s; forward = forward })
         (walk_on (suc (unvisited (set st s mark))) g sense home last mark ahead s (set st s mark)) o
         (walk_leaves g sense home last mark (suc (unvisited (set st s mark))) ahead s (set st s mark))

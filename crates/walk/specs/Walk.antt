@@ -1,11 +1,11 @@
 -- One walk (rules 3 to 5): which links it goes along, where it ends, and what is read off it.
-use Rattle.std.specs.Prelude.{ℕ, zero, suc, Bool, not, List, [], ◌∷◌, map, set, eqb}
+use Rattle.std.specs.Prelude.{ℕ, zero, suc, Bool, not, List, [], ◌∷◌, map, set, eqb, Option, Some, None}
 use Rattle.laws.specs.Test.{pick}
 use Rattle.turn.specs.declared.Point.{Point}
 use Rattle.graph.specs.Graph.{Graph}
-use Rattle.next.specs.declared.Next.{Next}
-use Rattle.next.specs.declared.Next.TheVariants.{Link, Nothing}
 use Rattle.next.specs.Next.{unvisited, other, next_link}
+use Rattle.turn.specs.declared.Reason.{Reason}
+use Rattle.turn.specs.declared.Reason.TheVariants.{NoNextLink, WrongLastLink}
 
 -- a link walked: forward, from its a to its b, or backward
 pub record Step : Type 0 where
@@ -19,19 +19,19 @@ pub record Walk : Type 0 where
 
 -- ---- one walk
 
--- what becomes of a walk: refused with a number (8 or 9), or its steps and the states that it leaves
+-- what becomes of a walk: refused with a reason (8 or 9), or its steps and the states that it leaves
 pub data Walked : Type 0 where
-  stuck : ℕ → Walked
+  stuck : Reason → Walked
   done : List Step → List ℕ → Walked
 
 abbrev pub cons_step : Step → Walked → Walked
-cons_step s (stuck number) = stuck number
+cons_step s (stuck reason) = stuck reason
 cons_step s (done l st) = done (s ∷ l) st
 
 -- 8: "the rule names a first, last or next link that is not unvisited, or none exists"
-abbrev pub on_next : (ℕ → Walked) → Next → Walked
-on_next go Nothing = stuck 8
-on_next go (Link k) = go k
+abbrev pub on_next : (ℕ → Walked) → Option ℕ → Walked
+on_next go None = stuck NoNextLink
+on_next go (Some k) = go k
 
 -- link k, left from node v
 abbrev pub step_from : Graph → ℕ → ℕ → Step
@@ -40,9 +40,9 @@ step_from g v k = record { link = k; forward = eqb (g.a_node k) v }
 -- The walk goes on from node v, link e just walked and marked, to its last link: "The walk stops on marking it."
 -- 9: "the last link is reached but the walk is not back at its starting node". The fuel is above the number of unvisited links.
 unfoldable pub walk_on : ℕ → Graph → Bool → ℕ → ℕ → ℕ → ℕ → ℕ → List ℕ → Walked
-walk_on zero g sense home last mark v e st = stuck 8
+walk_on zero g sense home last mark v e st = stuck NoNextLink
 walk_on (suc fuel) g sense home last mark v e st =
-    pick (eqb e last) (pick (eqb v home) (done [] st) (stuck 9))
+    pick (eqb e last) (pick (eqb v home) (done [] st) (stuck WrongLastLink))
     (on_next (λ f. cons_step (step_from g v f) (walk_on fuel g sense home last mark (other g v f) f (set st f mark))) (next_link g sense st v e))
 
 -- The walk that starts with link s, goes forward along it or backward, and turns in a sense; each link walked is marked.

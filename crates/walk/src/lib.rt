@@ -17,21 +17,14 @@ ghost use Rattle.walk.specs.Code.{RestLeaves, Counted, Sized, SizedFrom};
 ghost use Rattle.walk.specs.Promises.{FindContourSays};
 
 use leave::{put_point, start_point};
-use onward::{Onward, next_end};
-use turn::{Point, wedge};
+use onward::next_end;
+use turn::{Point, Reason, wedge};
 
 // A walk that is done: the number of points once its own are written, and its signed doubled area.
 #[derive(Clone, Copy)]
 pub struct Finished {
     pub to: usize,
     pub area: i64,
-}
-
-// How a walk ends: done, or refused with a number.
-#[derive(Clone, Copy)]
-pub enum Ended {
-    Done(Finished),
-    Stuck(u32),
 }
 
 // How a walk goes: forward along its first link or backward, the sense in which it turns, and the mark that it leaves.
@@ -51,14 +44,8 @@ struct Walker {
     area: i64,
 }
 
-// What a step comes to: the walker where it stands then, or there is no next link.
-#[derive(Clone, Copy)]
-enum Stepped {
-    Went(Walker),
-    Nowhere,
-}
-
-// One step from where the walker stands: the next link is marked, and the point of the node is written.
+// One step from where the walker stands: the next link is marked, and the point of the node is written. The walker where it stands then, or there is
+// no next link.
 fn one_step(
     ax: &[i32],
     ay: &[i32],
@@ -70,7 +57,7 @@ fn one_step(
     state: &mut [u8],
     points: &mut [i32],
     w: Walker,
-) -> Stepped
+) -> Option<Walker>
     requires steered { (Steered nxt.now prv.now state.old) × (Links ax.now ay.now bx.now by.now (length state.old)) }
     requires arrived { (Arrived state.old w.end) × (Marks course.mark) × (OnGrid w.last) × (Summed state.old w.area) }
     requires state_in_bounds { (w.written + unvisited state.old) * 2 ≤ length points.old }
@@ -81,22 +68,18 @@ fn one_step(
     ensures kept { Kept state.old state.new }
 {
     let at = w.written;
-    match next_end(nxt, prv, state, course.sense, w.end) {
-        Onward::Nowhere => Stepped::Nowhere,
-        Onward::To(to) => {
-            let p = start_point(ax, ay, bx, by, to);
-            let mark = course.mark;
-            state[to / 2] = mark;
-            put_point(points, at, p);
-            let area = w.area + wedge(w.last, p);
-            Stepped::Went(Walker {
-                end: to,
-                written: at + 1,
-                last: p,
-                area: area,
-            })
-        }
-    }
+    let to = next_end(nxt, prv, state, course.sense, w.end)?;
+    let p = start_point(ax, ay, bx, by, to);
+    let mark = course.mark;
+    state[to / 2] = mark;
+    put_point(points, at, p);
+    let area = w.area + wedge(w.last, p);
+    Some(Walker {
+        end: to,
+        written: at + 1,
+        last: p,
+        area,
+    })
 }
 
 // The walk goes on from where the walker stands to its last link, whose far end, seen from the walk's start, is `back`.
@@ -113,7 +96,7 @@ fn walk_on(
     state: &mut [u8],
     points: &mut [i32],
     from: Walker,
-) -> Ended
+) -> Result<Finished, Reason>
     requires steered { (Steered nxt.now prv.now state.old) × (Links ax.now ay.now bx.now by.now (length state.old)) }
     requires arrived { (Arrived state.old from.end) × (Marks course.mark) × (OnGrid from.last) × (Summed state.old from.area) }
     requires on_grid { (OnGrid begin) × ((from.written + unvisited state.old) * 2 ≤ length points.old) }
@@ -127,23 +110,20 @@ fn walk_on(
 {
     let mut w = from;
     while w.end / 2 != back / 2 {
+        // By `ok_or` and `?` a step would cost three instructions more.
         match one_step(ax, ay, bx, by, nxt, prv, course, state, points, w) {
-            Stepped::Nowhere => {
-                return Ended::Stuck(8);
-            }
-            Stepped::Went(v) => {
-                w = v;
-            }
+            None => return Err(Reason::NoNextLink),
+            Some(v) => w = v,
         }
     }
     if w.end != back {
         let area = w.area + wedge(w.last, begin);
-        return Ended::Done(Finished {
+        return Ok(Finished {
             to: w.written,
-            area: area,
+            area,
         });
     }
-    Ended::Stuck(9)
+    Err(Reason::WrongLastLink)
 }
 
 // Link k's a, or its b.
@@ -167,7 +147,7 @@ pub fn find_contour(
     points: &mut [i32],
     at: usize,
     s: usize,
-) -> Ended
+) -> Result<Finished, Reason>
     requires steered { (Steered nxt.now prv.now state.old) × (Links ax.now ay.now bx.now by.now (length state.old)) }
     requires s_in_bounds { (s < length state.old) × (get_or state.old s 1 ≡ 0) × (Marks course.mark) }
     requires state_in_bounds { (at + unvisited state.old) * 2 ≤ length points.old }
@@ -184,18 +164,14 @@ pub fn find_contour(
     state[s] = mark;
     let begin = start_point(ax, ay, bx, by, ahead);
     put_point(points, at, begin);
-    match next_end(nxt, prv, state, !sense, home) {
-        Onward::Nowhere => Ended::Stuck(8),
-        Onward::To(back) => {
-            let w = Walker {
-                end: ahead,
-                written: at + 1,
-                last: begin,
-                area: 0,
-            };
-            walk_on(
-                ax, ay, bx, by, nxt, prv, course, back, begin, state, points, w,
-            )
-        }
-    }
+    let back = next_end(nxt, prv, state, !sense, home).ok_or(Reason::NoNextLink)?;
+    let w = Walker {
+        end: ahead,
+        written: at + 1,
+        last: begin,
+        area: 0,
+    };
+    walk_on(
+        ax, ay, bx, by, nxt, prv, course, back, begin, state, points, w,
+    )
 }

@@ -10,20 +10,19 @@ RestoreSays state state' = state' ≡ map_from unmark 0 state
 pub restore_once : (state : List ℕ) → Determines (RestoreSays state)
 restore_once state = by_equation (map_from unmark 0 state)
 
-abbrev pub ZeroNumbersSays : List ℕ → ℕ → List ℕ → Type 0
-ZeroNumbersSays s from s' = s' ≡ map_from (λ _. 0) from s
+-- of elements of any type that has a zero
+abbrev pub ZeroFromSays : {A : Type 0} → A → List A → ℕ → List A → Type 0
+ZeroFromSays zero s from s' = s' ≡ map_from (λ _. zero) from s
 
-pub zero_numbers_once : (s : List ℕ) (from : ℕ) → Determines (ZeroNumbersSays s from)
-zero_numbers_once s from = by_equation (map_from (λ _. 0) from s)
+pub zero_from_once : {A : Type 0} (zero : A) (s : List A) (from : ℕ) → Determines (ZeroFromSays zero s from)
+zero_from_once zero s from = by_equation (map_from (λ _. zero) from s)
 
-abbrev pub ZeroPointsSays : List ℤ → ℕ → List ℤ → Type 0
-ZeroPointsSays s from s' = s' ≡ map_from (λ _. pos 0) from s
+-- at each type that has one: u32, i32 and u8
+pub zero_numbers_once : (s : List ℕ) (from : ℕ) → Determines (ZeroFromSays 0 s from)
+zero_numbers_once = zero_from_once 0
 
-pub zero_points_once : (s : List ℤ) (from : ℕ) → Determines (ZeroPointsSays s from)
-zero_points_once s from = by_equation (map_from (λ _. pos 0) from s)
+pub zero_points_once : (s : List ℤ) (from : ℕ) → Determines (ZeroFromSays (pos 0) s from)
+zero_points_once = zero_from_once (pos 0)
 
-abbrev pub ZeroBytesSays : List ℕ → ℕ → List ℕ → Type 0
-ZeroBytesSays s from s' = s' ≡ map_from (λ _. 0) from s
-
-pub zero_bytes_once : (s : List ℕ) (from : ℕ) → Determines (ZeroBytesSays s from)
-zero_bytes_once s from = by_equation (map_from (λ _. 0) from s)
+pub zero_bytes_once : (s : List ℕ) (from : ℕ) → Determines (ZeroFromSays 0 s from)
+zero_bytes_once = zero_from_once 0

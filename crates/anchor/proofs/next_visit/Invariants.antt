@@ -1,10 +1,6 @@
 -- `next_visit`: position by position, as `Searched` says.
-use Prim.Native.Nat.{◌-◌}
 use Rattle.anchor.specs.LowestEdges.{Searched}
 use Rattle.anchor.proofs.next_visit.Given as goal
 
 abbrev pub invariant-loop-q : goal.invariant-loop-q
 invariant-loop-q l = Searched l.points l.at l.p l.to l.q
-
-abbrev pub decreases-loop-q : goal.decreases-loop-q
-decreases-loop-q l = l.to - l.q

@@ -9,18 +9,18 @@ pub write_answer-requires : goal.write_answer-requires
 write_answer-requires c =
     let t : Table = table c.args.points.now c.args.first.now c.args.len.now c.args.kind.now in
     let s = c in record {
-      fact = printable t s.args.clockwise c.in-Bound.ensures refl;
+      fact = printable t s.args.clockwise c.in-Ok.ensures.bind_says refl;
       answer_bytes_in_bounds = s.requires;
     }
 
-pub returns-in-Refused : goal.returns-in-Refused
-returns-in-Refused c =
+pub returns-in-Err : goal.returns-in-Err
+returns-in-Err c =
     let t : Table = table c.args.points.now c.args.first.now c.args.len.now c.args.kind.now in
     let s = c in
-    wrote_as (bound_text_lem t s.args.clockwise c.in-Refused.ensures _ refl) c.write_refusal.ensures.write_refusal_says
+    wrote_as (bound_text_lem t s.args.clockwise c.in-Err.ensures.bind_says _ refl) c.write_refusal.ensures.write_refusal_says
 
-pub returns-in-Bound : goal.returns-in-Bound
-returns-in-Bound c =
+pub returns-in-Ok : goal.returns-in-Ok
+returns-in-Ok c =
     let t : Table = table c.args.points.now c.args.first.now c.args.len.now c.args.kind.now in
     let s = c in
-    wrote_as (bound_text_lem t s.args.clockwise c.in-Bound.ensures _ refl) c.write_answer.ensures.fact_2
+    wrote_as (bound_text_lem t s.args.clockwise c.in-Ok.ensures.bind_says _ refl) c.write_answer.ensures.fact_2

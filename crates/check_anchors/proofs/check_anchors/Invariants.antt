@@ -1,16 +1,10 @@
 -- `check_anchors`: the loop has passed contours that are right, and knows the last hole.
-use Prim.Native.Nat.{◌-◌, ◌≤◌}
 use mathlib.Core.Path.{◌≡◌}
-use lib.ListN.{length}
-use Rattle.laws.specs.Lowest.{None}
-use Rattle.table.specs.Table.{table}
+use Rattle.laws.specs.Lowest.{NoneBelow}
+use Rattle.table.specs.Table.{Table, table_of}
 use Rattle.anchor.specs.AnchorChecks.{hole_before, bad_anchor}
+use Rattle.check_anchors.specs.Holes.{number_and_one}
 use Rattle.check_anchors.proofs.check_anchors.Given as goal
 
 abbrev pub invariant-loop-c : goal.invariant-loop-c
-invariant-loop-c l =
-    (l.c ≤ length l.first) × (l.last ≡ hole_before (table l.points l.first l.len l.kind) l.c) × None
-    (bad_anchor (table l.points l.first l.len l.kind) l.clockwise) l.c
-
-abbrev pub decreases-loop-c : goal.decreases-loop-c
-decreases-loop-c l = length l.first - l.c
+invariant-loop-c l = let t : Table = table_of l.contours in (number_and_one l.last ≡ hole_before t l.c) × NoneBelow (bad_anchor t l.clockwise) l.c

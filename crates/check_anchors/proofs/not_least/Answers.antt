@@ -1,33 +1,37 @@
--- `not_least`: the loop has passed points that are not before the anchor.
-use Prim.Native.Nat.{◌+◌}
-use mathlib.Core.Path.{◌≡◌, sym, ap, ◌∙◌}
+-- `not_least`: the chain's `any` is the rule's search.
+use Prim.Native.Nat.{ℕ, ◌+◌, ◌-◌}
+use mathlib.Core.Path.{◌≡◌, refl, sym, ◌∙◌}
+use mathlib.Core.Bool.{Bool}
 use native.Mathlib.Omega.{arith}
-use borrow.Author.Count.{below_none, below_more}
-use Rattle.laws.specs.Lowest.{some_yes, some_no}
-use Rattle.turn.specs.declared.Point.{Point}
+use Rattle.std.proofs.Common.{rules, zero-add, length, get_or, ◌<◌}
+use borrow.Author.Tests.{tests}
+use Rattle.std.specs.List.{list_any, range_with_len}
+use Rattle.std.proofs.lemmas.Iterator.{YieldsList-from_range}
+use Rattle.std.proofs.lemmas.Iterator.Search.{any_from_yields_List}
+use Rattle.std.proofs.lemmas.List.FromFn.{length-range_with_len, get_or-range_with_len}
+use Rattle.std.proofs.lemmas.List.Recursion.{or_is}
+use Rattle.laws.specs.Lowest.{lowest, some, some_of, none_of}
 use Rattle.turn.specs.Points.{before}
 use Rattle.table.specs.Table.{point_in}
 use Rattle.check_anchors.proofs.not_least.Goals as goal
 
-pub loop-k-init : goal.loop-k-init
-loop-k-init c = (omega arith, below_none _)
+module _ (test : ℕ → Bool) (n : ℕ) where
+  long : length (range_with_len 0 n) ≡ n
+  long = length-range_with_len 0 n
 
-pub returns-then-before : goal.returns-then-before
-returns-then-before c =
-    let here : let a = c.args in c.before-in-loop-k.result ≡ before (point_in a.points.now (a.from + c.loop-k.k)) a.anchor = c.before-in-loop-k.ensures ∙ ap
-    (λ (p : Point). before p c.args.anchor) c.point_in.ensures in
-    let a = c.args in
-    let l = c.loop-k in
-    sym (some_yes (λ i. before (point_in a.points.now (a.from + i)) a.anchor) a.len l.k (omega arith) l.invariant.1
-    (sym here ∙ c.if-before.true))
+  at : (i : ℕ) → i < n → get_or (range_with_len 0 n) i 0 ≡ i
+  at i h = get_or-range_with_len 0 n i 0 h ∙ zero-add i
 
-pub loop-k-preserved : goal.loop-k-preserved
-loop-k-preserved c =
-    let here : let a = c.args in c.before-in-loop-k.result ≡ before (point_in a.points.now (a.from + c.loop-k.k)) a.anchor = c.before-in-loop-k.ensures ∙ ap
-    (λ (p : Point). before p c.args.anchor) c.point_in.ensures in
-    (omega arith, below_more _ _ c.loop-k.invariant.1 (sym here ∙ c.if-before.false))
+  some_is_any : some test n ≡ list_any test (range_with_len 0 n)
+  some_is_any =
+      or_is (list_any test) test refl (λ _ _. refl) (range_with_len 0 n) 0 (some test n)
+      (λ e. let f = some_of test n e in (lowest test n, rw long f.within, rw (at _ f.within) f.passes))
+      (λ e i h. let k = rw long at h in rw (at i k) (none_of test n e i k))
 
 pub returns : goal.returns
 returns c =
     let a = c.args in
-    sym (some_no (λ i. before (point_in a.points.now (a.from + i)) a.anchor) a.len (λ k l. c.loop-k.invariant.1 k (omega arith)))
+    let test = λ (k : ℕ). before (point_in a.points.now (a.from + k)) a.anchor in
+    let n : a.len - 0 ≡ a.len = omega arith in
+    any_from_yields_List test _ _ _ c.any.ensures.ran (YieldsList-from_range 0 a.len a.len refl n) (λ x b q k. search (rules, tests))
+    ∙ sym (some_is_any test a.len)

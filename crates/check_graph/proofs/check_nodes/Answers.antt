@@ -12,7 +12,7 @@ use Rattle.graph.specs.Checks.{bad_starts, nodes_checked}
 use Rattle.graph.specs.Told.{LinksTold}
 use Rattle.graph.specs.Total.{other_total}
 use Rattle.check_graph.specs.Looks.{Looks, looks_as}
-use Rattle.check_graph.proofs.Verdicts.{not_right, not_done, right_fine, stands_for, runs_of, rises, fault_refused, nothing_fine, wide_more}
+use Rattle.check_graph.proofs.Verdicts.{not_right, not_done, stands_for, runs_of, rises, fault_refused, nothing_fine, wide_more}
 use Rattle.check_graph.proofs.check_nodes.Goals as goal
 
 pub wrong_starts-requires : goal.wrong_starts-requires
@@ -43,7 +43,7 @@ returns-then-wrong_starts-list c =
     let x = s.args in record {
       fact_2 = simp (other_total x.aid.now x.bid.now x.start.now x.list.now told.starts told.ids
           (stands_for d.wrong_starts.result (bad_starts x.start.now x.list.now) odd asked c.if-wrong_starts-list.true));
-      all_laid = λ e. absurd (not_right 5 0 e);
+      all_laid = λ e. absurd (not_right _ e);
     }
 
 pub lay_nodes-requires : goal.lay_nodes-requires
@@ -80,21 +80,6 @@ check_in_order-requires c =
       state_len = t.states;
       ids = t.ids;
       in_bounds = t.starts;
-    }
-
-pub returns-in-Fault : goal.returns-in-Fault
-returns-in-Fault c =
-    let g : Lent = lent c.args.ax.now c.args.ay.now c.args.bx.now c.args.by.now c.args.aid.now c.args.bid.now c.args.start.now
-    c.args.list.now in
-    let told : LinksTold g c.args.state.now = c.requires.fact in
-    let k = c in
-    let o = c in
-    let s = c in
-    let said = nodes_checked g s.args.state.now in record {
-      fact_2 = subst (Looks g s.args.state.now s.args.most said) (sym c.answer.ensures)
-          (looks_as g s.args.state.now s.args.most said k.check_in_order.result k.check_in_order.ensures);
-      all_laid = λ e. absurd (fault_refused g _ told s.args.most o.lay_nodes.result o.lay_nodes.ensures.point c.in-Fault.is
-          (sym k.check_in_order.ensures ∙ right_fine k.check_in_order.result (sym c.answer.ensures ∙ e)));
     }
 
 pub returns-in-Nothing : goal.returns-in-Nothing
@@ -135,3 +120,10 @@ returns-in-Wide c =
       );
       all_laid = λ e. absurd (not_done e);
     }
+
+pub returns-in_ok-check_in_order-in-Fault-clause-all_laid : goal.returns-in_ok-check_in_order-in-Fault-clause-all_laid
+returns-in_ok-check_in_order-in-Fault-clause-all_laid c =
+    let g : Lent = lent c.args.ax.now c.args.ay.now c.args.bx.now c.args.by.now c.args.aid.now c.args.bid.now c.args.start.now
+    c.args.list.now in
+    λ e. absurd (fault_refused g _ c.requires.fact c.args.most c.lay_nodes.result c.lay_nodes.ensures.point c.in-Fault.is
+    (sym c.check_in_order.ensures ∙ c.in_ok-check_in_order-in-Fault.was))

@@ -1,11 +1,13 @@
 -- `check_links::check_each` meets its contract: where the quick question finds something, check 3
--- names its lowest link, or else check 4 does.
-use mathlib.Core.Path.{◌≡◌, sym, ap, ap₂, ◌∙◌}
+-- names its lowest link, or else check 4 does; where neither does, nothing is wrong.
+use mathlib.Core.Path.{◌≡◌, sym, ap₂, ◌∙◌}
 use mathlib.Core.Bool.{◌||◌}
 use Rattle.graph.specs.Graph.{lent}
-use Rattle.turn.specs.declared.Checked.TheVariants.{Refused}
-use Rattle.quick_links.specs.Quick.{any_wrong, fine, refused_3, refused_4}
+use Rattle.graph.specs.Checks.{each_checked}
+use Rattle.quick_links.specs.Quick.{any_wrong, fine}
 use Rattle.check_links.proofs.check_each.Goals as goal
+use Rattle.turn.specs.Refusals.{refuses_at, passes_at}
+use Rattle.turn.specs.declared.Reason.TheVariants.{WrongLink, LinksOutOfOrder}
 
 pub any_misplaced-requires : goal.any_misplaced-requires
 any_misplaced-requires c =
@@ -23,16 +25,17 @@ any_misflagged-requires c =
     let e = c.requires.top_len in
     e.1 ∙ sym e.0
 
-pub bad_link-k-requires : goal.bad_link-k-requires
-bad_link-k-requires c =
+pub bad_link-requires : goal.bad_link-requires
+bad_link-requires c =
     let p = c.requires in record {
       even = p.even;
       top_len = p.top_len;
       in_bounds = p.in_bounds;
     }
 
-pub returns-then-k-aid : goal.returns-then-k-aid
-returns-then-k-aid c = let e = c.bad_link-k.ensures in ap (Refused 3) e ∙ sym (refused_3 _ _ _ (rw e at c.if-k-aid.true))
+pub returns-in-Some : goal.returns-in-Some
+unfolding each_checked
+returns-in-Some c = sym (refuses_at WrongLink _ _ _ _ (sym c.bad_link.ensures ∙ c.in-Some.is))
 
 pub out_of_order-requires : goal.out_of_order-requires
 out_of_order-requires c =
@@ -51,17 +54,16 @@ returns-then-not-any_misplaced-any_misnamed c =
     = ap₂ ◌||◌ (ap₂ ◌||◌ points c.any_misnamed.ensures) flags in
     sym (fine _ _ _ (sym answer ∙ c.if-not-any_misplaced-any_misnamed.true))
 
+pub returns-in-Some-out_of_order : goal.returns-in-Some-out_of_order
+unfolding each_checked
+returns-in-Some-out_of_order c =
+    let no_link = sym c.bad_link.ensures ∙ c.in_default.is in
+    let place = rw c.requires.even.ax at c.out_of_order.ensures in
+    sym (passes_at WrongLink _ _ _ no_link ∙ refuses_at LinksOutOfOrder _ _ _ _ (sym place ∙ c.in-Some-out_of_order.is))
+
 pub returns : goal.returns
+unfolding each_checked
 returns c =
-    let p = c.requires in
-    let points = rw p.even.ax at c.any_misplaced.ensures in
-    let flags = rw p.top_len.0 at c.any_misflagged.ensures in
-    let answer :
-    let x = c.args in
-    let g = lent x.ax.now x.ay.now x.bx.now x.by.now x.aid.now x.bid.now x.start.now x.list.now in
-    (c.any_misplaced.result || c.any_misnamed.result || c.any_misflagged.result) ≡ any_wrong g x.top.now x.state.now
-    = ap₂ ◌||◌ (ap₂ ◌||◌ points c.any_misnamed.ensures) flags in
-    let place = rw p.even.ax at c.out_of_order.ensures in
-    let wrong = sym answer ∙ c.if-not-any_misplaced-any_misnamed.false in
-    let no_link = rw c.bad_link-k.ensures at c.if-k-aid.false in
-    ap (Refused 4) place ∙ sym (refused_4 _ _ _ wrong no_link)
+    let no_link = sym c.bad_link.ensures ∙ c.in_default.is in
+    let place = rw c.requires.even.ax at c.out_of_order.ensures in
+    sym (passes_at WrongLink _ _ _ no_link ∙ passes_at LinksOutOfOrder _ _ _ (sym place ∙ c.in_default-out_of_order.is))

@@ -1,25 +1,28 @@
--- `check_lists::stray_in` meets its contract: some entry is stray; the invariant: none below i is.
-use mathlib.Core.Path.{sym, ◌∙◌}
-use native.Mathlib.Omega.{arith}
-use borrow.Author.Rules.{rules}
-use borrow.Author.Count.{below_none, below_more}
-use Rattle.laws.specs.Lowest.{some_yes, some_no}
+-- `check_lists::stray_in` meets its contract: some entry is stray.
+use Rattle.std.proofs.Common.{◌≡◌, ℕ, zero, suc, Bool, true, false, ◌||◌, List, [], ◌∷◌, length, get_or, refl, sym, ap, ◌∙◌, arith, rules, tests, below_none}
+use Rattle.std.specs.List.{list_any}
+use Rattle.std.proofs.lemmas.Bool.Decides.{nat_tests}
+use Rattle.std.proofs.lemmas.Iterator.{YieldsList-from_slice}
+use Rattle.std.proofs.lemmas.Iterator.Search.{any_from_yields_List}
+use Rattle.laws.specs.Lowest.{lowest, some, some_no}
+use Rattle.graph.specs.Checks.{stray}
 use Rattle.check_lists.proofs.stray_in.Goals as goal
 
-pub loop-i-init : goal.loop-i-init
-loop-i-init c = (search rules, below_none _)
+-- what `any` answers of a list's elements, as `some` of its places
+some_first : (test : ℕ → Bool) (n : ℕ) → test zero || some (λ k. test (suc k)) n ≡ some test (suc n)
+unfolding lowest
+some_first test n = at (test zero) refl
+  where
+    at : (b : Bool) → test zero ≡ b → test zero || some (λ k. test (suc k)) n ≡ some test (suc n)
+    at true e = rw e (grind (arith, nat_tests))
+    at false e = rw e (grind (arith, nat_tests))
 
-pub returns-then-stray : goal.returns-then-stray
-returns-then-stray c =
-    sym (some_yes _ _ _ (omega arith) c.loop-i.invariant.1
-    (rw c.wide.ensures at (sym c.stray.ensures ∙ c.if-stray.true)))
-
-pub loop-i-preserved : goal.loop-i-preserved
-loop-i-preserved c = (
-  omega arith,
-  below_more _ _ c.loop-i.invariant.1
-      (rw c.wide.ensures at (sym c.stray.ensures ∙ c.if-stray.false)),
-)
+any_list : (test : ℕ → Bool) (xs : List ℕ) → list_any test xs ≡ some (λ i. test (get_or xs i 0)) (length xs)
+any_list test [] = sym (some_no _ 0 (below_none _))
+any_list test (x ∷ xs) = ap (λ b. test x || b) (any_list test xs) ∙ some_first (λ i. test (get_or (x ∷ xs) i 0)) (length xs)
 
 pub returns : goal.returns
-returns c = sym (some_no _ _ (λ k l. c.loop-i.invariant.1 k (omega arith)))
+returns c =
+    let x = c.args in
+    any_from_yields_List (stray x.aid.now x.bid.now x.v) _ _ _ c.any.ensures.ran (YieldsList-from_slice x.here.now (cc)) (λ e b q k. search (rules, tests))
+    ∙ any_list (stray x.aid.now x.bid.now x.v) x.here.now

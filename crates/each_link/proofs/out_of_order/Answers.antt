@@ -1,16 +1,9 @@
 -- `each_link::out_of_order` meets its contract: the lowest link out of order; the invariant: none below k is.
-use mathlib.Core.Path.{◌≡◌, refl, sym, ◌∙◌}
-use native.Mathlib.Omega.{arith}
-use borrow.Author.Rules.{rules}
-use borrow.Author.Count.{below_none, below_more}
-use Rattle.laws.specs.Lowest.{none, found}
-use borrow.Author.Tests.{lt-ltb}
+use Rattle.std.proofs.Common.{◌≡◌, sym, ◌∙◌, arith, lt-ltb, below_more}
+use Rattle.laws.specs.Lowest.{none_if, found_if}
 use Rattle.graph.specs.Graph.{point_at}
 use Rattle.graph.specs.Checks.{out_of_order}
 use Rattle.each_link.proofs.out_of_order.Goals as goal
-
-pub loop-k-init : goal.loop-k-init
-loop-k-init c = (search rules, below_more _ 0 (below_none _) refl)
 
 pub returns-then-before : goal.returns-then-before
 returns-then-before c =
@@ -19,7 +12,7 @@ returns-then-before c =
       c.point_at.ensures,
       c.point_at-in-loop-k.ensures,
     ) in
-    sym (found _ _ _ (omega arith) c.loop-k.invariant.1 (sym here ∙ c.if-before.true))
+    sym (found_if _ _ _ (omega arith) c.loop-k.invariant (sym here ∙ c.if-before.true))
 
 pub loop-k-preserved : goal.loop-k-preserved
 loop-k-preserved c =
@@ -28,7 +21,7 @@ loop-k-preserved c =
       c.point_at.ensures,
       c.point_at-in-loop-k.ensures,
     ) in
-    (omega arith, below_more _ _ c.loop-k.invariant.1 (sym here ∙ c.if-before.false))
+    below_more _ _ c.loop-k.invariant (sym here ∙ c.if-before.false)
 
 pub returns : goal.returns
-returns c = sym (none _ _ (λ k l. c.loop-k.invariant.1 k (omega arith)))
+returns c = sym (none_if _ _ (λ k l. c.loop-k.invariant k (omega arith)))

@@ -1,22 +1,18 @@
--- `extent_of`: the loop goes from point to point.
+-- `extent_of`: the extent so far, spread over the points that are left, is that of all.
 use native.Mathlib.Omega.{arith}
-use Rattle.extent.proofs.Reaching.{first, onward, last}
+use native.Mathlib.Numerals.{add-one}
+use Rattle.extent.specs.Parts.{points_on, points_end}
 use Rattle.extent.proofs.extent_of.Goals as goal
 
-pub loop-k-init : goal.loop-k-init
-loop-k-init c = first c.args.points.now _ _ c.requires c.point_in.ensures c.alone-e.ensures
-
-pub point_in-requires-in-loop-k : goal.point_in-requires-in-loop-k
-point_in-requires-in-loop-k c = omega (arith, c.loop-k-test.true)
-
-pub overflow_add-k : goal.overflow_add-k
-overflow_add-k c = omega (arith, c.loop-k-test.true)
-
-pub loop-k-smaller : goal.loop-k-smaller
-loop-k-smaller c = omega (arith, c.loop-k-test.true)
-
 pub loop-k-preserved : goal.loop-k-preserved
-loop-k-preserved c = onward c.loop-k.invariant _ _ c.loop-k-test.true c.point_in-in-loop-k.ensures c.spread-e.ensures
+loop-k-preserved c =
+    let l = c.loop-k in
+    let points = c.args.points.now in
+    let e = points_on points l.k (omega arith) in
+    let s = c.spread-e.ensures in
+    let q = c.point_in-in-loop-k.ensures in
+    let n = add-one l.k in
+    rw (n, s, q) (rw e at l.invariant)
 
 pub returns : goal.returns
-returns c = last c.loop-k.invariant c.loop-k-test.false
+returns c = let l = c.loop-k in rw (points_end c.args.points.now l.k (omega arith)) at l.invariant

@@ -1,10 +1,6 @@
 -- `fan::arrange` meets its contract; the invariant: the copy has every node's entries, in some order.
-use Prim.Native.Nat.{◌-◌, ◌≤◌}
 use Rattle.fan.specs.Arranged.{Arranged}
 use Rattle.fan.proofs.arrange.Given as goal
 
 abbrev pub invariant-loop-v : goal.invariant-loop-v
-invariant-loop-v l = (l.v ≤ l.m) × (Arranged l.start l.list l.copy)
-
-abbrev pub decreases-loop-v : goal.decreases-loop-v
-decreases-loop-v l = l.m - l.v
+invariant-loop-v l = Arranged l.start l.list l.copy

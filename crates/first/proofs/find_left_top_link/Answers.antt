@@ -33,15 +33,15 @@ next_below-requires c =
     let fresh : is_unvisited c.args.state.now c.args.k ≡ true = c.requires.k_value.0 in
     let low : (x : ℕ) → is_unvisited c.args.state.now x ≡ true → c.args.k ≤ x = c.requires.k_value.1 in
     let s = c in
-    falls _ _ _ _ _ _ _ s.args.k fresh low c.if-f-ge-CROSS.true _ _ c.if-held-state.true s.requires.asked
+    falls _ _ _ _ _ _ _ s.args.k fresh low c.if-f-ge-CROSS.true _ _ _ c.in-Some.is s.requires.asked
 
-pub returns-then-held-state : goal.returns-then-held-state
-returns-then-held-state c =
+pub returns-in-Some : goal.returns-in-Some
+returns-in-Some c =
     let fresh : is_unvisited c.args.state.now c.args.k ≡ true = c.requires.k_value.0 in
     let low : (x : ℕ) → is_unvisited c.args.state.now x ≡ true → c.args.k ≤ x = c.requires.k_value.1 in
     let s = c in let t = c.next_below in
     let r = again_answers s.args.ax.now s.args.ay.now s.args.bx.now s.args.by.now s.args.nxt.now s.args.lead.now s.args.state.now s.args.k fresh low
-    c.if-f-ge-CROSS.true s.args.prv.now s.args.held c.if-held-state.true _ t.ensures.result_value t.ensures.next_below_says in
+    c.if-f-ge-CROSS.true s.args.prv.now s.args.held _ c.in-Some.is _ t.ensures.result_value t.ensures.next_below_says in
     record { find_left_top_link_says = r.0; names_unvisited = r.1 }
 
 pub topmost-requires : goal.topmost-requires

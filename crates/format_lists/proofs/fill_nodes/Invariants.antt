@@ -1,10 +1,6 @@
--- `format::fill_nodes` meets its contract.
-use Prim.Native.Nat.{◌-◌}
+-- `format_lists::fill_nodes` meets its contract.
 use Rattle.format_lists.proofs.Nodes.{Noding}
 use Rattle.format_lists.proofs.fill_nodes.Given as goal
 
-abbrev pub invariant-loop-k : goal.invariant-loop-k
-invariant-loop-k l = Noding l.s l.from l.m l.initial.start l.initial.list l.start l.list l.at l.e l.k
-
-abbrev pub decreases-loop-k : goal.decreases-loop-k
-decreases-loop-k l = l.m - l.k
+abbrev pub invariant-loop-first : goal.invariant-loop-first
+invariant-loop-first l = Noding l.s l.from l.m l.initial.list l.first-items l.list l.at l.e l.first-index

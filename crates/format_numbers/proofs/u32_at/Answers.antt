@@ -1,7 +1,8 @@
--- `format::u32_at` meets its contract.
-use Rattle.format_numbers.specs.Bytes.{u32_at}
+-- `format_numbers::u32_at` meets its contract.
+use Rattle.std.proofs.Common.{arith, add_assoc}
+use Rattle.format_numbers.specs.Bytes.{u16_at, u32_at, u64_at}
 use Rattle.format_numbers.proofs.u32_at.Goals as goal
 
 pub returns : goal.returns
-unfolding u32_at
-returns c = rw (← c.u16_at-low.ensures.0, ← c.u16_at-high.ensures.0)
+unfolding u16_at u32_at u64_at
+returns c = simp add_assoc (omega arith)

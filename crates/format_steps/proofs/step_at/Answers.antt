@@ -10,32 +10,32 @@ returns-then-s-at-lt6 c = sym (step_cut _ _ _ (omega arith))
 pub returns-then-u16_at-kind : goal.returns-then-u16_at-kind
 returns-then-u16_at-kind c = sym (step_kind _ _ _ (omega arith) (λ e. c.if-u16_at-kind.true (c.u16_at.ensures.0 ∙ e)))
 
-pub returns-then-number-ne0 : goal.returns-then-number-ne0
-returns-then-number-ne0 c =
+pub returns-in-Some : goal.returns-in-Some
+returns-in-Some c =
     let s = c in
     let a = s.args in
-    read_head a.kind a.s.now a.r c.u32_at-len.result c.head_number-number.result (omega arith)
+    read_head a.kind a.s.now a.r c.u32_at-len.result c.head_number.result (omega arith)
     (sym c.u16_at.ensures.0 ∙ c.if-u16_at-kind.false)
     c.u32_at-len.ensures
-    c.head_number-number.ensures
-    c.refused.result c.if-number-ne0.true c.refused.ensures
+    c.head_number.ensures
+    c.in-Some.reason c.refused.result c.in-Some.is c.refused.ensures
 
 pub returns-then-s-body : goal.returns-then-s-body
 returns-then-s-body c =
     let s = c in
     let a = s.args in
-    read_body a.kind a.s.now a.r c.u32_at-len.result c.head_number-number.result (omega arith)
+    read_body a.kind a.s.now a.r c.u32_at-len.result c.head_number.result (omega arith)
     (sym c.u16_at.ensures.0 ∙ c.if-u16_at-kind.false)
     c.u32_at-len.ensures
-    c.head_number-number.ensures
-    (omega arith) (omega arith)
+    c.head_number.ensures
+    c.in_default.is (omega arith)
 
 pub returns : goal.returns
 returns c =
     let s = c in
     let a = s.args in
-    read_next a.kind a.s.now a.r c.u32_at-len.result c.head_number-number.result (omega arith)
+    read_next a.kind a.s.now a.r c.u32_at-len.result c.head_number.result (omega arith)
     (sym c.u16_at.ensures.0 ∙ c.if-u16_at-kind.false)
     c.u32_at-len.ensures
-    c.head_number-number.ensures
-    (omega arith) (omega arith)
+    c.head_number.ensures
+    c.in_default.is (omega arith)

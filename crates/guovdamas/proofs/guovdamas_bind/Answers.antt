@@ -3,4 +3,4 @@ use Rattle.guovdamas.proofs.Numbered.{binding_numbered}
 use Rattle.guovdamas.proofs.guovdamas_bind.Goals as goal
 
 pub returns : goal.returns
-returns c = binding_numbered c.binding_of.ensures c.bind-answer.ensures
+returns c = binding_numbered (c.into.ensures c.bind-answer.ensures.place_fits) c.bind-answer.ensures.bind_says

@@ -11,8 +11,8 @@ pub returns : goal.returns
 returns c =
     let o = c in
     let s = c in
-    extraction_numbered c.extraction_of.ensures (o.extract-answer.ensures
+    extraction_numbered c.into-2.ensures (o.extract-answer.ensures
     ∙ ap (λ (x : Settings). outlined (lent s.args.ax.now s.args.ay.now s.args.bx.now s.args.by.now s.args.a_id.now
     s.args.b_id.now s.args.start.now s.args.list.now) s.args.top.now x
     (buffers s.args.state.now s.args.points.now s.args.first.now s.args.len.now s.args.kind.now))
-    c.settings_of.ensures)
+    c.into.ensures)

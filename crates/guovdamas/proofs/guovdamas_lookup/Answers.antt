@@ -4,4 +4,4 @@ use Rattle.guovdamas.specs.Numbers.{record_with}
 use Rattle.guovdamas.proofs.guovdamas_lookup.Goals as goal
 
 pub returns : goal.returns
-returns c = c.record_of.ensures ∙ ap record_with c.lookup.ensures.1
+returns c = c.into.ensures ∙ ap record_with c.lookup.ensures.1

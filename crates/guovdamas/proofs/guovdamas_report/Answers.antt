@@ -4,4 +4,4 @@ use Rattle.guovdamas.specs.Numbers.{report_with}
 use Rattle.guovdamas.proofs.guovdamas_report.Goals as goal
 
 pub returns : goal.returns
-returns c = c.report_of.ensures ∙ ap report_with (c.values_of.ensures ∙ c.report.ensures.1)
+returns c = c.into.ensures ∙ ap report_with (c.values_of.ensures ∙ c.report.ensures.1)

@@ -3,4 +3,4 @@ use Rattle.guovdamas.proofs.Numbered.{reports_numbered}
 use Rattle.guovdamas.proofs.guovdamas_report_all.Goals as goal
 
 pub returns : goal.returns
-returns c = reports_numbered c.reports_of.ensures c.report_all-answer.ensures
+returns c = reports_numbered c.into.ensures c.report_all-answer.ensures

@@ -1,38 +1,35 @@
--- `first_from`: by the last number, or the binary search; its ends bracket the answer.
+-- `first_from`: by the last number, or the search.
 use native.Mathlib.Omega.{arith}
-use Prim.Native.Nat.{◌+◌, ◌-◌, ◌/◌}
-use lib.ListN.{get_or}
+use Prim.Native.Nat.{◌-◌}
+use mathlib.Core.Path.{sym, ◌∙◌}
+use lib.ListN.{get_or, take}
 use mir.Syntax.{w32}
+use mir.Val.{to_z, of_z}
 use mir.ValLaws.{to_z-of_z}
-use lib.IntN.{pos}
-use Rattle.nearest.proofs.Parts.{bracket_start, bracket_up, bracket_down, bracket_end, last_below, seen_lt, seen_ge}
+use lib.Signed.{lt_z}
+use Rattle.std.proofs.Common.{rules}
+use Rattle.std.proofs.lemmas.List.Sorted.{IsPartitionPoint-from_clause}
+use Rattle.anchor.specs.declared.Anchor.{Anchor}
+use Rattle.anchor.specs.Anchors.{blank, anchors_of}
+use Rattle.nearest.proofs.Parts.{x_at, none_below, last_below, seen_lt, sorted_parted, point_parted}
+use Rattle.nearest.proofs.first_from.Goals.{then-m-eq0, else-m-eq0}
 use Rattle.nearest.proofs.first_from.Goals as goal
 
-pub returns-then-m-eq0 : goal.returns-then-m-eq0
-returns-then-m-eq0 c =
+pub returns-then-anchors-m : goal.returns-then-anchors-m
+returns-then-anchors-m c =
     let a = c.args in
-    bracket_end a.l.now a.m a.x 0 a.m (bracket_start a.l.now a.m a.x) (omega (arith, c.if-m-eq0.true))
+    elim c.if-m-eq0.branch [
+      | then-m-eq0 w ↦ none_below _ _ _ w.if-m-eq0.true
+      | else-m-eq0 w ↦
+          let x = (get_or a.anchors.now (a.m - 1) blank).at.x in
+          let t = seen_lt x _ (omega arith) (rw (to_z-of_z w32 _ c.ranges.x) at (sym w.value-is ∙ c.if-anchors-m.true)) in
+          last_below (anchors_of a.anchors.now).x a.m a.x c.requires.1 w.if-m-eq0.false (rw (x_at a.anchors.now (a.m - 1)) t)
+    ]
 
-pub returns-then-l-m : goal.returns-then-l-m
-returns-then-l-m c =
-    let s = c in
-    last_below s.args.l.now s.args.m s.args.x s.requires.1 c.if-m-eq0.false
-    (seen_lt (get_or s.args.l.now (s.args.m - 1) (pos 0)) _ (omega arith) (rw (to_z-of_z w32 _ c.ranges.x) at c.if-l-m.true))
-
-pub loop-low-init : goal.loop-low-init
-loop-low-init c = bracket_start _ _ _
-
-pub loop-low-preserved-then-l-middle : goal.loop-low-preserved-then-l-middle
-loop-low-preserved-then-l-middle c =
-    let s = c in let l = c.loop-low in
-    bracket_up _ _ _ l.low l.high _ s.requires.1 l.invariant (omega arith) (omega arith)
-    (seen_lt (get_or s.args.l.now (l.low + (l.high - l.low) / 2) (pos 0)) _ (omega arith) c.if-l-middle.true)
-
-pub loop-low-preserved : goal.loop-low-preserved
-loop-low-preserved c =
-    let s = c in let l = c.loop-low in
-    bracket_down _ _ _ l.low l.high _ s.requires.1 l.invariant (omega arith) (omega arith)
-    (seen_ge (get_or s.args.l.now (l.low + (l.high - l.low) / 2) (pos 0)) _ (omega arith) c.if-l-middle.false)
-
-pub returns : goal.returns
-returns c = rw (to_z-of_z w32 _ c.ranges.x) at (bracket_end _ _ _ _ _ c.loop-low.invariant c.loop-low-test.false)
+pub returns-else-anchors-m : goal.returns-else-anchors-m
+returns-else-anchors-m c =
+    let a = c.args in
+    let x = to_z w32 (of_z w32 a.x) in
+    let at = IsPartitionPoint-from_clause (λ (y : Anchor). lt_z y.at.x x) (take a.m a.anchors.now) _ c.partition_point.ensures.partitioned
+    (sorted_parted a.anchors.now a.m x c.requires.0 c.requires.1) (λ y r f k. search rules) in
+    rw (to_z-of_z w32 _ c.ranges.x) at (point_parted a.anchors.now a.m x c.requires.0 _ c.partition_point.ensures.bound at)

@@ -4,19 +4,17 @@ use mathlib.Core.Path.{◌≡◌}
 use lib.ListN.{get_or}
 use borrow.Author.Count.{below_none}
 use Rattle.laws.specs.Lists.{put_below}
-use Rattle.table.specs.Fronts.{kept_all, kept_set, kept_less}
+use Rattle.table.specs.Fronts.{kept_all, kept_set}
 use Rattle.nearest.specs.SearchLists.{named}
 use Rattle.nearest.proofs.name_contours.Goals as goal
 
 pub loop-j-init : goal.loop-j-init
 loop-j-init c =
-    let s = c in (
-      omega arith,
-      record {
-        names = below_none (λ i. get_or s.args.under.now i 0 ≡ named s.args.of.now (get_or s.args.best.now i 0));
-        kept = kept_all 0 0 s.args.under.now;
-      },
-    )
+    let s = c in
+    record {
+      names = below_none (λ i. get_or s.args.under.now i 0 ≡ named s.args.of.now (get_or s.args.best.now i 0));
+      kept = kept_all 0 0 s.args.under.now;
+    }
 
 pub contour_of-requires : goal.contour_of-requires
 contour_of-requires c =
@@ -25,16 +23,14 @@ contour_of-requires c =
 
 pub loop-j-preserved : goal.loop-j-preserved
 loop-j-preserved c =
-    let s = c in let l = c.loop-j in (
-      omega arith,
-      record {
-        names = put_below 0 (λ i. named s.args.of.now (get_or s.args.best.now i 0)) l.under l.j _
-            (omega (arith, s.requires.m_in_bounds, l.invariant.1.kept.len)) c.contour_of.ensures l.invariant.1.names;
-        kept = kept_set 0 l.j _ l.under l.invariant.1.kept _;
-      },
-    )
+    let s = c in let l = c.loop-j in
+    record {
+      names = put_below 0 (λ i. named s.args.of.now (get_or s.args.best.now i 0)) l.under l.j _
+          (omega (arith, s.requires.m_in_bounds, l.invariant.kept.len)) c.contour_of.ensures l.invariant.names;
+      kept = kept_set 0 l.j _ l.under l.invariant.kept _;
+    }
 
 pub returns : goal.returns
 returns c =
-    let l = c.loop-j in
-    record { names = λ j h. l.invariant.1.names j (omega arith); kept = kept_less 0 l.j _ l.under l.invariant.1.kept _ l.invariant.0 }
+    let l = c.loop-j in let e : l.j ≡ c.args.m = omega arith in
+    rw e at l.invariant

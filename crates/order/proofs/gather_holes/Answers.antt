@@ -2,44 +2,27 @@
 use native.Mathlib.Omega.{arith}
 use Prim.Native.Nat.{◌≤◌, ◌<◌}
 use lib.ListN.{length}
-use Rattle.table.specs.Table.{Table, table, max_contours}
-use Rattle.table.specs.Passing.{ranges_within, contours_few}
-use Rattle.anchor.specs.Anchors.{Anchors, anchors, less_room}
-use Rattle.anchor.specs.AnchorPositions.{on_anchor}
-use Rattle.order.specs.HoleLists.{room_for}
-use Rattle.order.proofs.Gathers.{gather_room, gather_start, gather_skip, gather_more, gather_end}
+use Rattle.table.specs.Table.{Table, table_of, max_contours}
+use Rattle.table.specs.Passing.{contours_few}
+use Rattle.order.proofs.Gathers.{gather_room, gather_start, gather_skip, gather_more}
+use Rattle.order.proofs.gather_holes.Goals.{then-contours-c-eq1, else-contours-c-eq1}
 use Rattle.order.proofs.gather_holes.Goals as goal
 
 pub loop-c-init : goal.loop-c-init
 loop-c-init c = gather_start _ _ _ _
 
-pub loop-c-preserved-then-kind-c-ne1 : goal.loop-c-preserved-then-kind-c-ne1
-loop-c-preserved-then-kind-c-ne1 c =
-    let t : Table = table c.args.points.now c.args.first.now c.args.len.now c.args.kind.now in
-    let h : Anchors = anchors c.args.x.now c.args.y.now c.args.to_x.now c.args.to_y.now in
-    let s = c in let l = c.loop-c in
-    gather_skip t _ _ h l.who (anchors l.x l.y l.to_x l.to_y) l.m l.c l.invariant c.loop-c-test.true
-    c.if-kind-c-ne1.true
-
-pub left_bottom_segment_from-a-requires : goal.left_bottom_segment_from-a-requires
-left_bottom_segment_from-a-requires c =
-    let t : Table = table c.args.points.now c.args.first.now c.args.len.now c.args.kind.now in
-    let s = c in
-    let l = c.loop-c in let i = c.loop-c-test.true in
-    (s.requires.sound.long l.c i, ranges_within t s.requires.sound l.c i, s.requires.sound.grid)
-
 pub overflow_cast-who : goal.overflow_cast-who
 overflow_cast-who c =
-    let t : Table = table c.args.points.now c.args.first.now c.args.len.now c.args.kind.now in
-    let room : length c.args.first.now ≤ max_contours = contours_few t c.requires.sound in
+    let t : Table = table_of c.args.contours in
+    let room : length c.args.contours.first.now ≤ max_contours = contours_few t c.requires.sound in
     let few : c.loop-c.c < max_contours = omega (arith, room) in
     let s = c in
     omega (arith, few)
 
 pub bounds-who-m : goal.bounds-who-m
 bounds-who-m c =
-    let t : Table = table c.args.points.now c.args.first.now c.args.len.now c.args.kind.now in
-    let room : length c.args.first.now ≤ max_contours = contours_few t c.requires.sound in
+    let t : Table = table_of c.args.contours in
+    let room : length c.args.contours.first.now ≤ max_contours = contours_few t c.requires.sound in
     let few : c.loop-c.c < max_contours = omega (arith, room) in
     let s = c in
     omega (
@@ -47,41 +30,33 @@ bounds-who-m c =
       few,
       c.loop-c.invariant.few,
       c.loop-c.invariant.into.who_kept.len,
-      s.requires.room.who_room,
+      s.requires.room.0,
     )
 
-pub put_anchor-requires : goal.put_anchor-requires
-put_anchor-requires c =
-    let t : Table = table c.args.points.now c.args.first.now c.args.len.now c.args.kind.now in
-    let h : Anchors = anchors c.args.x.now c.args.y.now c.args.to_x.now c.args.to_y.now in
-    let room : length c.args.first.now ≤ max_contours = contours_few t c.requires.sound in
+pub bounds-anchors-m : goal.bounds-anchors-m
+bounds-anchors-m c =
+    let t : Table = table_of c.args.contours in
+    let room : length c.args.contours.first.now ≤ max_contours = contours_few t c.requires.sound in
     let s = c in
-    let l = c.loop-c in
-    let i = c.loop-c-test.true in
-    let a = c.left_bottom_segment_from-a in
-    let f = room in record {
-      on_grid = on_anchor t s.requires.sound s.args.clockwise l.c i a.result a.ensures;
-      anchor_room = gather_room t _ _ h l.who (anchors l.x l.y l.to_x l.to_y) l.m l.c l.invariant i (less_room h _ s.requires.room.anchor_room f);
-    }
+    gather_room t _ _ _ _ _ _ _ c.loop-c.invariant c.loop-c-test.true (omega (arith, room, s.requires.room.1))
+
+pub offset_bounds-anchors-m : goal.offset_bounds-anchors-m
+offset_bounds-anchors-m c =
+    let t : Table = table_of c.args.contours in
+    let room : length c.args.contours.first.now ≤ max_contours = contours_few t c.requires.sound in
+    let few : c.loop-c.c < max_contours = omega (arith, room) in
+    omega (arith, few, c.loop-c.invariant.few)
 
 pub loop-c-preserved : goal.loop-c-preserved
 loop-c-preserved c =
-    let t : Table = table c.args.points.now c.args.first.now c.args.len.now c.args.kind.now in
-    let h : Anchors = anchors c.args.x.now c.args.y.now c.args.to_x.now c.args.to_y.now in
-    let room : length c.args.first.now ≤ max_contours = contours_few t c.requires.sound in
-    let s = c in let l =
-    c.loop-c in let a =
-    c.left_bottom_segment_from-a in let p =
-    c.put_anchor in
-    gather_more t _ _ h l.who (anchors l.x l.y l.to_x l.to_y) l.m l.c l.invariant
-    c.loop-c-test.true
-    c.if-kind-c-ne1.false a.result a.ensures
-    (room_for _ _ _ s.requires.room
-    room) _ p.ensures
-
-pub returns : goal.returns
-returns c =
-    let t : Table = table c.args.points.now c.args.first.now c.args.len.now c.args.kind.now in
-    let h : Anchors = anchors c.args.x.now c.args.y.now c.args.to_x.now c.args.to_y.now in
-    let s = c in let l = c.loop-c in
-    gather_end t _ _ h l.who (anchors l.x l.y l.to_x l.to_y) l.m l.c l.invariant c.loop-c-test.false
+    let t : Table = table_of c.args.contours in
+    let room : length c.args.contours.first.now ≤ max_contours = contours_few t c.requires.sound in
+    let s = c in
+    let l = c.loop-c in
+    elim c.if-contours-c-eq1.branch [
+      | then-contours-c-eq1 w ↦ rw (w.who-is, w.anchors-is, w.m-is)
+          (gather_more t _ _ _ l.who l.anchors l.m l.c l.invariant c.loop-c-test.true w.if-contours-c-eq1.true _ w.left_bottom_segment_from.ensures
+          (omega (arith, room, s.requires.room.0)) (omega (arith, room, s.requires.room.1)))
+      | else-contours-c-eq1 w ↦ rw (w.who-is, w.anchors-is, w.m-is)
+          (gather_skip t _ _ _ l.who l.anchors l.m l.c l.invariant c.loop-c-test.true w.if-contours-c-eq1.false)
+    ]

@@ -19,8 +19,8 @@ pub bounds-out-last : goal.bounds-out-last
 bounds-out-last t c =
     last_digit_fits _ _ c.args.out.now (omega arith) c.ranges.n.fits c.requires _ _ c.write_decimal-last.ensures
 
-pub overflow_add-result-2 : goal.overflow_add-result-2
-overflow_add-result-2 t c =
+pub overflow_add-result-else-n-lt10 : goal.overflow_add-result-else-n-lt10
+overflow_add-result-else-n-lt10 t c =
     omega (
       arith,
       last_digit_fits _ _ c.args.out.now (omega arith) c.ranges.n.fits c.requires _ _ c.write_decimal-last.ensures,
@@ -28,6 +28,6 @@ overflow_add-result-2 t c =
       c.well_formed,
     )
 
-pub returns : goal.returns
-returns t c =
+pub returns-else-n-lt10 : goal.returns-else-n-lt10
+returns-else-n-lt10 t c =
     last_digit _ _ c.args.out.now (omega arith) c.ranges.n.fits c.requires _ _ c.write_decimal-last.ensures

@@ -1,7 +1,8 @@
 -- `fill_lists`: contour by contour, as `Filling` says.
 use mathlib.Core.Path.{ap, ◌∙◌}
+use native.Mathlib.Omega.{arith}
 use lib.Seq.{take-length}
-use Rattle.table.specs.Table.{Table, table, hulls}
+use Rattle.table.specs.Table.{Table, table_of, hulls}
 use Rattle.report_all.specs.ColumnLaws.{report_at_is}
 use Rattle.report_all.proofs.Filling.{filling_start, filling_more, filling_room, filling_end}
 use Rattle.report_all.proofs.fill_lists.Goals as goal
@@ -19,7 +20,7 @@ store-requires c =
 pub loop-c-preserved : goal.loop-c-preserved
 loop-c-preserved c =
     let p = c.requires.fact in
-    let t : Table = table c.args.points.now c.args.first.now c.args.len.now c.args.kind.now in
+    let t : Table = table_of c.args.contours in
     let hulls_are = c.hulls_before-hulls.ensures.0 ∙ ap hulls (take-length t.kind) in
     let is = c.report_at-r.ensures
     ∙ report_at_is t c.args.owner.now c.loop-c.c c.loop-c.shape c.hulls_before-hulls.result p.0 p.1
@@ -29,4 +30,4 @@ loop-c-preserved c =
     c.one_more_if_hull-shape.ensures c.one_more_if_missing-missing.ensures
 
 pub returns : goal.returns
-returns c = filling_end c.requires.fact.0 c.requires.room c.loop-c.invariant c.loop-c-test.false
+returns c = filling_end c.requires.fact.0 c.requires.room c.loop-c.invariant (omega arith)

@@ -10,13 +10,6 @@ use Rattle.graph.specs.Checks.{node_at, end_at}
 use Rattle.spokes.proofs.Crossings.{answer_no_link, kept_twice, cross_start, cross_more, cross_wrong, cross_right, cross_laid}
 use Rattle.spokes.proofs.lay_cross.Goals as goal
 
--- ---- the first entry
-pub bounds-here-0 : goal.bounds-here-0
-bounds-here-0 c = c.requires.here_nonzero
-
-pub wide-first-requires : goal.wide-first-requires
-wide-first-requires c = tt
-
 pub returns-then-aid-first : goal.returns-then-aid-first
 returns-then-aid-first c =
     let d = c in
@@ -26,12 +19,6 @@ returns-then-aid-first c =
       laid_cross = λ z. absurd (true≢false refl z);
       else_kept = (λ h d. refl, λ h d. refl);
     }
-
-pub end_at-home-requires : goal.end_at-home-requires
-end_at-home-requires c = record {
-  points = c.requires.points;
-  k_in_bounds = c.if-aid-first.false;
-}
 
 pub loop-j-init : goal.loop-j-init
 loop-j-init c =
@@ -44,14 +31,8 @@ loop-j-init c =
     (subst (λ k. c.end_at-home.result ≡ end_at (point_at x.ax.now x.ay.now) (point_at x.bx.now x.by.now) (node_at x.aid.now) x.v k) n
     c.end_at-home.ensures)
 
-pub lay_entry-requires : goal.lay_entry-requires
-lay_entry-requires c = record {
-  laying = c.loop-j.invariant.laying;
-  j_in_bounds = c.loop-j-test.true;
-}
-
-pub returns-in-Wrong : goal.returns-in-Wrong
-returns-in-Wrong c =
+pub returns-in-None : goal.returns-in-None
+returns-in-None c =
     let nxt-left : List ℕ = c.lay_entry.new.nxt in
     let prv-left : List ℕ = c.lay_entry.new.prv in
     let d = c in
@@ -59,7 +40,7 @@ returns-in-Wrong c =
     let x = c.args in
     let l = t.loop-j in
     let k = d.lay_entry.ensures.else_kept in record {
-      point = cross_wrong l.invariant nxt-left prv-left t.loop-j-test.true d.lay_entry.result c.in-Wrong.is d.lay_entry.ensures.entered;
+      point = cross_wrong l.invariant nxt-left prv-left t.loop-j-test.true d.lay_entry.result c.in-None.is d.lay_entry.ensures.entered;
       laid_cross = λ z. absurd (true≢false refl z);
       else_kept = (
         kept_twice x.aid.now x.bid.now x.v x.nxt.now l.nxt nxt-left l.invariant.kept_nxt k.0,
@@ -76,7 +57,7 @@ loop-j-preserved c =
     let d = c in
     let t = c in
     cross_more t.loop-j.invariant nxt-left prv-left _ t.loop-j-test.true nxt_same prv_same
-    d.lay_entry.result c.in-Makes.is d.lay_entry.ensures.entered d.lay_entry.ensures.else_kept.0 d.lay_entry.ensures.else_kept.1
+    d.lay_entry.result c.in-Some.is d.lay_entry.ensures.entered d.lay_entry.ensures.else_kept.0 d.lay_entry.ensures.else_kept.1
 
 pub returns : goal.returns
 returns c =

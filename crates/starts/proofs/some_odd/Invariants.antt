@@ -1,10 +1,7 @@
--- `starts::some_odd` meets its contract; the invariant: what is found so far is of the nodes below v.
-use Rattle.std.proofs.Common.{◌-◌, ◌≤◌}
+-- `starts::some_odd` meets its contract; the invariant: what is found so far is of as many nodes as pairs were seen.
+use Rattle.std.proofs.Common.{length}
 use Rattle.starts.specs.Odds.{OddBelow}
 use Rattle.starts.proofs.some_odd.Given as goal
 
-abbrev pub invariant-loop-v : goal.invariant-loop-v
-invariant-loop-v l = (l.v ≤ l.m) × (OddBelow l.start l.v l.some)
-
-abbrev pub decreases-loop-v : goal.decreases-loop-v
-decreases-loop-v l = l.m - l.v
+abbrev pub invariant-loop-pair : goal.invariant-loop-pair
+invariant-loop-pair l = OddBelow l.start (length l.yielded) l.some

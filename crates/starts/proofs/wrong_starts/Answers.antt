@@ -1,7 +1,7 @@
 -- `starts::wrong_starts` meets its contract: its four tests together are check 5's, of a list that is no longer than it may be.
 use Rattle.std.proofs.Common.{ℕ, ◌-◌, not, ◌||◌, eqb, ltb, length, ◌∙◌, ap₂}
 use Rattle.turn.specs.Limits.{max_links}
-use Rattle.starts.proofs.Wraps.{starts_same}
+use Rattle.starts.proofs.Same.{starts_same}
 use Rattle.starts.proofs.wrong_starts.Goals as goal
 
 pub returns : goal.returns

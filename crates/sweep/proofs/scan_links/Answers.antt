@@ -1,6 +1,7 @@
 -- `sweep::scan_links` meets its contract. The invariant: what the scan leaves from here it leaves from the loop's start,
 -- and no link below k is unvisited (`Scanning`).
 -- The measure falls where link k is passed and where a walk marks links: the links left and the unvisited ones together.
+use Rattle.std.specs.Prelude.{Ok, Err}
 use Prim.Native.Nat.{◌<◌}
 use mathlib.Core.Path.{refl, sym, ◌∙◌}
 use native.Mathlib.Omega.{arith}
@@ -10,7 +11,6 @@ use Rattle.rings.specs.Field.{Field}
 use Rattle.next.specs.Next.{unvisited}
 use Rattle.next.specs.States.{read_unvisited, read_shut}
 use Rattle.sweep.proofs.Scans.{scan_moves, scan_refused, scan_again, scan_over, lowest_here, none_yet}
-use Rattle.contour.specs.declared.Noted.TheVariants.{Entered, Stuck}
 use Rattle.contour.specs.Notes.{Roomy, within_less}
 use Rattle.scan.specs.Fields.{field_later}
 use Rattle.walk.specs.Marks.{kept_then}
@@ -72,8 +72,8 @@ scan_walk-requires c =
       );
     }
 
-pub returns-in-Stuck : goal.returns-in-Stuck
-returns-in-Stuck c =
+pub returns-in-Err : goal.returns-in-Err
+returns-in-Err c =
     let Of : Graph → Type 0 = λ g. Field g c.args.ax.now c.args.ay.now c.args.bx.now c.args.by.now c.args.top.now c.args.nxt.now
     c.args.prv.now c.args.lead.now c.args.state.now in
     let in_states : c.loop-k.k < length c.args.state.now → c.loop-k.k < length c.loop-k.state = λ h. rw c.loop-k.invariant.kept.len h in
@@ -84,17 +84,17 @@ returns-in-Stuck c =
     let i = l.loop-k.invariant in record {
       scan_links_says = λ g h. scan_refused Of s.args.settings.clockwise s.args.settings.minimum _ _ _ _ _ _ l.loop-k.k l.loop-k.held l.loop-k.c
           l.loop-k.state l.loop-k.points l.loop-k.first l.loop-k.len l.loop-k.kind i t
-          (read_unvisited l.loop-k.state l.loop-k.k (in_states t) o.if-state-k-ne0.false) _ _ _ _ _ g h (Stuck c.in-Stuck.number) c.in-Stuck.number
-          refl (c.in-Stuck.ensures.scan_walk_says g (field_later h (kept_later i.kept)) (i.holds g h)) _ _ _ _ _ _ refl;
+          (read_unvisited l.loop-k.state l.loop-k.k (in_states t) o.if-state-k-ne0.false) _ _ _ _ _ g h (Err c.in-Err.reason) c.in-Err.reason
+          refl (c.in-Err.ensures.scan_walk_says g (field_later h (kept_later i.kept)) (i.holds g h)) _ _ _ _ _ _ refl;
       ends = tt;
-      kept = kept_then i.kept c.in-Stuck.ensures.kept;
+      kept = kept_then i.kept c.in-Err.ensures.kept;
     }
 
 pub loop-k-smaller : goal.loop-k-smaller
 loop-k-smaller c =
     let o = c in
     let l = c in
-    let h : unvisited c.scan_walk.new.state < unvisited c.loop-k.state = c.in-Entered.ensures.fewer.0 in
+    let h : unvisited c.scan_walk.new.state < unvisited c.loop-k.state = c.in-Ok.ensures.fewer.0 in
     omega arith
 
 pub loop-k-preserved : goal.loop-k-preserved
@@ -109,9 +109,9 @@ loop-k-preserved c =
     let i = l.loop-k.invariant in
     scan_again Of s.args.settings.clockwise s.args.settings.minimum _ _ _ _ _ _ l.loop-k.k l.loop-k.held l.loop-k.c
     l.loop-k.state l.loop-k.points l.loop-k.first l.loop-k.len l.loop-k.kind i t
-    (read_unvisited l.loop-k.state l.loop-k.k (in_states t) o.if-state-k-ne0.false) _ _ _ _ _ (Entered c.in-Entered.d c.in-Entered.s) _ _
-    refl (λ g h. c.in-Entered.ensures.scan_walk_says g (field_later h (kept_later i.kept)) (i.holds g h))
-    (rw i.kept.len at c.in-Entered.ensures.fewer) c.in-Entered.ensures.kept (omega arith) (omega arith) (omega arith) (omega arith)
+    (read_unvisited l.loop-k.state l.loop-k.k (in_states t) o.if-state-k-ne0.false) _ _ _ _ _ (Ok c.in-Ok.entered) _ _
+    refl (λ g h. c.in-Ok.ensures.scan_walk_says g (field_later h (kept_later i.kept)) (i.holds g h))
+    (rw i.kept.len at c.in-Ok.ensures.fewer) c.in-Ok.ensures.kept (omega arith) (omega arith) (omega arith) (omega arith)
 
 pub returns : goal.returns
 returns c =

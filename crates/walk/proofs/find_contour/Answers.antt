@@ -1,4 +1,5 @@
 -- `walk::find_contour` meets its contract: the first link is marked, the last one is fixed, and the walk goes on.
+use Rattle.std.specs.Prelude.{Some, None}
 use Prim.Native.Nat.{ℕ, suc, ◌≤◌, ◌<◌}
 use mathlib.Core.Path.{◌≡◌, refl, sym, ◌∙◌, subst}
 use mathlib.Core.Bool.{not}
@@ -15,6 +16,8 @@ use Rattle.walk.proofs.Steps.{start_on}
 use Rattle.walk.specs.Code.{Kept}
 use Rattle.walk.specs.Later.{kept_later, steers_later, steered_later}
 use Rattle.walk.specs.Marks.{kept_mark, kept_then, fewer}
+use Rattle.std.proofs.lemmas.Result.{err_from_is_err_and}
+use Rattle.turn.specs.declared.Reason.TheVariants.{NoNextLink}
 use Rattle.walk.proofs.find_contour.Goals as goal
 
 pub start_point-begin-requires : goal.start_point-begin-requires
@@ -77,32 +80,37 @@ walk_on-requires c =
       on_grid = (on, omega (arith, s.requires.state_in_bounds, less));
     }
 
-pub returns-in-Nowhere : goal.returns-in-Nowhere
-returns-in-Nowhere c =
+pub returns-in_err-back : goal.returns-in_err-back
+returns-in_err-back c =
     let st : List ℕ = c.args.state.now in
     let marked : List ℕ = set st c.args.s c.args.course.mark in
     let mark_kept : Kept st marked = kept_mark st c.args.s c.args.course.mark c.requires.s_in_bounds.2 c.requires.s_in_bounds.1 in
-    let p = c in let s = c in let a = s.args in record {
+    let p = err_from_is_err_and c.from_residual.result c.from_residual.ensures.1 in
+    let n : c.next_end.result ≡ None = grind arith in
+    let e : c.in_err-back.field-0.0 ≡ NoNextLink = grind arith in
+    let s = c in let a = s.args in
+    rw (p.1, p.2, e) (record {
       find_contour_says = λ g d e. starts_nowhere g a.course.forward a.course.sense a.course.mark st a.s a.points.now a.at _ _ _ _
           c.end_number-home.ensures
-          (c.in-Nowhere.ensures.next_end_says g (steers_later d (kept_later mark_kept))) refl;
+          (rw n at c.next_end.ensures.next_end_says g (steers_later d (kept_later mark_kept))) refl;
       counted = (tt, tt);
       kept = mark_kept;
-    }
+    })
 
-pub returns-in-To : goal.returns-in-To
-returns-in-To c =
+pub returns : goal.returns
+returns c =
     let st : List ℕ = c.args.state.now in
     let marked : List ℕ = set st c.args.s c.args.course.mark in
     let less : unvisited st ≡ suc (unvisited marked) = fewer st c.args.s c.args.course.mark c.requires.s_in_bounds.2 c.requires.s_in_bounds.1 in
     let mark_kept : Kept st marked = kept_mark st c.args.s c.args.course.mark c.requires.s_in_bounds.2 c.requires.s_in_bounds.1 in
     let w = c in let n = c in let p = c in
+    let q : c.next_end.result ≡ Some c.in_ok-back.back = grind arith in
     let s = c in let a = s.args in let o = w.walk_on in record {
       find_contour_says = λ g d e.
           let f = steers_later d (kept_later mark_kept) in
           starts_on g a.course.forward a.course.sense a.course.mark st a.s a.points.now a.at _ _ _ _
           c.end_number-home.ensures _ _ _ _
-          (c.in-To.ensures.next_end_says g f)
+          (rw q at c.next_end.ensures.next_end_says g f)
           c.end_number-ahead.ensures
           (c.start_point-begin.ensures ∙ begin_is e a.s a.course.forward _ c.end_number-ahead.ensures)
           c.put_point.ensures (o.ensures.rest_leaves g f e);

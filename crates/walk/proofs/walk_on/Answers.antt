@@ -1,12 +1,12 @@
 -- `walk::walk_on` meets its contract. The invariant: what the walk leaves from here it leaves from the loop's start
 -- (`Walking`). The measure is the number of unvisited links.
+use Rattle.std.specs.Prelude.{Some, None}
 use mathlib.Core.Path.{◌∙◌, ap, refl}
 use native.Mathlib.Omega.{arith}
 use lib.IntN.{◌+ℤ◌}
 use Rattle.walk.proofs.Steps.{sum_fits, sum_is}
 use Rattle.walk.proofs.Walks.{walking_starts, still_summed, walking_again, walking_less, walking_nowhere}
 use Rattle.walk.proofs.Walks.{walking_home, walking_away, walking_sized}
-use Rattle.walk.specs.declared.Stepped.TheVariants.{Went, Nowhere}
 use Rattle.walk.specs.Later.{kept_later, steered_later}
 use Rattle.walk.specs.Marks.{kept_then}
 use Rattle.walk.proofs.walk_on.Goals as goal
@@ -24,26 +24,25 @@ one_step-requires c =
       state_in_bounds = omega (arith, i.count, i.room, s.requires.on_grid.1);
     }
 
-pub returns-in-Nowhere : goal.returns-in-Nowhere
-returns-in-Nowhere c =
-    let o = c in
+pub returns-in-None : goal.returns-in-None
+returns-in-None c =
     let t = c in
     let i = t.loop-w.invariant in record {
-      rest_leaves = walking_nowhere i _ _ Nowhere refl t.loop-w-test.true c.in-Nowhere.ensures.points_after;
+      rest_leaves = walking_nowhere i _ _ None refl t.loop-w-test.true c.in-None.ensures.points_after;
       counted = (tt, tt);
-      kept = kept_then i.kept c.in-Nowhere.ensures.kept;
+      kept = kept_then i.kept c.in-None.ensures.kept;
     }
 
 pub loop-w-smaller : goal.loop-w-smaller
 loop-w-smaller c =
-    let o = c in let l = c in
-    walking_less l.loop-w.w c.in-Went.v l.loop-w.state _ (Went c.in-Went.v) refl c.in-Went.ensures.goes
+    let l = c in
+    walking_less l.loop-w.w c.in-Some.v l.loop-w.state _ (Some c.in-Some.v) refl c.in-Some.ensures.goes
 
 pub loop-w-preserved : goal.loop-w-preserved
 loop-w-preserved c =
-    let o = c in let t = c in let l = c in
-    walking_again l.loop-w.invariant c.in-Went.v _ _ (Went c.in-Went.v) refl c.in-Went.ensures.goes t.loop-w-test.true
-    c.in-Went.ensures.points_after c.in-Went.ensures.kept (omega arith)
+    let t = c in let l = c in
+    walking_again l.loop-w.invariant c.in-Some.v _ _ (Some c.in-Some.v) refl c.in-Some.ensures.goes t.loop-w-test.true
+    c.in-Some.ensures.points_after c.in-Some.ensures.kept (omega arith)
 
 pub wedge-requires : goal.wedge-requires
 wedge-requires c = let l = c in (l.loop-w.invariant.on, c.requires.on_grid.0)

@@ -1,12 +1,7 @@
--- `zeros::restore` meets its contract: a loop that rewrites every state (`Rewriting`).
-use Prim.Native.Nat.{◌-◌}
-use lib.ListN.{length}
-use Rattle.zeros.proofs.Rewrites.{Rewriting}
+-- `zeros::restore` meets its contract: the states before the loop's are restored, the others as they were.
+use Rattle.std.proofs.Common.{◌≡◌, ◌++◌, map, take, drop}
 use Rattle.walk.specs.Code.{unmark}
 use Rattle.zeros.proofs.restore.Given as goal
 
-abbrev pub invariant-loop-i : goal.invariant-loop-i
-invariant-loop-i l = Rewriting unmark 0 l.initial.state l.i l.state
-
-abbrev pub decreases-loop-i : goal.decreases-loop-i
-decreases-loop-i l = length l.initial.state - l.i
+abbrev pub invariant-loop-x : goal.invariant-loop-x
+invariant-loop-x l = l.state ≡ map unmark (take l.x-index l.initial.state) ++ drop l.x-index l.initial.state

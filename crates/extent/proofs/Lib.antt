@@ -1,2 +1,0 @@
--- What the proofs cite beside the laws of specs/.
-mod Reaching

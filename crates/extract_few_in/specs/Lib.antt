@@ -1,2 +1,0 @@
--- What the public function promises.
-pub mod Promises

@@ -1,9 +1,0 @@
--- `contour_of`: by its two ways out.
-use borrow.Author.Tests.{eq-eqb, ne_eqb}
-use Rattle.nearest.proofs.contour_of.Goals as goal
-
-pub returns-then-b-eq0 : goal.returns-then-b-eq0
-returns-then-b-eq0 c = rw (eq-eqb _ _ c.if-b-eq0.true)
-
-pub returns : goal.returns
-returns c = rw (ne_eqb _ _ c.if-b-eq0.false)
