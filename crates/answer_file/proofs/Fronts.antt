@@ -12,7 +12,9 @@ use Rattle.format.specs.File.{Contents, holding, contents_of, contents_into, fil
 use Rattle.writing.specs.Cuts.{cut}
 use Rattle.answer_read.specs.ReadText.{ReadFits, read_text, read_states}
 use Rattle.answer_file.specs.FileText.{file_text, with_states, states_left, file_left}
+use Rattle.turn.specs.Refusals.{numbered}
 use Rattle.turn.specs.declared.Refusal.{Refusal}
+use Rattle.turn.specs.declared.NumberedRefusal.{NumberedRefusal}
 use Rattle.format.specs.declared.FileCounts.{FileCounts}
 
 -- past what was written at its front a list is as it was
@@ -53,7 +55,7 @@ file_even s links nodes = record {
 }
 
 module _ (g : Contents) (b : FileLists) (h : OneLength g) where
-  graph_fronts : ReadFits (read_into (holding g) b).answer (read_into (holding g) b).lent
+  graph_fronts : ReadFits (numbered (read_into (holding g) b).answer) (read_into (holding g) b).lent
   graph_fronts = record {
     ax = cut _ _ (omega (arith, front_long g.ax b.ax, h.ax));
     ay = cut _ _ (omega (arith, front_long g.ay b.ay, h.ay));
@@ -67,7 +69,7 @@ module _ (g : Contents) (b : FileLists) (h : OneLength g) where
     list = cut _ _ (omega (arith, front_long g.list b.list));
   }
 
-  graph_text_lem : read_text (read_into (holding g) b).answer (read_into (holding g) b).lent ≡ file_text (holding g)
+  graph_text_lem : read_text (numbered (read_into (holding g) b).answer) (read_into (holding g) b).lent ≡ file_text (holding g)
   unfolding file_text
   graph_text_lem =
       rw (
@@ -83,7 +85,7 @@ module _ (g : Contents) (b : FileLists) (h : OneLength g) where
         front_cut (length g.list) g.list b.list refl,
       )
 
-  graph_states_lem : read_states (read_into (holding g) b).answer (read_into (holding g) b).lent ≡ states_left g b.state
+  graph_states_lem : read_states (numbered (read_into (holding g) b).answer) (read_into (holding g) b).lent ≡ states_left g b.state
   graph_states_lem =
       rw (
         front_cut (length g.a_id) g.ax b.ax h.ax,
@@ -100,19 +102,19 @@ module _ (g : Contents) (b : FileLists) (h : OneLength g) where
       )
 
 -- ---- what answering is asked, what it then prints, and what the lists then hold
-form_fits : (s : List ℕ) (b : FileLists) (f : Form) → ReadFits (read_into (file_from s f) b).answer (read_into (file_from s f) b).lent
+form_fits : (s : List ℕ) (b : FileLists) (f : Form) → ReadFits (numbered (read_into (file_from s f) b).answer) (read_into (file_from s f) b).lent
 form_fits s b (form links nodes) = graph_fronts (contents_of s links nodes) b (file_even s links nodes)
 form_fits s b (refused why) = tt
 
 form_text : (s : List ℕ) (b : FileLists) (f : Form)
-    → read_text (read_into (file_from s f) b).answer (read_into (file_from s f) b).lent ≡ file_text (file_from s f)
+    → read_text (numbered (read_into (file_from s f) b).answer) (read_into (file_from s f) b).lent ≡ file_text (file_from s f)
 unfolding file_text
 form_text s b (form links nodes) = graph_text_lem (contents_of s links nodes) b (file_even s links nodes)
 form_text s b (refused why) = refl
 
 -- what reading leaves, with the states that answering leaves
 abbrev left_by : Reading → FileLists
-left_by x = with_states (read_states x.answer x.lent) x.lent
+left_by x = with_states (read_states (numbered x.answer) x.lent) x.lent
 
 form_left : (s : List ℕ) (b : FileLists) (f : Form) → left_by (read_into (file_from s f) b) ≡ file_left (file_from s f) b
 unfolding file_left
@@ -121,11 +123,18 @@ form_left s b (form links nodes) =
 form_left s b (refused why) = refl
 
 module _ (s : List ℕ) (b : FileLists) {a : Result FileCounts Refusal} {b' : FileLists} (e : reading a b' ≡ read_into (file_of s) b) where
-  pub read_fits : ReadFits a b'
-  read_fits = subst (λ (x : Reading). ReadFits x.answer x.lent) (sym e) (form_fits s b (form_of s))
+  pub read_fits : {n : Result FileCounts NumberedRefusal} → n ≡ numbered a → ReadFits n b'
+  read_fits h =
+      subst (λ (n : Result FileCounts NumberedRefusal). ReadFits n b') (sym h)
+      (subst (λ (x : Reading). ReadFits (numbered x.answer) x.lent) (sym e) (form_fits s b (form_of s)))
 
-  pub read_text_lem : read_text a b' ≡ file_text (file_of s)
-  read_text_lem = ap (λ (x : Reading). read_text x.answer x.lent) e ∙ form_text s b (form_of s)
+  pub read_text_lem : {n : Result FileCounts NumberedRefusal} → n ≡ numbered a → read_text n b' ≡ file_text (file_of s)
+  read_text_lem h =
+      ap (λ (n : Result FileCounts NumberedRefusal). read_text n b') h
+      ∙ ap (λ (x : Reading). read_text (numbered x.answer) x.lent) e ∙ form_text s b (form_of s)
 
-  pub read_left : {state : List ℕ} → state ≡ read_states a b' → with_states state b' ≡ file_left (file_of s) b
-  read_left h = ap (λ (x : List ℕ). with_states x b') h ∙ ap left_by e ∙ form_left s b (form_of s)
+  pub read_left : {n : Result FileCounts NumberedRefusal} → n ≡ numbered a → {state : List ℕ} → state ≡ read_states n b'
+      → with_states state b' ≡ file_left (file_of s) b
+  read_left h w =
+      ap (λ (x : List ℕ). with_states x b') (w ∙ ap (λ (n : Result FileCounts NumberedRefusal). read_states n b') h) ∙ ap left_by e
+      ∙ form_left s b (form_of s)

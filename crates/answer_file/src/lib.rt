@@ -35,6 +35,17 @@ pub fn answer_file(
 {
     let read = format::read_graph(input, ax, ay, bx, by, a_id, b_id, top, state, start, list);
     answer_read::answer_read(
-        read, ax, ay, bx, by, a_id, b_id, top, state, start, list, out,
+        turn::numbered(read),
+        ax,
+        ay,
+        bx,
+        by,
+        a_id,
+        b_id,
+        top,
+        state,
+        start,
+        list,
+        out,
     )
 }

@@ -1,6 +1,7 @@
 -- The bytes that the program prints for the lists of a graph: extracted, then answered; and the states that extraction leaves.
 use Rattle.std.specs.Prelude.{ℕ, ◌*◌, Bool, List, pos, replicate}
 use Rattle.turn.specs.Limits.{max_links}
+use Rattle.turn.specs.Refusals.{numbered}
 use Rattle.graph.specs.Graph.{Lent}
 use Rattle.table.specs.Table.{Table, table, max_contours}
 use Rattle.answer_table.specs.ExtractionText.{extraction_text}
@@ -11,7 +12,7 @@ abbrev pub lent_table : Buffers → Table
 lent_table b = table b.points b.first b.len b.kind
 
 unfoldable pub extracted_text : Lent → List ℕ → Bool → ℕ → Buffers → List ℕ
-extracted_text g top cw minimum b = let e = extracted g top cw minimum b in extraction_text cw e.answer (lent_table e.lent)
+extracted_text g top cw minimum b = let e = extracted g top cw minimum b in extraction_text cw (numbered e.answer) (lent_table e.lent)
 
 unfoldable pub extracted_states : Lent → List ℕ → Bool → ℕ → Buffers → List ℕ
 extracted_states g top cw minimum b = (extracted g top cw minimum b).lent.state

@@ -54,7 +54,15 @@ fn answer_contours(
     let extraction = extract::extract(
         ax, ay, bx, by, a_id, b_id, start, list, top, settings, state, points, first, len, kind,
     );
-    answer_table::answer_extraction(extraction, points, first, len, kind, clockwise, out)
+    answer_table::answer_extraction(
+        turn::numbered(extraction),
+        points,
+        first,
+        len,
+        kind,
+        clockwise,
+        out,
+    )
 }
 
 // The points and the contour table of the largest answer, all zero, lent to extraction.

@@ -7,8 +7,7 @@ use Rattle.format.specs.File.{FileLists}
 use Rattle.print.specs.Answer.{printed_refusal}
 use Rattle.writing.specs.Cuts.{Cut}
 use Rattle.answer_graph.specs.GraphText.{graph_text, graph_states}
-use Rattle.turn.specs.Reasons.{number_of}
-use Rattle.turn.specs.declared.Refusal.{Refusal}
+use Rattle.turn.specs.declared.NumberedRefusal.{NumberedRefusal}
 
 -- the lists are long enough to be cut so
 pub record FrontsFit (c : FileCounts) (b : FileLists) : Type 0 where
@@ -39,14 +38,14 @@ abbrev pub front_states : FileCounts → FileLists → List ℕ
 front_states c b =
     graph_states (front_lent c b) (take c.links b.top) c.clockwise c.minimum (take c.links b.state) ++ drop c.links b.state
 
-abbrev pub ReadFits : Result FileCounts Refusal → FileLists → Type 0
+abbrev pub ReadFits : Result FileCounts NumberedRefusal → FileLists → Type 0
 ReadFits (Ok c) b = FrontsFit c b
 ReadFits (Err why) b = Unit
 
-abbrev pub read_text : Result FileCounts Refusal → FileLists → List ℕ
+abbrev pub read_text : Result FileCounts NumberedRefusal → FileLists → List ℕ
 read_text (Ok c) b = front_text c b
-read_text (Err why) b = printed_refusal (number_of why.reason) why.place
+read_text (Err why) b = printed_refusal why.number why.place
 
-abbrev pub read_states : Result FileCounts Refusal → FileLists → List ℕ
+abbrev pub read_states : Result FileCounts NumberedRefusal → FileLists → List ℕ
 read_states (Ok c) b = front_states c b
 read_states (Err why) b = b.state

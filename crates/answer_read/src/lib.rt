@@ -9,7 +9,7 @@ ghost use Rattle.answer_read.specs.ReadText.{FrontsFit, front_text, front_states
 ghost use Rattle.answer_read.specs.Promises.{AnswerReadSays};
 
 use format::FileCounts;
-use turn::Refusal;
+use turn::NumberedRefusal;
 
 // Answers the graph that stands at the fronts of the lists that a file was read into.
 fn answer_fronts(
@@ -57,7 +57,7 @@ fn answer_fronts(
 
 // Answers what reading gave: its refusal, or the graph at the fronts of the lists.
 pub fn answer_read(
-    read: Result<FileCounts, Refusal>,
+    read: Result<FileCounts, NumberedRefusal>,
     ax: &[i32],
     ay: &[i32],
     bx: &[i32],
@@ -80,7 +80,7 @@ pub fn answer_read(
         AnswerReadSays read b out.old state.new out.new result) }
 {
     match read {
-        Err(why) => print_refusal::write_refusal(why, out),
+        Err(why) => print_refusal::write_refusal(why.number, why.place, out),
         Ok(counts) => answer_fronts(
             ax, ay, bx, by, a_id, b_id, top, state, start, list, counts, out,
         ),

@@ -5,8 +5,7 @@ use Rattle.keep.specs.declared.Counts.{Counts}
 use Rattle.print.specs.Answer.{printed_refusal}
 use Rattle.writing.specs.Cuts.{Cut}
 use Rattle.answer_table.specs.BoundText.{bound_text}
-use Rattle.turn.specs.Reasons.{number_of}
-use Rattle.turn.specs.declared.Refusal.{Refusal}
+use Rattle.turn.specs.declared.NumberedRefusal.{NumberedRefusal}
 
 abbrev pub kept_part : Counts → Table → Table
 kept_part c t = table (take (c.points * 2) t.points) (take c.contours t.first) (take c.contours t.len) (take c.contours t.kind)
@@ -18,10 +17,10 @@ pub record KeptFits (c : Counts) (t : Table) : Type 0 where
   pub len : Cut c.contours t.len
   pub kind : Cut c.contours t.kind
 
-abbrev pub ExtractionFits : Result Counts Refusal → Table → Type 0
+abbrev pub ExtractionFits : Result Counts NumberedRefusal → Table → Type 0
 ExtractionFits (Ok c) t = KeptFits c t
 ExtractionFits (Err r) t = Unit
 
-abbrev pub extraction_text : Bool → Result Counts Refusal → Table → List ℕ
+abbrev pub extraction_text : Bool → Result Counts NumberedRefusal → Table → List ℕ
 extraction_text cw (Ok c) t = bound_text (kept_part c t) cw
-extraction_text cw (Err r) t = printed_refusal (number_of r.reason) r.place
+extraction_text cw (Err r) t = printed_refusal r.number r.place

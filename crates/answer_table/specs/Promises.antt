@@ -4,12 +4,12 @@ use Rattle.table.specs.Table.{Table}
 use Rattle.writing.specs.Write.{Wrote}
 use Rattle.writing.specs.Promises.{WritesOnce, wrote_once}
 use Rattle.answer_table.specs.ExtractionText.{extraction_text}
-use Rattle.turn.specs.declared.Refusal.{Refusal}
+use Rattle.turn.specs.declared.NumberedRefusal.{NumberedRefusal}
 use Rattle.keep.specs.declared.Counts.{Counts}
 
-abbrev pub AnswerExtractionSays : Result Counts Refusal → Table → Bool → List ℕ → List ℕ → ℕ → Type 0
+abbrev pub AnswerExtractionSays : Result Counts NumberedRefusal → Table → Bool → List ℕ → List ℕ → ℕ → Type 0
 AnswerExtractionSays extraction t clockwise old new r = Wrote old new 0 r (extraction_text clockwise extraction t)
 
-pub answer_extraction_once : (extraction : Result Counts Refusal) (t : Table) (clockwise : Bool) (old : List ℕ)
+pub answer_extraction_once : (extraction : Result Counts NumberedRefusal) (t : Table) (clockwise : Bool) (old : List ℕ)
     → WritesOnce (AnswerExtractionSays extraction t clockwise old)
 answer_extraction_once extraction t clockwise old = wrote_once old 0 (extraction_text clockwise extraction t)

@@ -12,7 +12,7 @@ ghost use Rattle.answer_table.specs.Promises.{AnswerExtractionSays};
 use keep::Counts;
 use print_lines::Totals;
 use table::{Contours, MAX_CONTOURS};
-use turn::Refusal;
+use turn::NumberedRefusal;
 
 // Binds the contours of a table and prints them.
 fn answer_table(
@@ -35,7 +35,7 @@ fn answer_table(
     };
     let mut owner = [0u16; MAX_CONTOURS];
     match bind::bind(contours, clockwise, &mut owner) {
-        Err(refusal) => print_refusal::write_refusal(refusal, out),
+        Err(refusal) => print_refusal::write_refusal(refusal.reason.number(), refusal.place, out),
         Ok(bound) => {
             let totals = Totals {
                 contours: first.len(),
@@ -77,7 +77,7 @@ fn answer_kept(
 
 // Answers what extraction gave: its refusal, or the contours that it kept of the lent table.
 pub fn answer_extraction(
-    extraction: Result<Counts, Refusal>,
+    extraction: Result<Counts, NumberedRefusal>,
     points: &[i32],
     first: &[u32],
     len: &[u32],
@@ -91,7 +91,7 @@ pub fn answer_extraction(
         AnswerExtractionSays extraction t clockwise out.old out.new result) }
 {
     match extraction {
-        Err(refused) => print_refusal::write_refusal(refused, out),
+        Err(refused) => print_refusal::write_refusal(refused.number, refused.place, out),
         Ok(counts) => answer_kept(points, first, len, kind, counts, clockwise, out),
     }
 }

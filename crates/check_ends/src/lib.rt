@@ -129,15 +129,17 @@ pub fn alike_node(
         let b : ℕ → Point = point_at bx.now by.now in
         AlikeNodeSays a b aid.now start.now list.now state.now result) }
 {
-    for v in 0..start.len() - 1 {
+    let mut found = None;
+    'search: for v in 0..start.len() - 1 {
         let here = entries(start, list, v);
         for (j, &f) in here.iter().enumerate() {
             for &e in &here[..j] {
                 if alike(ax, ay, bx, by, aid, state, v, wide(e), wide(f)) {
-                    return Some(v);
+                    found = Some(v);
+                    break 'search;
                 }
             }
         }
     }
-    None
+    found
 }

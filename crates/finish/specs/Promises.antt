@@ -2,10 +2,9 @@
 use Rattle.std.specs.Prelude.{◌≡◌, Result}
 use Rattle.laws.specs.Unique.{same_part}
 use Rattle.finish.specs.Finish.{Buffers, finished_by}
-use Rattle.turn.specs.declared.Refusal.{Refusal}
 use Rattle.keep.specs.declared.Counts.{Counts}
 
-abbrev pub FinishSays : Result Counts Refusal → Buffers → Buffers → Type 0
+abbrev pub FinishSays : {E : Type 0} → Result Counts E → Buffers → Buffers → Type 0
 FinishSays answer before after = after ≡ finished_by answer before
 
 -- each of the five buffers
@@ -25,5 +24,5 @@ same_buffers p q = record {
   kind = same_part (λ (o : Buffers). o.kind) p q;
 }
 
-pub finish_once : (answer : Result Counts Refusal) (before b c : Buffers) → FinishSays answer before b → FinishSays answer before c → SameBuffers b c
+pub finish_once : {E : Type 0} (answer : Result Counts E) (before b c : Buffers) → FinishSays answer before b → FinishSays answer before c → SameBuffers b c
 finish_once answer before b c p q = same_buffers p q

@@ -7,11 +7,10 @@ ghost use Rattle.finish.specs.Promises.{FinishSays};
 
 use clear::{clear, trim};
 use keep::Counts;
-use turn::Refusal;
 
-// The buffers, as the scan's answer has them.
-pub fn finish(
-    answer: Result<Counts, Refusal>,
+// The buffers, as the scan's answer has them, whatever a refusal holds.
+pub fn finish<E: Copy>(
+    answer: Result<Counts, E>,
     state: &mut [u8],
     points: &mut [i32],
     first: &mut [u32],

@@ -9,6 +9,8 @@ use Rattle.format_records.specs.declared.Run.{Run}
 use Rattle.turn.specs.declared.Reason.{Reason}
 use Rattle.turn.specs.declared.Reason.TheVariants.{TooManyLinks, WrongNodes, WrongFile}
 use Rattle.turn.specs.declared.Refusal.{Refusal}
+use Rattle.turn.specs.declared.NumberedRefusal.{NumberedRefusal}
+use Rattle.turn.specs.Reasons.{number_of}
 
 -- ---- one record, whose first byte is at an offset
 
@@ -55,12 +57,15 @@ unfoldable pub record_number : ℕ → List ℕ → Run → Option Reason
 record_number kind s r = first_number (head_number kind r.count r.size (length_at s r.at)) (body_number s r.at)
 
 -- "Place returned": 13 the record's offset, 1 and 5 nothing
-abbrev pub place_told : Reason → ℕ → ℕ
-place_told WrongFile at = at
-place_told reason at = 0
+abbrev pub place_told : (number : ℕ) → ℕ → ℕ
+place_told number at = pick (eqb number 13) at 0
 
 abbrev pub refusal : Reason → ℕ → Refusal
-refusal reason at = record { reason = reason; place = place_told reason at }
+refusal reason at = record { reason = reason; place = place_told (number_of reason) at }
+
+-- the same of any number
+abbrev pub numbered_refusal : (number : ℕ) → ℕ → NumberedRefusal
+numbered_refusal number at = record { number = number; place = place_told number at }
 
 -- ---- the records of one kind that come one after the other
 

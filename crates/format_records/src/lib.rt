@@ -4,7 +4,7 @@
 ghost use Rattle.std.specs.Prelude.{◌+◌, ◌^◌, ◌<◌};
 ghost use Rattle.format_records.specs.Promises.{HeadNumberSays, RefusedSays};
 
-use turn::{MAX_LINKS, Reason, Refusal};
+use turn::{MAX_LINKS, NumberedRefusal, Reason};
 
 // "a 4,097th node or 8,193rd list entry" ends the reading with 5, as a link past MAX_LINKS does with 1.
 pub const MAX_NODES: usize = 4096;
@@ -46,12 +46,12 @@ pub fn head_number(kind: u32, count: usize, size: usize, len: usize) -> Option<R
 }
 
 // A refusal of a record at an offset: 13 names the offset, 1 and 5 nothing.
-pub fn refused(reason: Reason, at: usize) -> Refusal
-    ensures { RefusedSays reason at result }
+pub fn refused(number: u32, at: usize) -> NumberedRefusal
+    ensures { RefusedSays number at result }
 {
-    if reason == Reason::WrongFile {
-        Refusal { reason, place: at }
+    if number == 13 {
+        NumberedRefusal { number, place: at }
     } else {
-        Refusal { reason, place: 0 }
+        NumberedRefusal { number, place: 0 }
     }
 }

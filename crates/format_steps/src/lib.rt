@@ -32,7 +32,10 @@ pub fn step_at(s: &[u8], kind: u32, r: Run) -> Result<Option<Run>, Refusal>
     }
     let len = format_numbers::u32_at(s, at) as usize;
     if let Some(reason) = head_number(kind, r.count, r.size, len) {
-        return Err(refused(reason, at));
+        return Err(Refusal {
+            reason,
+            place: refused(reason.number(), at).place,
+        });
     }
     let body = at + 6;
     if s.len() - body < len {

@@ -3,11 +3,9 @@ use Rattle.std.specs.Prelude.{ℕ, List}
 use Rattle.writing.specs.Write.{Wrote}
 use Rattle.writing.specs.Promises.{WritesOnce, wrote_once}
 use Rattle.print.specs.Answer.{printed_refusal}
-use Rattle.turn.specs.Reasons.{number_of}
-use Rattle.turn.specs.declared.Refusal.{Refusal}
 
-abbrev pub WriteRefusalSays : Refusal → List ℕ → List ℕ → ℕ → Type 0
-WriteRefusalSays refusal old new r = Wrote old new 0 r (printed_refusal (number_of refusal.reason) refusal.place)
+abbrev pub WriteRefusalSays : ℕ → ℕ → List ℕ → List ℕ → ℕ → Type 0
+WriteRefusalSays number place old new r = Wrote old new 0 r (printed_refusal number place)
 
-pub write_refusal_once : (refusal : Refusal) (old : List ℕ) → WritesOnce (WriteRefusalSays refusal old)
-write_refusal_once refusal old = wrote_once old 0 (printed_refusal (number_of refusal.reason) refusal.place)
+pub write_refusal_once : (number place : ℕ) (old : List ℕ) → WritesOnce (WriteRefusalSays number place old)
+write_refusal_once number place old = wrote_once old 0 (printed_refusal number place)

@@ -1,10 +1,13 @@
 -- What each public function promises, written once: its contract names it, and any two outcomes that it allows are equal.
-use Rattle.std.specs.Prelude.{ℕ, ◌*◌, ◌≤◌, ◌≡◌, Bool, List, ℤ, nat_abs, length}
+use Rattle.std.specs.Prelude.{ℕ, ◌*◌, ◌≤◌, ◌≡◌, Bool, List, ℤ, nat_abs, length, Result}
 use Rattle.laws.specs.Unique.{Determines, by_equation, by_equation_with}
 use Rattle.turn.specs.declared.Point.{Point}
 use Rattle.turn.specs.declared.Vector.{Vector}
 use Rattle.turn.specs.Points.{before, differ, outside, off_grid, Short, from_to, cross, turn, clockwise, product_bound}
 use Rattle.turn.specs.declared.Reason.{Reason}
+use Rattle.turn.specs.declared.Refusal.{Refusal}
+use Rattle.turn.specs.declared.NumberedRefusal.{NumberedRefusal}
+use Rattle.turn.specs.Refusals.{numbered}
 use Rattle.turn.specs.Reasons.{number_of}
 use Rattle.turn.specs.Angle.{same_direction}
 use Rattle.turn.specs.Area.{wedge, area, points_of, wedge_bound}
@@ -92,3 +95,9 @@ NumberSays reason r = r ≡ number_of reason
 
 pub number_once : (reason : Reason) → Determines (NumberSays reason)
 number_once reason = by_equation (number_of reason)
+
+abbrev pub NumberedSays : {A : Type 0} → Result A Refusal → Result A NumberedRefusal → Type 0
+NumberedSays answer r = r ≡ numbered answer
+
+pub numbered_once : {A : Type 0} (answer : Result A Refusal) → Determines (NumberedSays answer)
+numbered_once answer = by_equation (numbered answer)

@@ -7,6 +7,7 @@ use Rattle.laws.specs.Lowest.{lowest, lowest_if, some, if_some, if_none}
 use Rattle.laws.specs.Unique.{Determines}
 use Rattle.turn.specs.declared.Reason.{Reason}
 use Rattle.turn.specs.declared.Refusal.{Refusal}
+use Rattle.turn.specs.declared.NumberedRefusal.{NumberedRefusal}
 use Rattle.turn.specs.Reasons
 
 -- nothing is wrong, or a refusal
@@ -41,6 +42,14 @@ number_of (Err r) = Reasons.number_of r.reason
 abbrev pub place_of : Checked → ℕ
 place_of (Ok u) = 0
 place_of (Err r) = r.place
+
+-- a refusal by number, and an answer whose refusal is one
+abbrev pub by_number : Refusal → NumberedRefusal
+by_number r = record { number = Reasons.number_of r.reason; place = r.place }
+
+abbrev pub numbered : {A : Type 0} → Result A Refusal → Result A NumberedRefusal
+numbered (Ok x) = Ok x
+numbered (Err r) = Err (by_number r)
 
 -- an answer is the one that is defined: the number and the place that document 01 gives it, and the case itself
 abbrev pub Tells : Checked → Checked → Type 0

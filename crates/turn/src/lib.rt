@@ -8,7 +8,7 @@ ghost use Rattle.turn.specs.Points.{span, Grid};
 ghost use Rattle.turn.specs.Angle.{same_direction};
 ghost use Rattle.turn.specs.Area.{wedge, area, points_of, wedge_bound};
 ghost use Rattle.turn.specs.Promises.{BeforeSays, DifferSays, OutsideSays, OffGridSays, WideSays, BetweenSays, CrossProductSays, TurnOfSays};
-ghost use Rattle.turn.specs.Promises.{ClockwiseSays, SameDirectionSays, WedgeSays, DoubledAreaSays, NumberSays, AbsoluteSays};
+ghost use Rattle.turn.specs.Promises.{ClockwiseSays, SameDirectionSays, WedgeSays, DoubledAreaSays, NumberSays, NumberedSays, AbsoluteSays};
 
 // The most links of a graph, and the most points of a contour table.
 pub const MAX_LINKS: usize = 4096;
@@ -48,6 +48,26 @@ impl Reason {
 pub struct Refusal {
     pub reason: Reason,
     pub place: usize,
+}
+
+// A refusal by number, as it is printed. Whatever takes one takes any number.
+#[derive(Clone, Copy, Debug, PartialEq, Eq)]
+pub struct NumberedRefusal {
+    pub number: u32,
+    pub place: usize,
+}
+
+// An answer whose refusal has document 01's number in place of its reason.
+pub fn numbered<T: Copy>(answer: Result<T, Refusal>) -> Result<T, NumberedRefusal>
+    ensures { NumberedSays answer result }
+{
+    match answer {
+        Ok(value) => Ok(value),
+        Err(refusal) => Err(NumberedRefusal {
+            number: refusal.reason.number(),
+            place: refusal.place,
+        }),
+    }
 }
 
 // In order by x, then by y.

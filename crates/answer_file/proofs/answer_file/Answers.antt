@@ -15,7 +15,7 @@ answer_read-requires c =
     c.args.top.now c.args.state.now c.args.start.now c.args.list.now in
     let s = c in record {
       fact = read_fits s.args.input.now b
-          c.read_graph-read.ensures;
+          c.read_graph-read.ensures c.numbered.ensures;
       answer_bytes_in_bounds = s.requires.answer_bytes_in_bounds;
     }
 
@@ -28,4 +28,4 @@ returns c =
     let e =
     c.read_graph-read.ensures in
     let w = c.answer_read.ensures in
-    (wrote_as (read_text_lem s.args.input.now b e) w.0, read_left s.args.input.now b e w.1)
+    (wrote_as (read_text_lem s.args.input.now b e c.numbered.ensures) w.0, read_left s.args.input.now b e c.numbered.ensures w.1)

@@ -18,7 +18,8 @@ returns-in-Some c =
     (sym c.u16_at.ensures.0 ∙ c.if-u16_at-kind.false)
     c.u32_at-len.ensures
     c.head_number.ensures
-    c.in-Some.reason c.refused.result c.in-Some.is c.refused.ensures
+    c.in-Some.reason (record { reason = c.in-Some.reason; place = c.refused.result.place }) c.in-Some.is
+    (simp (c.refused.ensures, c.number.ensures))
 
 pub returns-then-s-body : goal.returns-then-s-body
 returns-then-s-body c =
