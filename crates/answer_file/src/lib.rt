@@ -33,19 +33,10 @@ pub fn answer_file(
         start.new list.new in
         AnswerFileSays input.now b out.old after out.new result) }
 {
-    let read = format::read_graph(input, ax, ay, bx, by, a_id, b_id, top, state, start, list);
+    let read = turn::numbered(format::read_graph(
+        input, ax, ay, bx, by, a_id, b_id, top, state, start, list,
+    ));
     answer_read::answer_read(
-        turn::numbered(read),
-        ax,
-        ay,
-        bx,
-        by,
-        a_id,
-        b_id,
-        top,
-        state,
-        start,
-        list,
-        out,
+        read, ax, ay, bx, by, a_id, b_id, top, state, start, list, out,
     )
 }

@@ -51,18 +51,10 @@ fn answer_contours(
         minimum,
         drop_straight: false,
     };
-    let extraction = extract::extract(
+    let extraction = turn::numbered(extract::extract(
         ax, ay, bx, by, a_id, b_id, start, list, top, settings, state, points, first, len, kind,
-    );
-    answer_table::answer_extraction(
-        turn::numbered(extraction),
-        points,
-        first,
-        len,
-        kind,
-        clockwise,
-        out,
-    )
+    ));
+    answer_table::answer_extraction(extraction, points, first, len, kind, clockwise, out)
 }
 
 // The points and the contour table of the largest answer, all zero, lent to extraction.

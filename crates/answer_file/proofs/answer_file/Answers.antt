@@ -4,8 +4,8 @@ use Rattle.writing.specs.Write.{wrote_as}
 use Rattle.answer_file.proofs.Fronts.{read_fits, read_text_lem, read_left}
 use Rattle.answer_file.proofs.answer_file.Goals as goal
 
-pub read_graph-read-requires : goal.read_graph-read-requires
-read_graph-read-requires c =
+pub read_graph-requires : goal.read_graph-requires
+read_graph-requires c =
     c.requires.fact
 
 pub answer_read-requires : goal.answer_read-requires
@@ -15,7 +15,7 @@ answer_read-requires c =
     c.args.top.now c.args.state.now c.args.start.now c.args.list.now in
     let s = c in record {
       fact = read_fits s.args.input.now b
-          c.read_graph-read.ensures c.numbered.ensures;
+          c.read_graph.ensures c.numbered-read.ensures;
       answer_bytes_in_bounds = s.requires.answer_bytes_in_bounds;
     }
 
@@ -26,6 +26,6 @@ returns c =
     c.args.top.now c.args.state.now c.args.start.now c.args.list.now in
     let s = c in
     let e =
-    c.read_graph-read.ensures in
+    c.read_graph.ensures in
     let w = c.answer_read.ensures in
-    (wrote_as (read_text_lem s.args.input.now b e c.numbered.ensures) w.0, read_left s.args.input.now b e c.numbered.ensures w.1)
+    (wrote_as (read_text_lem s.args.input.now b e c.numbered-read.ensures) w.0, read_left s.args.input.now b e c.numbered-read.ensures w.1)

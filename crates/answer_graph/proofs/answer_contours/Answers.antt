@@ -12,7 +12,7 @@ answer_extraction-requires c =
     let b : Buffers = buffers c.args.state.now c.args.points.now c.args.first.now c.args.len.now c.args.kind.now in
     let s = c in record {
       extraction_fits = extraction_fits g s.args.top.now s.args.clockwise s.args.minimum b
-          c.extract-extraction.ensures c.numbered.ensures;
+          c.extract.ensures c.numbered-extraction.ensures;
       answer_bytes_in_bounds = s.requires;
     }
 
@@ -23,8 +23,8 @@ returns c =
     let b : Buffers = buffers c.args.state.now c.args.points.now c.args.first.now c.args.len.now c.args.kind.now in
     let s = c in
     let e =
-    c.extract-extraction.ensures in (
-      wrote_as (extracted_text_lem g s.args.top.now s.args.clockwise s.args.minimum b e c.numbered.ensures)
+    c.extract.ensures in (
+      wrote_as (extracted_text_lem g s.args.top.now s.args.clockwise s.args.minimum b e c.numbered-extraction.ensures)
           c.answer_extraction.ensures,
       extracted_states_lem g s.args.top.now s.args.clockwise s.args.minimum b e,
     )
